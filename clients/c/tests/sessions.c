@@ -13,15 +13,22 @@ static void expect_deadline(dw_session *session, uint64_t wanted_ms)
     EXPECT_NUMBER(wanted_ms, first_ms);
 }
 
-/* An address is to be dialled now, for so long. */
-static void expect_dial(dw_session *session, uint64_t now_ms, uint64_t within_ms)
+/* Dials an address now, for so long, and says nothing more. Gives its place. */
+static size_t expect_dialled(dw_session *session, uint64_t now_ms, uint64_t within_ms)
 {
-    EXPECT_NUMBER(DW_OK, dw_session_moment(session, now_ms));
     dw_output dial = expect_next(session, DW_KIND_DIAL);
     EXPECT(dial.place < ADDRESSES);
     EXPECT_NUMBER(within_ms, dial.within_ms);
     expect_no_more(session);
     expect_deadline(session, now_ms + within_ms);
+    return dial.place;
+}
+
+/* An address is to be dialled at this moment, for so long. */
+static size_t expect_dial(dw_session *session, uint64_t now_ms, uint64_t within_ms)
+{
+    EXPECT_NUMBER(DW_OK, dw_session_moment(session, now_ms));
+    return expect_dialled(session, now_ms, within_ms);
 }
 
 /* A reply without a record. */
@@ -100,16 +107,14 @@ static void lose_the_connection(dw_session *session)
     expect_no_more(session);
 }
 
-/* What is kept stays good over a connection that is lost: its watch is set again, by a length, the xid, the number of the operation, the last
- * zxid, and three lists, of which the first has one path. */
+/* An address refuses, and the other one is dialled at once. What is kept stays good over a connection that is lost: its watch is set again, by
+ * a length, the xid, the number of the operation, the last zxid, and three lists, of which the first has one path. */
 static void connect_again(dw_session *session)
 {
     enum { SET_WATCHES_LENGTH = 4 + 4 + 4 + 8 + (4 + 4 + 7) + 4 + 4 };
-    expect_dial(session, 334, GRANTED_MS / 3);
+    size_t refuses = expect_dial(session, 334, GRANTED_MS / 3);
     EXPECT_NUMBER(DW_OK, dw_session_failed(session, 340));
-    expect_no_more(session);
-    expect_deadline(session, 668);
-    expect_dial(session, 668, GRANTED_MS / 3);
+    EXPECT(expect_dialled(session, 340, GRANTED_MS / 3) != refuses);
     connect_session(session, 680);
     EXPECT_NUMBER(XID_SET_WATCHES, expect_sent(session, SET_WATCHES_LENGTH));
     expect_no_more(session);

@@ -43,7 +43,7 @@ const LATENESS: u32 = 6;
 /// as long after each further one, up to a second and to a tenth of the timeout; and up to a second once there was no connection for
 /// longer than the timeout. There is none after an answered call, after an expiry that a server told, and after a connection that has
 /// lasted for a third of the timeout. A third of a second lies between two attempts at least, so a session of less than some three seconds
-/// does not outlive a lost connection for sure.
+/// does not outlive a lost connection for sure. After a refusal the next address is dialled at once, once round the list.
 ///
 /// A call waits until a server has accepted the session and fewer than 1,024 calls are on their way, and then for its answer. A read that
 /// is lost with its connection is asked again; a write is not, and is answered [`ConnectionLoss`](crate::NoReply::ConnectionLoss). All of

@@ -291,12 +291,18 @@ fn each_address_is_dialled_in_a_round() {
     let mut places = Vec::new();
     for attempt in 0..6 {
         let now = after(attempt * 60_000);
-        let mut actions = machine.tick(now).unwrap();
+        // in the first round the next one is dialled at once after a refusal
+        let mut actions = match attempt {
+            1 | 2 => machine.failed(now).unwrap(),
+            _ => machine.tick(now).unwrap(),
+        };
         let Some(Action::Dial { place, .. }) = actions.next().unwrap() else {
             panic!("nothing is dialled");
         };
         places.push(place);
-        assert_eq!(said(machine.failed(now).unwrap()), [""; 0]);
+        if attempt >= 2 {
+            assert_eq!(said(machine.failed(now).unwrap()), [""; 0]);
+        }
     }
     assert_eq!(places[..3], places[3..]);
     places[..3].sort_unstable();

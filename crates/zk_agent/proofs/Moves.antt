@@ -19,7 +19,7 @@ use Rattle.zk_dialler.specs.declared.dialler.Dialler.{Dialler}
 use Rattle.zk_dialler.specs.declared.dialler.Phase.{Phase}
 use Rattle.zk_dialler.specs.declared.dialler.Phase.TheVariants.{Waiting, Dialling, Open}
 use Rattle.zk_dialler.specs.Backoffs.{row_ended}
-use Rattle.zk_dialler.specs.Dialling.{is_due, is_open, AttemptEnds, DialsWell, Ends, Opens}
+use Rattle.zk_dialler.specs.Dialling.{is_due, is_open, AttemptEnds, DialsWell, Ends, IsRefused, Opens}
 use Rattle.zk_dialler.specs.declared.dialler.DialDue.{DialDue}
 use Rattle.zk_dialler.specs.declared.dialler.DialDue.TheVariants.{Dial, GiveUp}
 use Rattle.zk_follow.specs.declared.subject.Subject.{Subject}
@@ -102,7 +102,7 @@ OpensAt phase timeout now old new is_ours = elim phase [
 abbrev EndsAt : {A : Type 0} → Phase → (timeout now : ℕ) → (old new : Dialler A) → Type 0
 EndsAt phase timeout now old new = elim phase [
   | Waiting ↦ new ≡ old
-  | Dialling began until ↦ AttemptEnds timeout now began Waiting old new
+  | Dialling began until ↦ IsRefused timeout now began old new
   | Open ↦ new ≡ record old { phase = Waiting }
 ]
 

@@ -234,21 +234,49 @@ impl<A: Allocator + Copy> Agent<A> {
         let now = self.latest.max(now);
         let heard_at = heard_moment(self.dialler.is_open(), now, &input, self.heard_at);
         let mut actions = Vec::new(self.alloc);
+        self.go_on(now, input, &mut actions)?;
+        self.latest = now;
+        self.heard_at = heard_at;
+        Ok(actions)
+    }
+
+    /// Takes what has happened at a moment that is the latest, with the trees and the credentials. Nothing was said before.
+    fn go_on(
+        &mut self,
+        now: u64,
+        input: AgentInput<A>,
+        actions: &mut Vec<Action<A>, A>,
+    ) -> Result<(), FollowerStop>
+        requires { actions.old.items ≡ [] }
+        ensures comes { OnOk result (Comes now (moves_of (is_open self.new.dialler.phase) now input self.old) (trail_of self.old [])
+            (trail_of self.new actions.new.items)) }
+        ensures followed { OnOk result
+            (All (IsFollowed now (view_of self.new.asker.follower.client)) self.new.asker.follower.subjects.items) }
+        ensures served { OnOk result (All (IsServed (view_of self.new.asker.follower.client)) self.new.asker.line.entries.items) }
+        ensures limits { OnOk result (All (IsInTime now) self.new.asker.line.entries.items) }
+        ensures closed { OnOk result
+            ((view_of self.new.asker.follower.client).standing.state ≡ Closed → self.new.asker.line.entries.items ≡ []) }
+        ensures renewed { OnOk result ((view_of self.new.asker.follower.client).standing.state ≢ Expired) }
+        ensures dials { OnOk result ((view_of self.new.asker.follower.client).standing.state ≢ Closed
+            → IsDecided now (trail_of self.new actions.new.items)) }
+        ensures answers { OnOk result (has_come now (ends_of (trail_of self.new actions.new.items)) ≡ false) }
+        ensures trees { OnOk result (GoesOn now input self.old self.new actions.new.items) }
+        ensures credentials { OnOk result
+            (papers_of self.new.credentials ≡ all_written (is_open self.new.dialler.phase) (papers_in input self.old)) }
+        ensures broke { OnErr result (IsBroken self.old self.new) }
+    {
         let mut trees = std::mem::replace(&mut self.trees, Trees::new(self.alloc));
         let mut credentials = std::mem::replace(
             &mut self.credentials,
             Credentials::new(self.alloc),
         );
-        let judged = self.judge(&input, &mut credentials)?;
-        self.grow(now, &input, &mut trees, &mut actions)?;
+        let judged = self.prepare(now, &input, &mut trees, &mut credentials, actions)?;
         let told = judged.as_slice();
-        self.take(now, input, &mut credentials, told, &mut actions)?;
+        self.take(now, input, &mut credentials, told, actions)?;
         note_all(&mut trees, actions.as_slice());
         self.trees = trees;
         self.credentials = credentials;
-        self.latest = now;
-        self.heard_at = heard_at;
-        Ok(actions)
+        Ok(())
     }
 
     /// Takes what has happened, and does what is due then. The credentials are the agent's, which a step takes out.

@@ -5,6 +5,7 @@ ghost use Rattle.zk_agent.specs.Trees.{noted_by, noted_in};
 
 use crate::action::{Action, push_trees};
 use crate::agent::Agent;
+use crate::credentials::Credentials;
 use crate::input::AgentInput;
 use std::alloc::{AllocError, Allocator};
 use zk_trees::Trees;
@@ -34,8 +35,11 @@ pub(crate) fn note_all<A: Allocator + Copy>(trees: &mut Trees<A>, said: &[Action
 }
 
 impl<A: Allocator + Copy> Agent<A> {
-    ghost use Rattle.std.specs.Prelude.{◌≡◌, [], OnOk};
+    ghost use Rattle.std.specs.Prelude.{◌≡◌, [], IfOk, OnOk};
+    ghost use Rattle.zk_client.specs.Clients.{view_of};
+    ghost use Rattle.zk_dialler.specs.Dialling.{is_open};
     ghost use Rattle.zk_agent.specs.Agents.{trail_of, Comes};
+    ghost use Rattle.zk_agent.specs.Credentials.{judging_of, papers_of, with_judging};
     ghost use Rattle.zk_agent.specs.Trees.{Grows};
 
     /// Tends the trees that are due, and then follows a tree, or follows one no more, where the input asks for that. These are the agent's,
@@ -58,5 +62,31 @@ impl<A: Allocator + Copy> Agent<A> {
         push_trees(tended, actions)?;
         let altered = self.asker.alter(input, trees)?;
         push_trees(altered, actions)
+    }
+
+    /// Comes before a step takes its input: notes which credentials it answers, with which codes, and grows trees.
+    pub(crate) fn prepare(
+        &mut self,
+        now: u64,
+        input: &AgentInput<A>,
+        trees: &mut Trees<A>,
+        credentials: &mut Credentials<A>,
+        actions: &mut Vec<Action<A>, A>,
+    ) -> Result<Vec<(usize, i32), A>, AllocError>
+        ensures judged { IfOk result (λ judged. judged.items
+            ≡ (judging_of (is_open self.old.dialler.phase) (view_of self.old.asker.follower.client).standing.state self.old.waits.came
+            input.now (papers_of credentials.old)).1.judged) }
+        ensures papers { OnOk result (papers_of credentials.new
+            ≡ with_judging (judging_of (is_open self.old.dialler.phase) (view_of self.old.asker.follower.client).standing.state
+            self.old.waits.came input.now (papers_of credentials.old)) (papers_of credentials.old)) }
+        ensures grows { OnOk result (Grows now input.now trees.old trees.new
+            (trail_of self.old actions.old.items) (trail_of self.new actions.new.items)) }
+        ensures comes { OnOk result (Comes now [] (trail_of self.old actions.old.items) (trail_of self.new actions.new.items)) }
+        ensures dialler { self.new.dialler ≡ self.old.dialler }
+        ensures client { self.new.asker.follower.client ≡ self.old.asker.follower.client }
+    {
+        let judged = self.judge(input, credentials)?;
+        self.grow(now, input, trees, actions)?;
+        Ok(judged)
     }
 }

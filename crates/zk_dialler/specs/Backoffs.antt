@@ -21,6 +21,11 @@ pub record Attempts (timeout began done : ℕ) (old new : Backoff) : Type 0 wher
       ≡ max (min (done + pause_ms (longest_ms new.failures (most_ms (nat_lt timeout (done - connected_by old.connected began)) timeout))
       new.chance.state) (2 ^ 64 - 1)) new.least
 
+-- A server refused at this moment. Once for each of this many addresses, in a row of failures, the next address has its turn at once.
+abbrev pub refused_at : (count done : ℕ) → Backoff → Backoff
+refused_at count done backoff =
+    if nat_lt backoff.failures count then record backoff { least = done; moment = done } else backoff
+
 -- no failures any more: there is no pause except the third of a second
 abbrev pub row_ended : Backoff → Backoff
 row_ended backoff = record backoff { failures = 0; moment = backoff.least }

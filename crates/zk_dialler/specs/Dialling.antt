@@ -6,7 +6,8 @@ use Rattle.zk_dialler.specs.declared.dialler.Phase.{Phase}
 use Rattle.zk_dialler.specs.declared.dialler.Phase.TheVariants.{Waiting, Dialling, Open}
 use Rattle.zk_dialler.specs.declared.dialler.DialDue.{DialDue}
 use Rattle.zk_dialler.specs.declared.dialler.DialDue.TheVariants.{Dial, GiveUp}
-use Rattle.zk_dialler.specs.Backoffs.{Attempts}
+use Rattle.zk_dialler.specs.declared.backoff.Backoff.{Backoff}
+use Rattle.zk_dialler.specs.Backoffs.{refused_at, Attempts}
 use Rattle.zk_dialler.specs.Orders.{is_empty_list, turn_at}
 
 -- the moment at which something is to be done; without addresses there is none
@@ -51,6 +52,14 @@ pub record AttemptEnds {A : Type 0} (timeout now began : ℕ) (then_is : Phase) 
   pub ring : new.ring ≡ old.ring
   pub phase : new.phase ≡ then_is
 
+-- The server refuses an attempt.
+pub record IsRefused {A : Type 0} (timeout now began : ℕ) (old new : Dialler A) : Type 0 where
+  pub counted : Backoff
+  pub attempts : Attempts timeout began now old.backoff counted
+  pub backoff : new.backoff ≡ refused_at (length old.ring.order.items) now counted
+  pub ring : new.ring ≡ old.ring
+  pub phase : new.phase ≡ Waiting
+
 -- An attempt is given up at its end, and not before.
 pub record GivesUp {A : Type 0} (timeout now : ℕ) (old new : Dialler A) : Type 0 where
   pub began : ℕ
@@ -77,6 +86,6 @@ Opens timeout now old new is_ours = elim old.phase [
 abbrev pub Ends : {A : Type 0} → (timeout now : ℕ) → (old new : Dialler A) → Type 0
 Ends timeout now old new = elim old.phase [
   | Waiting ↦ new ≡ old
-  | Dialling began until ↦ AttemptEnds timeout now began Waiting old new
+  | Dialling began until ↦ IsRefused timeout now began old new
   | Open ↦ new ≡ record old { phase = Waiting }
 ]

@@ -1,12 +1,12 @@
 //! When to dial again.
 
 ghost use Rattle.std.specs.Prelude.{◌≡◌, None, Some};
-ghost use Rattle.zk_dialler.specs.Backoffs.{connected_at, has_lived, row_ended, Attempts};
+ghost use Rattle.zk_dialler.specs.Backoffs.{connected_at, has_lived, refused_at, row_ended, Attempts};
 
 use crate::chance::Chance;
 use crate::pause::pause_after;
 
-/// No attempt begins within this many milliseconds after the one before has begun: three a second at most.
+/// No attempt begins within this many milliseconds after the one before has begun, except after a refusal: three a second at most.
 const FLOOR_MS: u64 = 334;
 
 /// The first moment of the next attempt to connect. Moments are milliseconds of one clock.
@@ -56,6 +56,17 @@ impl Backoff {
         self.least = began.saturating_add(FLOOR_MS);
         let pause = pause_after(self.failures, is_over, timeout_ms, self.chance);
         self.moment = ended.saturating_add(pause).max(self.least);
+    }
+
+    /// The server of the last attempt refused it at this moment. As long as one of this many addresses was not tried in the row of
+    /// failures, the next attempt may be made at once.
+    pub fn refuse(&mut self, count: usize, now: u64)
+        ensures { self.new ≡ refused_at count now self.old }
+    {
+        if (self.failures as usize) < count {
+            self.least = now;
+            self.moment = now;
+        }
     }
 
     /// The client was connected up to this moment. The row of failures goes on.

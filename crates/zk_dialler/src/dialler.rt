@@ -138,12 +138,14 @@ impl<A: Allocator> Dialler<A> {
         true
     }
 
-    /// The attempt has failed, or the connection is over, at this moment.
+    /// The server has refused the attempt, or the connection is over, at this moment. After a refusal the next address has its turn at
+    /// once, until each has had one in this row of failures: a server that is down costs no pause while others may be up.
     pub fn end(&mut self, timeout_ms: u32, now: u64)
         ensures { Ends timeout_ms now self.old self.new }
     {
         if let Phase::Dialling { began, .. } = self.phase {
             self.backoff.attempt(timeout_ms, began, now);
+            self.backoff.refuse(self.ring.count(), now);
         }
         self.phase = Phase::Waiting;
     }

@@ -19,7 +19,7 @@ fn most_ms(is_over: bool, timeout_ms: u32) -> u64
 /// The longest pause after this many attempts that failed in a row, by a table.
 #[tactic(auto, using(crate::proofs::PauseLemmas::longest))]
 fn longest_ms(failures: u32, most: u64) -> u64
-    requires { most ≤ 10000 }
+    requires { most ≤ 1000 }
     ensures { result ≡ longest_ms failures most }
 {
     match failures {
@@ -28,9 +28,6 @@ fn longest_ms(failures: u32, most: u64) -> u64
         2 => most.min(200),
         3 => most.min(400),
         4 => most.min(800),
-        5 => most.min(1_600),
-        6 => most.min(3_200),
-        7 => most.min(6_400),
         _ => most,
     }
 }

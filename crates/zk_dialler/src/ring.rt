@@ -58,6 +58,13 @@ impl<A: Allocator> Ring<A> {
         Ok(Ring { order, next: 0 })
     }
 
+    /// How many addresses there are.
+    pub(crate) fn count(&self) -> usize
+        ensures { result ≡ length self.now.order.items }
+    {
+        self.order.len()
+    }
+
     /// Whether there are no addresses.
     pub(crate) fn is_empty(&self) -> bool
         ensures { result ≡ is_empty_list self.now.order.items }

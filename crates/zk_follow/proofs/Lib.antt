@@ -13,3 +13,7 @@ pub mod Forgetting
 pub mod Resting
 pub mod Among
 pub mod Paths
+pub mod Placing
+pub mod Skipping
+pub mod Finding
+pub mod Again

@@ -1,8 +1,8 @@
 -- A subject that rests stays as it is by a visit, where outputs say nothing of it, and there is nothing more to tell of it.
-use Rattle.std.proofs.Common.{◌≡◌, ◌≢◌, ◌<◌, ◌+◌, suc, map, ℕ, Bool, true, false, not, cond, ◌&&◌, ◌||◌, List, [], ◌∷◌, Option}
+use Rattle.std.proofs.Common.{◌≡◌, ◌≢◌, ◌<◌, ◌+◌, suc, ℕ, Bool, true, false, not, cond, ◌&&◌, ◌||◌, List, [], ◌∷◌, Option}
 use Rattle.std.proofs.Common.{Some, None}
-use Rattle.std.proofs.Common.{inl, length, get_or, set, refl, sym, ap, subst, ◌∙◌, arith}
-use Rattle.std.proofs.lemmas.List.{get_or_default, get_or-map, get_or-set_same, get_or-set_other, length-map}
+use Rattle.std.proofs.Common.{inl, length, get_or, refl, sym, ap, ◌∙◌, arith}
+use Rattle.std.proofs.lemmas.List.{get_or_default}
 use Rattle.std.proofs.lemmas.Bool.Decides.{Decides-eqb}
 use Rattle.std.specs.Prelude.{◌==◌, bytes_eq}
 use Rattle.std.specs.List.{list_any}
@@ -23,19 +23,17 @@ use Rattle.zk_follow.specs.declared.progress.Progress.TheVariants.{Due, Reading,
 use Rattle.zk_follow.specs.declared.subject.Subject.{Subject}
 use Rattle.zk_follow.specs.Following.{answered, heard, heard_all, is_kept, is_report_of, is_reported, is_shown, news_about, news_in}
 use Rattle.zk_follow.specs.Following.{says_none, taken}
-use Rattle.zk_follow.specs.Following.{told_after, told_of, was_shown, woken, woken_progress, IsCounted, IsFollowed}
+use Rattle.zk_follow.specs.Following.{is_quiet, told_after, told_of, was_shown, woken, woken_progress, IsCounted, IsFollowed}
 use Rattle.zk_follow.specs.inner.Following.{Asks, VisitsAnd}
 use Rattle.zk_follow.specs.Following.{holds, is_due, is_resting}
 use Rattle.zk_follow.specs.inner.Resting.{covers, is_about, is_marked, is_report, tells_fields, AreNoted}
-use Rattle.zk_follow.specs.Following.{AreResting}
-use Rattle.zk_follow.specs.inner.Resting.{AreRestingBut}
 use Rattle.zk_follow.proofs.Asking.{nothing_more}
 use Rattle.zk_follow.proofs.Forgetting.{after_forgetting, holds_still}
 use Rattle.zk_follow.proofs.Staying.{or_false, Stays, stays_at}
 
 -- ---- what rests
 
-and_parts : (a b : Bool) → (a && b) ≡ true → (a ≡ true) × (b ≡ true)
+pub and_parts : (a b : Bool) → (a && b) ≡ true → (a ≡ true) × (b ≡ true)
 and_parts true b e = (refl, e)
 and_parts false b e = absurd cc
 
@@ -143,13 +141,7 @@ rests_at moment view turn after rule subject silent e =
     rests_by after subject (rested_at view after subject parts
     (stays_at subject.ticket subject.path subject.side moment view turn after rule silent parts.stays))
 
-pub resting_but : {A : Type 0} (moment : ℕ) (view : View) (turn : Turn) (after : View) → RuleAt moment view turn after
-    → (subjects : List (Subject A)) (resting : List Bool)
-    → AreResting view subjects resting → AreRestingBut turn.outputs after subjects resting
-resting_but moment view turn after rule subjects resting rest k d within marked silent =
-    rests_at moment view turn after rule (get_or subjects k d) silent (rest k d within marked)
-
-rests_on : {A : Type 0} (view after : View) → Asks view after → (subject : Subject A)
+pub rests_on : {A : Type 0} (view after : View) → Asks view after → (subject : Subject A)
     → is_resting view subject ≡ true → is_resting after subject ≡ true
 rests_on view after asks subject e =
     let parts = parts_of view subject e in
@@ -158,53 +150,12 @@ rests_on view after asks subject e =
       ap (λ cache. holds cache subject.side subject.path) asks.cache ∙ parts.stays.1,
     ))
 
-pub resting_still : {A : Type 0} (view : View) (subjects : List (Subject A)) (resting : List Bool)
-    → AreResting view subjects resting → AreResting (after_forgetting view) subjects resting
-resting_still {A} view subjects resting rest k d within marked =
-    let subject : Subject A = get_or subjects k d in
-    let parts = parts_of view subject (rest k d within marked) in
+pub rests_still : {A : Type 0} (view : View) (subject : Subject A)
+    → is_resting view subject ≡ true → is_resting (after_forgetting view) subject ≡ true
+rests_still view subject rest =
+    let parts = parts_of view subject rest in
     rests_by (after_forgetting view) subject (rested_at view (after_forgetting view) subject parts
     (parts.stays.0, holds_still view.cache subject.side subject.path ∙ parts.stays.1))
-
--- ---- subjects one after the other
-
--- of the first so many
-abbrev pub RestBefore : {A : Type 0} → ℕ → View → List (Subject A) → List Bool → Type 0
-RestBefore {A} count view subjects resting =
-    (k : ℕ) (d : Subject A) → k < count → get_or resting k false ≡ true → is_resting view (get_or subjects k d) ≡ true
-
-module _ {A : Type 0} (view after : View) (asks : Asks view after) where
-  -- the one that is visited next, where it is marked so
-  pub next_rests : (subjects first : List (Subject A)) (resting marks : List Bool) (index : ℕ) (element : Subject A) (outputs : List Output)
-      → index < length first → element ≡ get_or first index element
-      → AreRestingBut outputs view first marks → get_or resting index false ≡ get_or marks index false
-      → get_or resting index false ≡ true
-      → list_any (is_about element.ticket element.path) outputs ≡ false → is_resting after element ≡ true
-  next_rests subjects first resting marks index element outputs within is rest same marked silent =
-      rests_on view after asks element
-      (subst (λ (s : Subject A). is_resting view s ≡ true) (sym is)
-      (rest index element within (sym same ∙ marked)
-      (subst (λ (s : Subject A). list_any (is_about s.ticket s.path) outputs ≡ false) is silent)))
-
-  pub more_rest : (subjects : List (Subject A)) (resting : List Bool) (index : ℕ) (visited : Subject A) (mark : Bool)
-      → index < length subjects → index < length resting → (mark ≡ true → is_resting after visited ≡ true)
-      → RestBefore index view subjects resting → RestBefore (index + 1) after (set subjects index visited) (set resting index mark)
-  more_rest subjects resting index visited mark within fits rest before k d below marked = by (k == index) refl
-    where
-      by : (same : Bool) → (k == index) ≡ same → is_resting after (get_or (set subjects index visited) k d) ≡ true
-      by true e =
-          let is : k ≡ index = (Decides-eqb k index).0 e in
-          let new : get_or (set subjects index visited) k d ≡ visited =
-          ap (λ n. get_or (set subjects index visited) n d) is ∙ get_or-set_same subjects index visited d within in
-          let its : get_or (set resting index mark) k false ≡ mark =
-          ap (λ n. get_or (set resting index mark) n false) is ∙ get_or-set_same resting index mark false fits in
-          ap (λ (s : Subject A). is_resting after s) new ∙ rest (sym its ∙ marked)
-      by false e =
-          let other : k ≢ index = λ same. let t : (k == index) ≡ true = (Decides-eqb k index).1 same in cc in
-          let earlier : k < index = omega arith in
-          ap (λ (s : Subject A). is_resting after s) (get_or-set_other subjects index k visited d other)
-          ∙ rests_on view after asks (get_or subjects k d)
-          (before k d earlier (sym (get_or-set_other resting index k mark false other) ∙ marked))
 
 -- ---- what there is to tell
 
@@ -247,28 +198,9 @@ module _ {A : Type 0} (view : View) (subject : Subject A) (rest : is_resting vie
       ap (λ is. record subject { told = told_after is subject.progress subject.told }) (rest_shown 0 view subject rest)
       ∙ ap (λ (told : Option News). record subject { told = told }) (sym (shown_is subject.told was))
 
--- Being told of changes nothing of how it rests.
-pub told_rests : {A : Type 0} (view : View) (subject : Subject A) → is_resting view (told_of view subject) ≡ is_resting view subject
-told_rests view subject = refl
-
--- ---- marks
-
--- where none is marked
-pub none_marked : {A : Type 0} (view : View) (subjects : List (Subject A)) (resting : List Bool)
-    → resting ≡ [] → AreResting view subjects resting
-none_marked view subjects resting empty k d within marked =
-    absurd (let e : false ≡ true = sym (ap (λ marks. get_or marks k false) empty) ∙ marked in cc)
-
-pub marks_fit : {A : Type 0} (view : View) (subjects : List (Subject A)) (old new : List Bool)
-    → ((k : ℕ) → get_or new k false ≡ true → get_or old k false ≡ true)
-    → AreResting view subjects old → AreResting view subjects new
-marks_fit view subjects old new fit rest k d within marked = rest k d within (fit k marked)
-
-pub told_resting : {A : Type 0} (view : View) (subjects : List (Subject A)) (resting : List Bool)
-    → AreResting view subjects resting → AreResting view (map (told_of view) subjects) resting
-told_resting {A} view subjects resting rest k d within marked =
-    let fits : k < length subjects = omega (arith, within, length-map subjects (told_of view)) in
-    ap (λ (s : Subject A). is_resting view s) (get_or-map (told_of view) subjects k d d fits) ∙ rest k d fits marked
+pub quiet_parts : {A : Type 0} (view : View) (subject : Subject A) → is_quiet view subject ≡ true
+    → (is_resting view subject ≡ true) × (was_shown subject.told ≡ true)
+quiet_parts view subject e = and_parts (is_resting view subject) (was_shown subject.told) e
 
 -- ---- what outputs are about
 

@@ -186,12 +186,6 @@ is_resting view subject =
     is_due subject.progress && (not subject.is_missing && (not subject.is_there && (side_has view.lists subject.side subject.path
     && holds view.cache subject.side subject.path)))
 
--- Subjects rest where it is marked so.
-abbrev pub AreResting : {A : Type 0} → View → List (Subject A) → List Bool → Type 0
-AreResting {A} view subjects resting =
-    (k : ℕ) (d : Subject A) → k < length subjects → slice_index_or resting k false ≡ true
-    → is_resting view (slice_index_or subjects k d) ≡ true
-
 -- what becomes of a subject of which what is kept is good
 abbrev pub rested_progress : Progress → Progress
 rested_progress Reading = Reading
@@ -348,6 +342,19 @@ abbrev pub news_in : {A : Type 0} → View → List Output → Subject A → Lis
 news_in view outputs subject =
     news_list subject.ticket
     (news_about (is_shown view.cache subject.side subject.path) (is_reported subject.path outputs) subject.progress subject.told)
+
+-- A subject is quiet if it rests and that was told of it last.
+abbrev pub is_quiet : {A : Type 0} → View → Subject A → Bool
+is_quiet view subject = is_resting view subject && was_shown subject.told
+
+-- whether a number is one of these
+abbrev pub is_among : ℕ → List ℕ → Bool
+is_among number numbers = list_any (λ its. number == its) numbers
+
+-- Of the first, as many as `count` says, each is quiet whose place is not among these.
+abbrev pub AreQuietBut : {A : Type 0} → View → (count : ℕ) → List (Subject A) → (awake : List ℕ) → Type 0
+AreQuietBut {A} view count subjects awake =
+    (k : ℕ) (d : Subject A) → k < count → is_among k awake ≡ false → is_quiet view (slice_index_or subjects k d) ≡ true
 
 -- each was told of
 abbrev pub told_of : {A : Type 0} → View → Subject A → Subject A

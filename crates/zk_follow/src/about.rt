@@ -107,6 +107,13 @@ impl<A: Allocator + Copy> About<A> {
         self.answered.as_slice()[slot(ticket, self.answered.len())]
     }
 
+    /// Whether one of the outputs may be about each subject.
+    pub(crate) fn is_about_each(&self) -> bool
+        ensures { result ≡ self.now.is_each }
+    {
+        self.is_each
+    }
+
     /// Whether these outputs, which it is about, say nothing of a subject.
     pub(crate) fn leaves(&self, ticket: u64, path: &Path<A>, _outputs: &[Output<A>]) -> bool
         ensures { AreCovered self.now (said _outputs.now) → result ≡ true

@@ -13,10 +13,14 @@ ghost use Rattle.zk_follow.specs.Following.{due_again, first_again, first_of, ag
 ghost use Rattle.zk_follow.specs.Following.{unfollowed_all};
 ghost use Rattle.zk_follow.specs.Following.{AreVisited, BreaksOff, IsAhead, IsCounted, IsFollowed, Steps};
 ghost use Rattle.zk_follow.specs.inner.Following.{Reads};
-ghost use Rattle.zk_follow.specs.Following.{AreResting};
-ghost use Rattle.zk_follow.specs.inner.Resting.{AreCovered, AreRestingBut};
+ghost use Rattle.zk_follow.specs.Following.{AreQuietBut};
+ghost use Rattle.zk_follow.specs.inner.Following.{Asks};
+ghost use Rattle.zk_follow.specs.Places.{AreFound};
+ghost use Rattle.zk_follow.specs.inner.Places.{AreSameBut, IsAscending};
+ghost use Rattle.zk_follow.specs.inner.Resting.{AreCovered, AreDueBut, AreLeft};
 
 use crate::about::About;
+use crate::index::{Index, fit_all};
 use crate::news::{News, tell_all};
 use crate::progress::Progress;
 use crate::stop::FollowerStop;
@@ -33,29 +37,21 @@ pub struct Follower<A: Allocator + Copy = Global> {
     alloc: A,
     pub(crate) client: Client<A>,
     pub(crate) subjects: Vec<Subject<A>, A>,
-    /// Which of the subjects rest, by their places: a place that it does not have, and one that is false, may be of one that rests.
-    resting: Vec<bool, A>,
+    /// The places of the subjects, by the tickets and paths that outputs name.
+    index: Index<A>,
+    /// The places of those that may not be quiet. A step visits these, those that its outputs name, and no other in the index.
+    awake: Vec<usize, A>,
     ghost counted: { All (IsCounted (view_of client)) subjects.items } by { Prim.hlevel props },
-    ghost rest: { AreResting (view_of client) subjects.items resting.items } by { Prim.hlevel props },
+    ghost found: { AreFound index subjects.items } by { Prim.hlevel props },
+    ghost rest: { AreQuietBut (view_of client) index.count subjects.items awake.items } by { Prim.hlevel props },
 }
 
-/// As many marks as there are subjects. Those that are new are false.
-fn fit_marks<A: Allocator>(marks: &mut Vec<bool, A>, count: usize) -> Result<(), FollowerStop>
-    ensures size { OnOk result (length marks.new.items ≡ count) }
-    ensures marks { OnOk result
-        ((k : ℕ) → slice_index_or marks.new.items k false ≡ true → slice_index_or marks.old.items k false ≡ true) }
-{
-    match marks.resize(count, false) {
-        Ok(()) => Ok(()),
-        Err(_) => Err(FollowerStop::Memory),
-    }
-}
-
-/// Each subject takes what the client has said, and is read where it is to be read.
-fn visit_all<A: Allocator + Copy>(
+/// The subjects at these places take what the client has said, and are read if they are to be read. Others rest, and the outputs are not
+/// about them.
+fn visit_each<A: Allocator + Copy>(
     alloc: A,
     subjects: &mut [Subject<A>],
-    resting: &mut [bool],
+    places: &[usize],
     client: &mut Client<A>,
     now: u64,
     about: &About<A>,
@@ -65,23 +61,20 @@ fn visit_all<A: Allocator + Copy>(
     requires counted { All (λ subject. IsCounted (view_of client.old) (heard_all now subject (said outputs.now))) subjects.old }
     requires goes_on { (view_of client.old).standing.halted ≡ false }
     requires covered { AreCovered about.now (said outputs.now) }
-    requires places { length resting.old ≡ length subjects.old }
-    requires rest { AreRestingBut (said outputs.now) (view_of client.old) subjects.old resting.old }
+    requires ascend { IsAscending places.now }
+    requires below { All (λ at. at < length subjects.old) places.now }
+    requires rest { AreLeft (view_of client.old) (said outputs.now) subjects.old places.now }
     ensures followed { OnOk result (All (IsFollowed now (view_of client.new)) subjects.new) }
     ensures counted { OnOk result (All (IsCounted (view_of client.new)) subjects.new) }
-    ensures rest { OnOk result (AreResting (view_of client.new) subjects.new resting.new) }
+    ensures asks { OnOk result (Asks (view_of client.old) (view_of client.new)) }
+    ensures left { OnOk result (AreSameBut places.now subjects.old subjects.new) }
     ensures reads { OnOk result (Reads subjects.old (view_of client.old) (said made.old.items) (view_of client.new) (said made.new.items)) }
     ensures visited { OnOk result (AreVisited now (said outputs.now) subjects.old subjects.new) }
     ensures broke { OnErr result (BreaksOff (view_of client.old) (view_of client.new)) }
 {
     let mut is_busy = false;
-    for index in 0..subjects.len() {
-        let rests = resting[index];
-        let visit = subjects[index].visit_where(
-            alloc, client, now, is_busy, rests, about, outputs, made,
-        )?;
-        is_busy = visit.is_busy;
-        resting[index] = visit.rests;
+    for place in places {
+        is_busy = subjects[*place].visit(alloc, client, now, is_busy, about, outputs, made)?;
     }
     Ok(())
 }
@@ -90,39 +83,49 @@ fn visit_all<A: Allocator + Copy>(
 fn advance<A: Allocator + Copy>(
     alloc: A,
     subjects: &mut [Subject<A>],
-    resting: &mut [bool],
+    index: &mut Index<A>,
+    awake: &mut Vec<usize, A>,
     client: &mut Client<A>,
     now: u64,
     input: Input<A>,
 ) -> Result<Vec<Output<A>, A>, FollowerStop>
     requires counted { All (IsCounted (view_of client.old)) subjects.old }
-    requires places { length resting.old ≡ length subjects.old }
-    requires rest { AreResting (view_of client.old) subjects.old resting.old }
+    requires found { AreFound index.old subjects.old }
+    requires rest { AreQuietBut (view_of client.old) index.old.count subjects.old awake.old.items }
     ensures followed { OnOk result (All (IsFollowed now (view_of client.new)) subjects.new) }
     ensures counted { OnOk result (All (IsCounted (view_of client.new)) subjects.new) }
-    ensures rest { OnOk result (AreResting (view_of client.new) subjects.new resting.new) }
+    ensures found { OnOk result (AreFound index.new subjects.new) }
+    ensures rest { OnOk result (AreQuietBut (view_of client.new) index.new.count subjects.new awake.new.items) }
     ensures ahead { OnOk result (All (λ subject. IsAhead now subject.progress) subjects.new) }
     ensures steps { IfOk result
         (λ outputs. Steps now (view_of client.old) (input_view input) subjects.old (view_of client.new) (said outputs.items) subjects.new) }
     ensures broke { OnErr result (BreaksOff (view_of client.old) (view_of client.new)) }
 {
+    let Ok(()) = fit_all(alloc, subjects, index, awake) else {
+        return Err(FollowerStop::Memory);
+    };
     let Ok(mut outputs) = client.step_at(now, input) else {
         return Err(FollowerStop::Halted);
     };
     let Ok(about) = About::of(alloc, outputs.as_slice()) else {
         return Err(FollowerStop::Memory);
     };
+    let Ok(places) = index.with_those_about(alloc, awake.as_slice(), &about, outputs.as_slice())
+    else {
+        return Err(FollowerStop::Memory);
+    };
     let mut made = Vec::new(alloc);
-    visit_all(
+    visit_each(
         alloc,
         subjects,
-        resting,
+        places.as_slice(),
         client,
         now,
         &about,
         outputs.as_slice(),
         &mut made,
     )?;
+    *awake = places;
     match outputs.append(&mut made) {
         Ok(()) => Ok(outputs),
         Err(_) => Err(FollowerStop::Memory),
@@ -143,25 +146,12 @@ fn place_of<A: Allocator>(subjects: &[Subject<A>], ticket: u64) -> Option<usize>
     None
 }
 
-/// The mark at this place is one no more.
-fn remove_mark<A: Allocator>(marks: &mut Vec<bool, A>, place: usize)
-    ensures there { place < length marks.old.items → marks.new.items ≡ remove marks.old.items place }
-    ensures gone { length marks.old.items ≤ place → marks.new.items ≡ marks.old.items }
-{
-    if place < marks.len() {
-        marks.remove(place);
-    }
-}
-
-/// The subject of this ticket is one no more. The others rest where they did.
-fn remove<A: Allocator>(subjects: &mut Vec<Subject<A>, A>, marks: &mut Vec<bool, A>, ticket: u64)
-    ensures subjects { subjects.new.items ≡ unfollowed ticket subjects.old.items }
-    ensures rest { (view : View) → AreResting view subjects.old.items marks.old.items
-        → AreResting view subjects.new.items marks.new.items }
+/// The subject of this ticket is one no more.
+fn remove<A: Allocator>(subjects: &mut Vec<Subject<A>, A>, ticket: u64)
+    ensures { subjects.new.items ≡ unfollowed ticket subjects.old.items }
 {
     while let Some(place) = place_of(subjects.as_slice(), ticket) {
         drop(subjects.remove(place));
-        remove_mark(marks, place);
     }
 }
 
@@ -221,6 +211,34 @@ fn begin_all<A: Allocator>(subjects: &mut [Subject<A>])
     }
 }
 
+/// The first of a moment and that at which the subject at this place is read again, if there is one.
+fn first_with<A: Allocator>(
+    first: Option<u64>,
+    subjects: &[Subject<A>],
+    place: usize,
+) -> Option<u64>
+    ensures there { place < length subjects.now
+        → (d : Subject A) → result ≡ first_of first (again_at (slice_index_or subjects.now place d).progress) }
+    ensures beyond { length subjects.now ≤ place → result ≡ first }
+{
+    if place < subjects.len() {
+        return first_of(first, again_at(&subjects[place]));
+    }
+    first
+}
+
+/// The first moment at which one of these is read again, if those are due whose places are not among these.
+fn first_among<A: Allocator>(subjects: &[Subject<A>], places: &[usize]) -> Option<u64>
+    requires { AreDueBut subjects.now places.now }
+    ensures { result ≡ first_again subjects.now }
+{
+    let mut first = None;
+    for place in places {
+        first = first_with(first, subjects, *place);
+    }
+    first
+}
+
 impl<A: Allocator + Copy> Follower<A> {
     /// A client with no subjects.
     pub fn new(alloc: A, client: Client<A>) -> Follower<A>
@@ -231,7 +249,8 @@ impl<A: Allocator + Copy> Follower<A> {
             alloc,
             client,
             subjects: Vec::new(alloc),
-            resting: Vec::new(alloc),
+            index: Index::new(alloc),
+            awake: Vec::new(alloc),
         }
     }
 
@@ -255,15 +274,19 @@ impl<A: Allocator + Copy> Follower<A> {
         ensures err { OnErr result (self.new.subjects.items ≡ []) }
         ensures broke { OnErr result (BreaksOff (view_of self.old.client) (view_of self.new.client)) }
     {
-        if let Err(stop) = fit_marks(&mut self.resting, self.subjects.len()) {
-            self.subjects.clear();
-            return Err(stop);
-        }
         let subjects = self.subjects.as_mut_slice();
-        let resting = self.resting.as_mut_slice();
-        match advance(self.alloc, subjects, resting, &mut self.client, now, input) {
+        match advance(
+            self.alloc,
+            subjects,
+            &mut self.index,
+            &mut self.awake,
+            &mut self.client,
+            now,
+            input,
+        ) {
             Ok(outputs) => Ok(outputs),
             Err(stop) => {
+                self.index = Index::new(self.alloc);
                 self.subjects.clear();
                 Err(stop)
             }
@@ -277,7 +300,6 @@ impl<A: Allocator + Copy> Follower<A> {
         ensures subjects { OnOk result (self.new.subjects.items ≡ self.old.subjects.items ++ fresh ticket side path ∷ []) }
         ensures same { OnErr result (self.new.subjects.items ≡ self.old.subjects.items) }
     {
-        self.resting.truncate(self.subjects.len());
         match self.subjects.push(Subject::new(ticket, side, path)) {
             Ok(()) => Ok(()),
             Err(_) => Err(AllocError),
@@ -289,7 +311,9 @@ impl<A: Allocator + Copy> Follower<A> {
         ensures client { self.new.client ≡ self.old.client }
         ensures subjects { self.new.subjects.items ≡ unfollowed ticket self.old.subjects.items }
     {
-        remove(&mut self.subjects, &mut self.resting, ticket);
+        self.index = Index::new(self.alloc);
+        self.awake.clear();
+        remove(&mut self.subjects, ticket);
     }
 
     /// Follows the subjects of these tickets no more, in the time of one pass over all subjects. Reads of them that are under way are
@@ -299,7 +323,8 @@ impl<A: Allocator + Copy> Follower<A> {
         ensures subjects { OnOk result (self.new.subjects.items ≡ unfollowed_all tickets.now self.old.subjects.items) }
         ensures same { OnErr result (self.new.subjects.items ≡ self.old.subjects.items) }
     {
-        self.resting.clear();
+        self.index = Index::new(self.alloc);
+        self.awake.clear();
         remove_all(self.alloc, &mut self.subjects, tickets)
     }
 
@@ -319,7 +344,11 @@ impl<A: Allocator + Copy> Follower<A> {
     pub fn deadline(&self) -> Option<u64>
         ensures { result ≡ first_again self.now.subjects.items }
     {
-        first_again(self.subjects.as_slice())
+        let subjects = self.subjects.as_slice();
+        if self.index.count() < subjects.len() {
+            return first_again(subjects);
+        }
+        first_among(subjects, self.awake.as_slice())
     }
 
     /// What there is to tell of each subject since the call before this one, with its ticket, after what `all` has. These outputs are those
@@ -339,13 +368,15 @@ impl<A: Allocator + Copy> Follower<A> {
         match tell_all(
             self.alloc,
             subjects,
-            self.resting.as_slice(),
+            &mut self.index,
+            &mut self.awake,
             &self.client,
             outputs,
             all,
         ) {
             Ok(()) => Ok(()),
             Err(fault) => {
+                self.index = Index::new(self.alloc);
                 self.subjects.truncate(0);
                 Err(fault)
             }
@@ -364,7 +395,8 @@ impl<A: Allocator + Copy> Follower<A> {
         ensures same_subjects { OnErr result (self.new.subjects ≡ self.old.subjects) }
     {
         begin_client(self.alloc, &mut self.client, timeout_ms)?;
-        self.resting.clear();
+        self.index = Index::new(self.alloc);
+        self.awake.clear();
         let subjects = self.subjects.as_mut_slice();
         begin_all(subjects);
         Ok(())

@@ -7,8 +7,10 @@
 
 mod about;
 mod follower;
+mod index;
 mod kept;
 mod news;
+mod places;
 mod progress;
 mod reads;
 mod reported;

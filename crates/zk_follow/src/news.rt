@@ -1,15 +1,19 @@
 //! What there is to tell of a subject.
 
-ghost use Rattle.std.specs.Prelude.{◌≡◌, ◌++◌, map, false, true, OnOk, slice_index_or};
+ghost use Rattle.std.specs.Prelude.{◌≡◌, ◌<◌, ◌++◌, All, ℕ, length, map, false, true, IfOk, OnOk, slice_index_or};
 ghost use Rattle.std.specs.List.{flat_map, list_any};
 ghost use Rattle.zk_client.specs.Clients.{view_of};
 ghost use Rattle.zk_client.specs.Views.{output_view, said};
 ghost use Rattle.zk_follow.specs.Following.{is_reported, is_same, news_about, news_in, news_list, told_after, told_of};
 ghost use Rattle.zk_follow.specs.Following.{was_refused, was_shown};
-ghost use Rattle.zk_follow.specs.Following.{is_resting, AreResting};
+ghost use Rattle.zk_follow.specs.Following.{is_quiet, AreQuietBut};
+ghost use Rattle.zk_follow.specs.Following.{is_among};
+ghost use Rattle.zk_follow.specs.Places.{AreFound};
+ghost use Rattle.zk_follow.specs.inner.Places.{IsAscending};
 ghost use Rattle.zk_follow.specs.inner.Reported.{AreReported};
-ghost use Rattle.zk_follow.specs.inner.Resting.{is_report};
+ghost use Rattle.zk_follow.specs.inner.Resting.{is_report, AreTold};
 
+use crate::index::{Index, fit_all};
 use crate::kept::is_shown;
 use crate::progress::{Progress, Refusal};
 use crate::reported::Reported;
@@ -40,7 +44,7 @@ fn is_same(why: Refusal, other: Refusal) -> bool
 }
 
 /// Whether it was told last that what is kept is good.
-fn was_shown(told: Option<News>) -> bool
+pub(crate) fn was_shown(told: Option<News>) -> bool
     ensures { result ≡ was_shown told }
 {
     matches!(told, Some(News::Shown))
@@ -128,16 +132,6 @@ fn is_reported_where<A: Allocator + Copy>(
     has_report && reported.has(path)
 }
 
-/// Whether the mark at a place is true.
-fn is_marked(marks: &[bool], index: usize) -> bool
-    ensures { result ≡ slice_index_or marks.now index false }
-{
-    match marks.get(index) {
-        Some(mark) => *mark,
-        None => false,
-    }
-}
-
 /// Adds what there is to tell, if there is something, with the ticket of the subject.
 fn add_news<A: Allocator>(
     all: &mut Vec<(u64, News), A>,
@@ -173,62 +167,89 @@ impl<A: Allocator + Copy> Subject<A> {
         self.told = told_after(is_good, self.progress, self.told);
         add_news(all, self.ticket, news)
     }
-
-    /// Whether it was told last that what is kept is good, and no output reports the path.
-    fn is_told(&self, has_report: bool, reported: &Reported<A>, outputs: &[Output<A>]) -> bool
-        requires has_report { has_report ≡ list_any is_report (said outputs.now) }
-        requires reported { AreReported reported.now (said outputs.now) }
-        ensures shown { result ≡ true → was_shown self.now.told ≡ true }
-        ensures unreported { result ≡ true → is_reported self.now.path (said outputs.now) ≡ false }
-    {
-        if !was_shown(self.told) {
-            return false;
-        }
-        !is_reported_where(has_report, reported, &self.path, outputs)
-    }
-
-    /// Reports the subject; but of one that rests, and of which that was told, there is nothing to tell.
-    fn report_where(
-        &mut self,
-        rests: bool,
-        client: &Client<A>,
-        has_report: bool,
-        reported: &Reported<A>,
-        outputs: &[Output<A>],
-        all: &mut Vec<(u64, News), A>,
-    ) -> Result<(), AllocError>
-        requires rests { rests ≡ true → is_resting (view_of client.now) self.old ≡ true }
-        requires has_report { has_report ≡ list_any is_report (said outputs.now) }
-        requires reported { AreReported reported.now (said outputs.now) }
-        ensures news { OnOk result (all.new.items ≡ all.old.items ++ news_in (view_of client.now) (said outputs.now) self.old) }
-        ensures told { self.new ≡ told_of (view_of client.now) self.old }
-    {
-        if rests && self.is_told(has_report, reported, outputs) {
-            return Ok(());
-        }
-        self.report(client, has_report, reported, outputs, all)
-    }
 }
 
-/// Adds what there is to tell of each, with its ticket, in order. These outputs were made since the call before this one. Where it is
-/// marked so, a subject rests.
-pub(crate) fn tell_all<A: Allocator + Copy>(
+/// Adds what there is to tell of those at these places, with their tickets, in order. Of others there is nothing to tell.
+fn tell_each<A: Allocator + Copy>(
     alloc: A,
     subjects: &mut [Subject<A>],
-    resting: &[bool],
+    places: &[usize],
     client: &Client<A>,
     outputs: &[Output<A>],
     all: &mut Vec<(u64, News), A>,
 ) -> Result<(), AllocError>
-    requires { AreResting (view_of client.now) subjects.old resting.now }
+    requires ascend { IsAscending places.now }
+    requires below { All (λ at. at < length subjects.old) places.now }
+    requires told { AreTold (view_of client.now) (said outputs.now) subjects.old places.now }
     ensures news { OnOk result (all.new.items ≡ all.old.items ++ flat_map (news_in (view_of client.now) (said outputs.now)) subjects.old) }
     ensures told { OnOk result (subjects.new ≡ map (told_of (view_of client.now)) subjects.old) }
 {
     let has_report = has_report(outputs);
     let reported = Reported::of(alloc, outputs)?;
-    for index in 0..subjects.len() {
-        let rests = is_marked(resting, index);
-        subjects[index].report_where(rests, client, has_report, &reported, outputs, all)?;
+    for place in places {
+        subjects[*place].report(client, has_report, &reported, outputs, all)?;
     }
+    Ok(())
+}
+
+/// Adds the place of a subject that may not be quiet.
+fn add_awake<A: Allocator + Copy>(
+    subject: &Subject<A>,
+    place: usize,
+    client: &Client<A>,
+    awake: &mut Vec<usize, A>,
+) -> Result<(), AllocError>
+    ensures had { OnOk result ((at : ℕ) → is_among at awake.old.items ≡ true → is_among at awake.new.items ≡ true) }
+    ensures here { OnOk result (is_among place awake.new.items ≡ false → is_quiet (view_of client.now) subject.now ≡ true) }
+{
+    if subject.is_quiet(client) {
+        return Ok(());
+    }
+    match awake.push(place) {
+        Ok(()) => Ok(()),
+        Err(_) => Err(AllocError),
+    }
+}
+
+/// Of these places those whose subjects may not be quiet.
+fn awake_among<A: Allocator + Copy>(
+    alloc: A,
+    subjects: &[Subject<A>],
+    places: &[usize],
+    client: &Client<A>,
+) -> Result<Vec<usize, A>, AllocError>
+    requires { All (λ at. at < length subjects.now) places.now }
+    ensures { IfOk result (λ awake. (k : ℕ) (d : Subject A) → k < length subjects.now → is_among k places.now ≡ true
+        → is_among k awake.items ≡ false → is_quiet (view_of client.now) (slice_index_or subjects.now k d) ≡ true) }
+{
+    let mut awake = Vec::new(alloc);
+    for place in places {
+        add_awake(&subjects[*place], *place, client, &mut awake)?;
+    }
+    Ok(awake)
+}
+
+/// Adds what there is to tell of each subject, with its ticket, in order. These outputs were made since the call before this one. Those
+/// that are not awake are quiet, before and after it.
+pub(crate) fn tell_all<A: Allocator + Copy>(
+    alloc: A,
+    subjects: &mut [Subject<A>],
+    index: &mut Index<A>,
+    awake: &mut Vec<usize, A>,
+    client: &Client<A>,
+    outputs: &[Output<A>],
+    all: &mut Vec<(u64, News), A>,
+) -> Result<(), AllocError>
+    requires found { AreFound index.old subjects.old }
+    requires rest { AreQuietBut (view_of client.now) index.old.count subjects.old awake.old.items }
+    ensures news { OnOk result (all.new.items ≡ all.old.items ++ flat_map (news_in (view_of client.now) (said outputs.now)) subjects.old) }
+    ensures told { OnOk result (subjects.new ≡ map (told_of (view_of client.now)) subjects.old) }
+    ensures found { OnOk result (AreFound index.new subjects.new) }
+    ensures rest { OnOk result (AreQuietBut (view_of client.now) index.new.count subjects.new awake.new.items) }
+{
+    fit_all(alloc, subjects, index, awake)?;
+    let places = index.with_named(alloc, awake.as_slice(), outputs)?;
+    tell_each(alloc, subjects, places.as_slice(), client, outputs, all)?;
+    *awake = awake_among(alloc, subjects, places.as_slice(), client)?;
     Ok(())
 }

@@ -1,7 +1,6 @@
 //! One subject that is followed.
 
 ghost use Rattle.std.specs.Prelude.{◌≡◌, ◌≢◌, ◌<◌, ◌++◌, true, false, Bool, List, None, IfOk, OnErr, OnOk};
-ghost use Rattle.std.specs.List.{list_any};
 ghost use Rattle.zk_session.specs.declared.states.State.TheVariants.{Connected};
 ghost use Rattle.zk_conversation.specs.Pending.{calls_pending};
 ghost use Rattle.zk_conversation.specs.Questions.{question_of};
@@ -15,12 +14,12 @@ ghost use Rattle.zk_follow.specs.inner.Following.{Asks};
 ghost use Rattle.zk_follow.specs.Following.{BreaksOff, IsBusy, LeavesRoom};
 ghost use Rattle.zk_follow.specs.declared.reads.TheConstants.{MOST_READS};
 ghost use Rattle.zk_follow.specs.inner.Following.{VisitsAnd};
-ghost use Rattle.zk_follow.specs.Following.{is_resting};
-ghost use Rattle.zk_follow.specs.inner.Resting.{is_about, AreCovered};
+ghost use Rattle.zk_follow.specs.Following.{is_quiet, is_resting};
+ghost use Rattle.zk_follow.specs.inner.Resting.{AreCovered};
 
 use crate::about::About;
 use crate::kept::{holds, is_shown};
-use crate::news::News;
+use crate::news::{News, was_shown};
 use crate::progress::{Progress, missing_after, progress_after, there_after};
 use crate::reads::{MOST_READS, read_of};
 use crate::stop::FollowerStop;
@@ -37,24 +36,6 @@ pub struct Subject<A: Allocator> {
     pub(crate) is_missing: bool,
     pub(crate) is_there: bool,
     pub(crate) told: Option<News>,
-}
-
-/// What a visit has led to: whether there is no room for another read, and whether the subject rests.
-#[derive(Clone, Copy)]
-pub(crate) struct Visit {
-    pub(crate) is_busy: bool,
-    pub(crate) rests: bool,
-}
-
-/// A visit of a subject that does not rest.
-fn awake(is_busy: bool) -> Visit
-    ensures busy { result.is_busy ≡ is_busy }
-    ensures rests { result.rests ≡ false }
-{
-    Visit {
-        is_busy,
-        rests: false,
-    }
 }
 
 /// Whether there is room for a read.
@@ -223,8 +204,16 @@ impl<A: Allocator + Copy> Subject<A> {
             && holds(client, self.side, &self.path)
     }
 
-    /// Takes what the client has said at this moment, and reads the subject where it is to be read and there is room.
-    fn visit(
+    /// Whether the subject rests and that was told last. It may say no of one that is quiet.
+    pub(crate) fn is_quiet(&self, client: &Client<A>) -> bool
+        ensures { result ≡ true → is_quiet (view_of client.now) self.now ≡ true }
+    {
+        was_shown(self.told) && self.is_at_rest(client)
+    }
+
+    /// Takes what the client has said at this moment, and reads the subject if it is to be read and there is room. Returns whether there is
+    /// no room for another read.
+    pub(crate) fn visit(
         &mut self,
         alloc: A,
         client: &mut Client<A>,
@@ -233,7 +222,7 @@ impl<A: Allocator + Copy> Subject<A> {
         about: &About<A>,
         outputs: &[Output<A>],
         made: &mut Vec<Output<A>, A>,
-    ) -> Result<Visit, FollowerStop>
+    ) -> Result<bool, FollowerStop>
         requires counted { IsCounted (view_of client.old) (heard_all now self.old (said outputs.now)) }
         requires goes_on { (view_of client.old).standing.halted ≡ false }
         requires busy { is_busy ≡ true → IsBusy (view_of client.old) }
@@ -241,66 +230,31 @@ impl<A: Allocator + Copy> Subject<A> {
         ensures followed { OnOk result (IsFollowed now (view_of client.new) self.new) }
         ensures counted { OnOk result (IsCounted (view_of client.new) self.new) }
         ensures asks { OnOk result (Asks (view_of client.old) (view_of client.new)) }
-        ensures busy { IfOk result (λ visit. visit.is_busy ≡ true → IsBusy (view_of client.new)) }
+        ensures busy { IfOk result (λ is_busy. is_busy ≡ true → IsBusy (view_of client.new)) }
         ensures visits { OnOk result (VisitsAnd now (view_of client.old) (said made.old.items) (taken now (said outputs.now) self.old)
             (view_of client.new) (said made.new.items) self.new) }
-        ensures rests { IfOk result (λ visit. visit.rests ≡ true → is_resting (view_of client.new) self.new ≡ true) }
         ensures broke { OnErr result (BreaksOff (view_of client.old) (view_of client.new)) }
     {
         self.pass_moment(now, about, outputs);
         if is_busy {
-            return Ok(awake(true));
+            return Ok(true);
         }
         if is_shown(client, self.side, &self.path) {
             self.rest();
-            let rests = self.is_at_rest(client);
-            return Ok(Visit { is_busy, rests });
+            return Ok(false);
         }
         if !is_connected(client) {
-            return Ok(awake(false));
+            return Ok(false);
         }
         if !self.is_unread() {
-            return Ok(awake(false));
+            return Ok(false);
         }
         if !has_room(client) {
-            return Ok(awake(true));
+            return Ok(true);
         }
         match read_of(alloc, self.side, self.is_missing, &self.path) {
-            Ok(call) => Ok(awake(self.ask(client, now, call, made)?)),
+            Ok(call) => Ok(self.ask(client, now, call, made)?),
             Err(_) => Err(FollowerStop::Memory),
         }
-    }
-
-    /// Visits the subject; but one that rests, and that none of the outputs is about, stays as it is, as it would by a visit.
-    pub(crate) fn visit_where(
-        &mut self,
-        alloc: A,
-        client: &mut Client<A>,
-        now: u64,
-        is_busy: bool,
-        rests: bool,
-        about: &About<A>,
-        outputs: &[Output<A>],
-        made: &mut Vec<Output<A>, A>,
-    ) -> Result<Visit, FollowerStop>
-        requires counted { IsCounted (view_of client.old) (heard_all now self.old (said outputs.now)) }
-        requires goes_on { (view_of client.old).standing.halted ≡ false }
-        requires busy { is_busy ≡ true → IsBusy (view_of client.old) }
-        requires covered { AreCovered about.now (said outputs.now) }
-        requires rests { rests ≡ true → list_any (is_about self.old.ticket self.old.path) (said outputs.now) ≡ false
-            → is_resting (view_of client.old) self.old ≡ true }
-        ensures followed { OnOk result (IsFollowed now (view_of client.new) self.new) }
-        ensures counted { OnOk result (IsCounted (view_of client.new) self.new) }
-        ensures asks { OnOk result (Asks (view_of client.old) (view_of client.new)) }
-        ensures busy { IfOk result (λ visit. visit.is_busy ≡ true → IsBusy (view_of client.new)) }
-        ensures visits { OnOk result (VisitsAnd now (view_of client.old) (said made.old.items) (taken now (said outputs.now) self.old)
-            (view_of client.new) (said made.new.items) self.new) }
-        ensures rests { IfOk result (λ visit. visit.rests ≡ true → is_resting (view_of client.new) self.new ≡ true) }
-        ensures broke { OnErr result (BreaksOff (view_of client.old) (view_of client.new)) }
-    {
-        if rests && about.leaves(self.ticket, &self.path, outputs) {
-            return Ok(Visit { is_busy, rests });
-        }
-        self.visit(alloc, client, now, is_busy, about, outputs, made)
     }
 }

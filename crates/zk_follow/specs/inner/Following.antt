@@ -1,6 +1,6 @@
 -- What contracts of private functions say: nobody has to believe it.
-use Rattle.std.specs.Prelude.{◌≡◌, ◌⊎◌, ◌++◌, ◌==◌, ℕ, Bool, List, []}
-use Rattle.std.specs.List.{list_any, FoldsTo}
+use Rattle.std.specs.Prelude.{◌≡◌, ◌⊎◌, ◌++◌, ℕ, List, []}
+use Rattle.std.specs.List.{FoldsTo}
 use Rattle.zk_conversation.specs.Pending.{Pending}
 use Rattle.zk_turns.specs.Turns.{Output, Turn}
 use Rattle.zk_turns.specs.View.{View}
@@ -29,7 +29,3 @@ pub record Reads {A : Type 0} (subjects : List (Subject A)) (view : View) (given
   pub reads : AreReads subjects calls
   pub said : given_after ≡ given ++ outputs_in calls
   pub room : (calls ≡ []) ⊎ LeavesRoom after
-
--- whether a ticket is one of these
-abbrev pub is_among : ℕ → List ℕ → Bool
-is_among ticket tickets = list_any (λ its. ticket == its) tickets

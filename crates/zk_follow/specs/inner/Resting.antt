@@ -9,7 +9,7 @@ use Rattle.zk_turns.specs.Turns as turns
 use Rattle.zk_turns.specs.View.{View}
 use Rattle.zk_follow.specs.declared.about.About.{About}
 use Rattle.zk_follow.specs.declared.subject.Subject.{Subject}
-use Rattle.zk_follow.specs.Following.{is_resting}
+use Rattle.zk_follow.specs.Following.{is_among, is_due, is_quiet, is_reported, is_resting}
 use Rattle.zk_follow.specs.inner.Reported.{AreReported}
 
 -- ---- what outputs are about
@@ -25,12 +25,24 @@ is_about ticket path (turns.Report at side event) = bytes_eq at path
 is_about ticket path (Enters state) = true
 is_about ticket path _ = false
 
--- They rest where it is marked so, unless outputs are about them.
-abbrev pub AreRestingBut : {A : Type 0} → List Output → View → List (Subject A) → List Bool → Type 0
-AreRestingBut {A} outputs view subjects resting =
-    (k : ℕ) (d : Subject A) → k < length subjects → slice_index_or resting k false ≡ true
-    → list_any (is_about (slice_index_or subjects k d).ticket (slice_index_or subjects k d).path) outputs ≡ false
-    → is_resting view (slice_index_or subjects k d) ≡ true
+-- Whose place is not among these rests, and the outputs are not about it.
+abbrev pub AreLeft : {A : Type 0} → View → List Output → List (Subject A) → (places : List ℕ) → Type 0
+AreLeft {A} view outputs subjects places =
+    (k : ℕ) (d : Subject A) → k < length subjects → is_among k places ≡ false
+    → (is_resting view (slice_index_or subjects k d) ≡ true)
+    × (list_any (is_about (slice_index_or subjects k d).ticket (slice_index_or subjects k d).path) outputs ≡ false)
+
+-- Whose place is not among these is due.
+abbrev pub AreDueBut : {A : Type 0} → List (Subject A) → (places : List ℕ) → Type 0
+AreDueBut {A} subjects places =
+    (k : ℕ) (d : Subject A) → k < length subjects → is_among k places ≡ false
+    → is_due (slice_index_or subjects k d).progress ≡ true
+
+-- Whose place is not among these is quiet, and its path is not reported.
+abbrev pub AreTold : {A : Type 0} → View → List Output → List (Subject A) → (places : List ℕ) → Type 0
+AreTold {A} view outputs subjects places =
+    (k : ℕ) (d : Subject A) → k < length subjects → is_among k places ≡ false
+    → (is_quiet view (slice_index_or subjects k d) ≡ true) × (is_reported (slice_index_or subjects k d).path outputs ≡ false)
 
 abbrev pub is_report : Output → Bool
 is_report (turns.Report at side event) = true

@@ -1,55 +1,54 @@
--- Each turn tells of one subject more: `map_over_more` in its place, which has the old subject (`at_seam`), and `flat_more` for its news.
--- At the end all are told of: `whole_mapped`.
-use Rattle.std.proofs.Common.{◌≡◌, ◌≤◌, ◌<◌, ◌++◌, ◌∙◌, append_assoc, ap, arith, get_or, length, refl, set, sym, subst, take, true}
-use Rattle.std.specs.List.{flat_map}
-use Rattle.std.proofs.lemmas.List.{append-nil, length-set}
-use Rattle.std.proofs.lemmas.List.Edits.{map_over_more}
+-- Who is told of is found by the index (`told_by`), and who is not stays quiet (`quiet_told`).
+use Rattle.std.proofs.Common.{◌≡◌, ◌<◌, ◌∙◌, ℕ, true, ap, sym, subst, length}
+use Rattle.std.specs.Prelude.{All}
 use Rattle.zk_client.specs.Clients.{view_of}
 use Rattle.zk_client.specs.Views.{said}
-use Rattle.zk_follow.specs.Following.{news_in, told_of}
-use Rattle.zk_follow.specs.Following.{is_resting}
-use Rattle.zk_follow.proofs.Telling.{at_seam, flat_more, whole_mapped}
+use Rattle.zk_follow.specs.Following.{is_among}
+use Rattle.zk_follow.specs.Places.{AreFound}
+use Rattle.zk_follow.specs.inner.Places.{IsAscending}
+use Rattle.zk_follow.specs.inner.Resting.{AreTold}
+use Rattle.zk_follow.proofs.Finding.{found_told, quiet_told, told_by}
 use Rattle.zk_follow.proofs.news.tell_all.Goals as goal
 
-pub report_where-requires-clause-rests : goal.report_where-requires-clause-rests
-report_where-requires-clause-rests g c =
-    let index = c.loop-index.index in
-    let first = c.args.subjects.now in
-    let subjects = c.loop-index.subjects in
-    let item = get_or subjects index c.index-subjects-index.result in
+pub tell_each-requires-clause-ascend : goal.tell_each-requires-clause-ascend
+tell_each-requires-clause-ascend g c = subst IsAscending (sym c.as_slice-2.ensures.value) c.in_ok-places.ensures.ascend
+
+pub tell_each-requires-clause-below : goal.tell_each-requires-clause-below
+tell_each-requires-clause-below g c =
+    subst (All (λ at. at < length c.args.subjects.now)) (sym c.as_slice-2.ensures.value)
+    (subst (λ count. All (λ at. at < count) c.in_ok-places.places.items) c.in_ok-fit_all.ensures.count c.in_ok-places.ensures.below)
+
+pub tell_each-requires-clause-told : goal.tell_each-requires-clause-told
+tell_each-requires-clause-told g c =
+    let places = c.in_ok-places.places.items in
+    let index = c.fit_all.new.index in
     let view = view_of c.args.client.now in
-    let within : index < length first = omega (arith, c.loop-index-test.true, c.loop-index.invariant.size) in
-    let is : item ≡ get_or first index item =
-    ap (get_or subjects index) c.index-subjects-index.is
-    ∙ at_seam (told_of view) first subjects index item within c.loop-index.invariant.subjects in
-    λ marked. subst (λ s. is_resting view s ≡ true) (sym is) (c.requires index item within (sym c.is_marked-rests.ensures ∙ marked))
+    let had = subst (λ some. (at : ℕ) → at < index.count → is_among at some ≡ true → is_among at places ≡ true)
+    c.as_slice.ensures.value c.in_ok-places.ensures.had in
+    let told = told_by index c.args.subjects.now c.in_ok-fit_all.ensures.count c.in_ok-fit_all.ensures.found view c.args.outputs.now
+    c.fit_all.new.awake.items places (c.in_ok-fit_all.ensures.rest view c.requires.rest) had c.in_ok-places.ensures.named in
+    subst (AreTold view (said c.args.outputs.now) c.args.subjects.now) (sym c.as_slice-2.ensures.value) told
 
-pub loop-index-init : goal.loop-index-init
-loop-index-init g c = record { size = refl; subjects = refl; all = sym (append-nil c.args.all.now.items) }
+pub awake_among-requires : goal.awake_among-requires
+awake_among-requires g c =
+    subst (All (λ at. at < length c.tell_each.new.subjects)) (sym c.as_slice-3.ensures.value)
+    (subst (λ count. All (λ at. at < count) c.in_ok-places.places.items)
+    (c.in_ok-fit_all.ensures.count ∙ sym c.tell_each.auto.subjects) c.in_ok-places.ensures.below)
 
-pub loop-index-preserved : goal.loop-index-preserved
-loop-index-preserved g c =
-    let index = c.loop-index.index in
-    let first = c.args.subjects.now in
-    let subjects = c.loop-index.subjects in
-    let item = get_or subjects index c.index-subjects-index.result in
+pub returns-clause-found : goal.returns-clause-found
+returns-clause-found g c =
+    subst (AreFound c.fit_all.new.index) (sym c.in_ok-tell_each.ensures.told)
+    (found_told (view_of c.args.client.now) c.fit_all.new.index c.args.subjects.now c.in_ok-fit_all.ensures.found)
+
+pub returns-clause-rest : goal.returns-clause-rest
+returns-clause-rest g c =
+    let places = c.in_ok-places.places.items in
+    let index = c.fit_all.new.index in
     let view = view_of c.args.client.now in
-    let outputs = said c.args.outputs.now in
-    let within : index < length first = omega (arith, c.loop-index-test.true, c.loop-index.invariant.size) in
-    let same : item ≡ get_or subjects index item = ap (get_or subjects index) c.index-subjects-index.is in
-    let is : item ≡ get_or first index item =
-    same ∙ at_seam (told_of view) first subjects index item within c.loop-index.invariant.subjects in
-    record {
-      size = length-set subjects index c.report_where.new.self ∙ c.loop-index.invariant.size;
-      subjects = ap (set subjects index) c.report_where.ensures.told
-          ∙ map_over_more (told_of view) first subjects index item within c.loop-index.invariant.subjects same;
-      all = c.in_ok-report_where.ensures.news ∙ ap (λ all. all ++ news_in view outputs item) c.loop-index.invariant.all
-          ∙ append_assoc c.args.all.now.items (flat_map (news_in view outputs) (take index first)) (news_in view outputs item)
-          ∙ ap (λ all. c.args.all.now.items ++ all) (sym (flat_more (news_in view outputs) first index item within is));
-    }
-
-pub returns-clause-told : goal.returns-clause-told
-returns-clause-told g c =
-    let past : length c.args.subjects.now ≤ c.loop-index.index = omega (arith, c.loop-index-test.false, c.loop-index.invariant.size) in
-    c.loop-index.invariant.subjects
-    ∙ whole_mapped (told_of (view_of c.args.client.now)) c.args.subjects.now c.loop-index.index past
+    let had = subst (λ some. (at : ℕ) → at < index.count → is_among at some ≡ true → is_among at places ≡ true)
+    c.as_slice.ensures.value c.in_ok-places.ensures.had in
+    let told = told_by index c.args.subjects.now c.in_ok-fit_all.ensures.count c.in_ok-fit_all.ensures.found view c.args.outputs.now
+    c.fit_all.new.awake.items places (c.in_ok-fit_all.ensures.rest view c.requires.rest) had c.in_ok-places.ensures.named in
+    quiet_told view (said c.args.outputs.now) index.count c.args.subjects.now c.tell_each.new.subjects places
+    c.in_ok-awake.field-0.items c.in_ok-fit_all.ensures.count c.in_ok-tell_each.ensures.told told
+    (λ k d within among none. c.in_ok-awake.ensures k d within (ap (is_among k) c.as_slice-3.ensures.value ∙ among) none)

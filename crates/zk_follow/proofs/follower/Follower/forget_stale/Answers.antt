@@ -1,12 +1,12 @@
--- Each subject is counted and followed after stale answers go, as before: `all_counted_still`, `all_followed_still` and `resting_still`, at
+-- Each subject is counted and followed after stale answers go, as before: `all_counted_still`, `all_followed_still` and `quiet_still`, at
 -- the view that the client's `forget_stale` ensures.
 use Rattle.std.proofs.Common.{subst, sym}
 use Rattle.std.specs.Prelude.{All}
 use Rattle.zk_client.specs.Clients.{view_of}
 use Rattle.zk_follow.specs.Following.{IsCounted, IsFollowed}
-use Rattle.zk_follow.specs.Following.{AreResting}
+use Rattle.zk_follow.specs.Following.{AreQuietBut}
 use Rattle.zk_follow.proofs.Forgetting.{all_counted_still, all_followed_still}
-use Rattle.zk_follow.proofs.Resting.{resting_still}
+use Rattle.zk_follow.proofs.Finding.{quiet_still}
 use Rattle.zk_follow.proofs.follower.Follower.forget_stale.Goals as goal
 
 pub invariant_of-self : goal.invariant_of-self
@@ -16,8 +16,10 @@ invariant_of-self g c =
     record {
       counted = subst (λ after. All (IsCounted after) items) (sym c.forget_stale.ensures.view)
           (all_counted_still view items c.args.self.now.counted);
-      rest = subst (λ after. AreResting after items c.args.self.now.resting.items) (sym c.forget_stale.ensures.view)
-          (resting_still view items c.args.self.now.resting.items c.args.self.now.rest);
+      found = c.args.self.now.found;
+      rest = subst (λ after. AreQuietBut after c.args.self.now.index.count items c.args.self.now.awake.items)
+          (sym c.forget_stale.ensures.view)
+          (quiet_still view c.args.self.now.index.count items c.args.self.now.awake.items c.args.self.now.rest);
     }
 
 pub returns-clause-followed : goal.returns-clause-followed

@@ -7,7 +7,7 @@ use Rattle.zk_turns.specs.View.{View}
 use Rattle.zk_client.specs.Clients.{view_of}
 use Rattle.zk_follow.specs.Following.{due_again, IsCounted}
 use Rattle.zk_follow.proofs.Visiting.{begun_counted, begun_followed, not_connected, whole_written}
-use Rattle.zk_follow.proofs.Resting.{none_marked}
+use Rattle.zk_follow.proofs.Finding.{none_found, none_quiet}
 use Rattle.zk_follow.proofs.follower.Follower.renew.Goals as goal
 
 pub invariant_of-self-2 : goal.invariant_of-self-2
@@ -23,7 +23,8 @@ invariant_of-self-2 g c =
     record {
       counted = subst (All (IsCounted (view_of c.begin_client.new.client))) (sym written)
           (begun_counted (view_of c.begin_client.new.client) c.args.self.now.subjects.items);
-      rest = none_marked (view_of c.begin_client.new.client) _ _ c.clear.ensures.items;
+      found = none_found c.new.result _ c.new.ensures;
+      rest = none_quiet (view_of c.begin_client.new.client) c.new.result.count _ c.clear.new.self.items c.new.ensures;
     }
 
 pub returns-clause-subjects : goal.returns-clause-subjects

@@ -5,8 +5,8 @@ use Rattle.zk_client.specs.Clients.{view_of}
 use Rattle.zk_follow.specs.Following.{told_of, IsCounted}
 use Rattle.zk_follow.proofs.Telling.{All_changed}
 use Rattle.zk_follow.proofs.Visiting.{whole_written}
-use Rattle.zk_follow.specs.Following.{AreResting}
-use Rattle.zk_follow.proofs.Resting.{told_resting}
+use Rattle.zk_follow.specs.Following.{AreQuietBut}
+use Rattle.zk_follow.specs.Places.{AreFound}
 use Rattle.zk_follow.proofs.follower.Follower.report_all.Goals as goal
 
 pub invariant_of-self : goal.invariant_of-self
@@ -14,13 +14,33 @@ invariant_of-self g c =
     let view = view_of c.args.self.now.client in
     let size : c.args.self.now.subjects.len ≡ length c.tell_all.new.subjects =
     omega (arith, c.tell_all.auto.subjects, c.as_mut_slice-subjects.ensures.len) in
-    let written =
+    let whole =
     whole_written c.args.self.now.subjects.len c.tell_all.new.subjects
-    (drop (length c.tell_all.new.subjects) c.args.self.now.subjects.items) size
+    (drop (length c.tell_all.new.subjects) c.args.self.now.subjects.items) size in
+    let written =
+    whole
     ∙ c.in-Ok.ensures.told ∙ ap (map (told_of view)) c.as_mut_slice-subjects.ensures.value in
     record {
       counted = subst (All (IsCounted view)) (sym written)
           (All_changed (IsCounted view) (told_of view) c.args.self.now.subjects.items (λ subject counted. counted) c.args.self.now.counted);
-      rest = subst (λ subjects. AreResting view subjects c.args.self.now.resting.items) (sym written)
-          (told_resting view c.args.self.now.subjects.items c.args.self.now.resting.items c.args.self.now.rest);
+      found = subst (AreFound c.tell_all.new.index) (sym whole) c.in-Ok.ensures.found;
+      rest = subst (λ subjects. AreQuietBut view c.tell_all.new.index.count subjects c.tell_all.new.awake.items) (sym whole)
+          c.in-Ok.ensures.rest;
     }
+
+pub tell_all-requires-clause-found : goal.tell_all-requires-clause-found
+tell_all-requires-clause-found g c =
+    subst (AreFound c.args.self.now.index) (sym c.as_mut_slice-subjects.ensures.value) c.args.self.now.found
+
+pub tell_all-requires-clause-rest : goal.tell_all-requires-clause-rest
+tell_all-requires-clause-rest g c =
+    subst (λ subjects. AreQuietBut (view_of c.args.self.now.client) c.args.self.now.index.count subjects c.args.self.now.awake.items)
+    (sym c.as_mut_slice-subjects.ensures.value) c.args.self.now.rest
+
+pub returns-in-Ok-clause-told : goal.returns-in-Ok-clause-told
+returns-in-Ok-clause-told g c =
+    let size : c.args.self.now.subjects.len ≡ length c.tell_all.new.subjects =
+    omega (arith, c.tell_all.auto.subjects, c.as_mut_slice-subjects.ensures.len) in
+    whole_written c.args.self.now.subjects.len c.tell_all.new.subjects
+    (drop (length c.tell_all.new.subjects) c.args.self.now.subjects.items) size
+    ∙ c.in-Ok.ensures.told ∙ ap (map (told_of (view_of c.args.self.now.client))) c.as_mut_slice-subjects.ensures.value

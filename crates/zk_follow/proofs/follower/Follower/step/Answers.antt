@@ -1,9 +1,10 @@
 -- The slice of all subjects is written back.
-use Rattle.std.proofs.Common.{◌≡◌, ◌++◌, arith, drop, length, sym, subst, take}
+use Rattle.std.proofs.Common.{◌≡◌, arith, drop, length, sym, subst}
 use Rattle.zk_client.specs.Clients.{view_of}
 use Rattle.zk_client.specs.Views.{input_view, said}
 use Rattle.zk_follow.specs.Following.{IsAhead, IsCounted, IsFollowed, Steps}
-use Rattle.zk_follow.specs.Following.{AreResting}
+use Rattle.zk_follow.specs.Following.{AreQuietBut}
+use Rattle.zk_follow.specs.Places.{AreFound}
 use Rattle.zk_follow.proofs.Visiting.{whole_written, written_back}
 use Rattle.zk_follow.proofs.follower.Follower.step.Goals as goal
 
@@ -34,20 +35,17 @@ returns-in-Ok-clause-steps g c =
     (subst (λ before. Steps c.args.now old input before (view_of c.advance.new.client) given c.advance.new.subjects)
     c.as_mut_slice-subjects.ensures.value c.in-Ok.ensures.steps)
 
-pub invariant_of-self-in-Ok-advance : goal.invariant_of-self-in-Ok-advance
-invariant_of-self-in-Ok-advance g c =
+pub invariant_of-self : goal.invariant_of-self
+invariant_of-self g c =
     let size : c.args.self.now.subjects.len ≡ length c.advance.new.subjects =
     omega (arith, c.advance.auto.subjects, c.as_mut_slice-subjects.ensures.len) in
     let view = view_of c.advance.new.client in
-    let fits : c.fit_marks.new.marks.len ≡ length c.advance.new.resting =
-    omega (arith, c.advance.auto.resting, c.as_mut_slice-resting.ensures.len) in
-    let marks_now = take c.fit_marks.new.marks.len
-    (c.advance.new.resting ++ drop (length c.advance.new.resting) c.fit_marks.new.marks.items) in
+    let whole = whole_written c.args.self.now.subjects.len c.advance.new.subjects
+    (drop (length c.advance.new.subjects) c.args.self.now.subjects.items) size in
     record {
       counted = written_back (IsCounted view) c.args.self.now.subjects.len c.advance.new.subjects
           (drop (length c.advance.new.subjects) c.args.self.now.subjects.items) size c.in-Ok.ensures.counted;
-      rest = subst (λ subjects. AreResting view subjects marks_now) (sym (whole_written c.args.self.now.subjects.len c.advance.new.subjects
-          (drop (length c.advance.new.subjects) c.args.self.now.subjects.items) size))
-          (subst (AreResting view c.advance.new.subjects) (sym (whole_written c.fit_marks.new.marks.len c.advance.new.resting
-          (drop (length c.advance.new.resting) c.fit_marks.new.marks.items) fits)) c.in-Ok.ensures.rest);
+      found = subst (AreFound c.advance.new.index) (sym whole) c.in-Ok.ensures.found;
+      rest = subst (λ subjects. AreQuietBut view c.advance.new.index.count subjects c.advance.new.awake.items) (sym whole)
+          c.in-Ok.ensures.rest;
     }

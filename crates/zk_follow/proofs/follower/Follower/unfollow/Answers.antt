@@ -1,17 +1,19 @@
--- What holds of all subjects holds of those that `remove` leaves: `All-filter`; and those rest that did.
+-- What holds of all subjects holds of those that `remove` leaves: `All-filter`. None is in the index.
 use Rattle.std.proofs.Common.{◌==◌, not, sym, subst}
 use Rattle.std.specs.Prelude.{All}
 use Rattle.std.proofs.lemmas.List.Elements.{All-filter}
 use Rattle.zk_client.specs.Clients.{view_of}
 use Rattle.zk_follow.specs.Following.{IsCounted}
+use Rattle.zk_follow.proofs.Finding.{none_found, none_quiet}
 use Rattle.zk_follow.proofs.follower.Follower.unfollow.Goals as goal
 
 pub invariant_of-self : goal.invariant_of-self
 invariant_of-self g c =
     let view = view_of c.args.self.now.client in
     record {
-      counted = subst (All (IsCounted view)) (sym c.remove.ensures.subjects)
+      counted = subst (All (IsCounted view)) (sym c.remove.ensures)
           (All-filter (λ subject. not (subject.ticket == c.args.ticket))
           (IsCounted view) c.args.self.now.subjects.items c.args.self.now.counted);
-      rest = c.remove.ensures.rest view c.args.self.now.rest;
+      found = none_found c.new.result c.remove.new.subjects.items c.new.ensures;
+      rest = none_quiet view c.new.result.count c.remove.new.subjects.items c.clear.new.self.items c.new.ensures;
     }

@@ -1,8 +1,8 @@
--- What holds of all subjects holds of those that stay (`all_hold`); none is marked.
+-- What holds of all subjects holds of those that stay (`all_hold`). None is in the index.
 use Rattle.zk_client.specs.Clients.{view_of}
 use Rattle.zk_follow.specs.Following.{IsCounted}
 use Rattle.zk_follow.proofs.Among.{all_hold}
-use Rattle.zk_follow.proofs.Resting.{none_marked}
+use Rattle.zk_follow.proofs.Finding.{none_found, none_quiet}
 use Rattle.zk_follow.proofs.follower.Follower.unfollow_all.Goals as goal
 
 pub invariant_of-self : goal.invariant_of-self
@@ -11,5 +11,6 @@ invariant_of-self g c =
     record {
       counted = all_hold (IsCounted view) c.remove_all.result c.args.tickets.now c.args.self.now.subjects.items
           c.remove_all.new.subjects.items c.remove_all.ensures.subjects c.remove_all.ensures.same c.args.self.now.counted;
-      rest = none_marked view c.remove_all.new.subjects.items c.clear.new.self.items c.clear.ensures.items;
+      found = none_found c.new.result c.remove_all.new.subjects.items c.new.ensures;
+      rest = none_quiet view c.new.result.count c.remove_all.new.subjects.items c.clear.new.self.items c.new.ensures;
     }

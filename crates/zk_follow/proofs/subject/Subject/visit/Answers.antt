@@ -48,9 +48,6 @@ returns-in_ok-ask-in-Ok-clause-visits g c =
     asked_visits c.args.now old (said c.args.made.now.items) c.pass_moment.new.self _ new (said c.ask.new.made.items) c.ask.new.self
     (call_view c.in-Ok.call) c.pass_moment.ensures c.in-Ok.ensures c.in_ok-ask-in-Ok.ensures.asked
 
-pub returns-in_ok-ask-in-Ok-clause-busy : goal.returns-in_ok-ask-in-Ok-clause-busy
-returns-in_ok-ask-in-Ok-clause-busy g c = λ busy. c.in_ok-ask-in-Ok.ensures.busy (sym c.awake-in-Ok.ensures.busy ∙ busy)
-
 pub returns-then-is_shown-clause-counted : goal.returns-then-is_shown-clause-counted
 returns-then-is_shown-clause-counted g c =
     let view = view_of c.args.client.now in

@@ -1,0 +1,356 @@
+-- Who is named by outputs is found, and who is not found is quiet as before.
+use Rattle.std.proofs.Common.{◌≡◌, ◌≤◌, ◌<◌, ◌+◌, ◌∙◌, ◌++◌, ◌∷◌, ◌||◌, ◌&&◌, ◌⊎◌, inl, inr, ℕ, Bool, true, false, not, List, [], length}
+use Rattle.std.proofs.Common.{get_or, map, take}
+use Rattle.std.proofs.Common.{refl, sym, ap, subst, arith}
+use Rattle.std.specs.Prelude.{◌==◌, nat_lt, IfOk, Result, Ok, Err}
+use Rattle.std.specs.List.{list_any}
+use Rattle.std.proofs.lemmas.List.{get_or-map, get_or_append_left, get_or_default, length-append, length-map}
+use Rattle.std.proofs.lemmas.List.Folds.{list_any_more}
+use Rattle.std.proofs.lemmas.Bool.Decides.{Decides-eqb, nat_tests}
+use Rattle.zk_nodes.specs.Path.{Text}
+use Rattle.zk_turns.specs.Turns.{Output, Answer, Enters, Report, Turn}
+use Rattle.zk_turns.specs.View.{View}
+use Rattle.zk_turns.specs.Rule.{RuleAt}
+use Rattle.zk_client.specs.declared.output.Output.{Output as Made}
+use Rattle.zk_client.specs.Views.{output_view, said}
+use Rattle.zk_follow.specs.declared.about.About.{About}
+use Rattle.zk_follow.specs.declared.index.Index.{Index}
+use Rattle.zk_follow.specs.declared.progress.Progress.{Progress}
+use Rattle.zk_follow.specs.declared.subject.Subject.{Subject}
+use Rattle.zk_follow.specs.Following.{is_among, is_quiet, is_report_of, is_reported, is_resting, taken, told_of}
+use Rattle.zk_follow.specs.Following.{was_shown, AreQuietBut, AreVisited, IsVisited, Visits}
+use Rattle.zk_follow.specs.inner.Following.{Asks}
+use Rattle.zk_follow.specs.Places.{has_place, key_of, AreFound}
+use Rattle.zk_follow.specs.inner.Places.{is_named, AreSameBut}
+use Rattle.zk_follow.specs.inner.Resting.{covers, is_about, tells_fields, AreLeft, AreNoted, AreTold}
+use Rattle.zk_follow.proofs.Forgetting.{after_forgetting}
+use Rattle.zk_follow.proofs.Hearing.{all_same_path, all_same_ticket}
+use Rattle.zk_follow.proofs.Resting.{and_parts, quiet_parts, rests_at, rests_on, rests_still, told_same}
+use Rattle.zk_follow.proofs.Placing.{among_before, among_last}
+use Rattle.zk_follow.proofs.Staying.{or_false}
+use Rattle.zk_follow.proofs.Telling.{any_said}
+
+-- ---- words
+
+quiet_by : {A : Type 0} (view : View) (subject : Subject A) → is_resting view subject ≡ true → was_shown subject.told ≡ true
+    → is_quiet view subject ≡ true
+quiet_by view subject rest shown = ap (λ b. b && was_shown subject.told) rest ∙ shown
+
+either_way : (b : Bool) → (b ≡ true → b ≡ false) → b ≡ false
+either_way true not_so = not_so refl
+either_way false not_so = refl
+
+-- what is false where it would show what is false
+pub unless : (a b : Bool) → (a ≡ true → b ≡ true) → b ≡ false → a ≡ false
+unless true b so e = sym (so refl) ∙ e
+unless false b so e = refl
+
+-- ---- who is named
+
+pub named_first : {A : Type 0} (ticket : ℕ) (path : Text) (outputs : List (Made A)) → list_any (is_named ticket path) (said outputs) ≡ false
+    → is_reported path (said outputs) ≡ false
+named_first ticket path [] e = refl
+named_first ticket path (output ∷ outputs) e =
+    let parts = or_false (is_named ticket path (output_view output)) (list_any (is_named ticket path) (said outputs)) e in
+    ap (λ b. b || is_reported path (said outputs)) (by (output_view output) parts.0) ∙ named_first ticket path outputs parts.1
+  where
+    by : (output : Output) → is_named ticket path output ≡ false → is_report_of path output ≡ false
+    by (Report at side event) e = e
+    by _ e = refl
+
+-- where no output is about each, those are named whom one is about
+about_named : {A : Type 0} (about : About A) → about.is_each ≡ false → (ticket : ℕ) (path : Text) (output : Output)
+    → covers about output ≡ true → is_named ticket path output ≡ false → is_about ticket path output ≡ false
+about_named about each ticket path (Answer its outcome) covered unnamed =
+    let parts = and_parts _ (not (tells_fields outcome) || about.is_each) covered in
+    ap (λ b. b || tells_fields outcome) unnamed ∙ fields (tells_fields outcome) parts.1
+  where
+    fields : (told : Bool) → (not told || about.is_each) ≡ true → told ≡ false
+    fields true e = sym e ∙ each
+    fields false e = refl
+about_named about each ticket path (Report at side event) covered unnamed = unnamed
+about_named about each ticket path (Enters state) covered unnamed = absurd (let e : true ≡ false = sym covered ∙ each in cc)
+about_named about each ticket path _ covered unnamed = refl
+
+pub all_named : {A : Type 0} (about : About A) → about.is_each ≡ false → (ticket : ℕ) (path : Text) (outputs : List Output)
+    → AreNoted about outputs → list_any (is_about ticket path) outputs ≡ true → list_any (is_named ticket path) outputs ≡ true
+all_named about each ticket path [] noted e = absurd cc
+all_named about each ticket path (output ∷ outputs) noted e =
+    by (is_named ticket path output) refl (all_named about each ticket path outputs noted.1)
+  where
+    by : (b : Bool) → is_named ticket path output ≡ b
+        → (list_any (is_about ticket path) outputs ≡ true → list_any (is_named ticket path) outputs ≡ true)
+        → (b || list_any (is_named ticket path) outputs) ≡ true
+    by true f rest = refl
+    by false f rest =
+        let none = about_named about each ticket path output noted.0 f in
+        rest (sym (ap (λ b. b || list_any (is_about ticket path) outputs) none) ∙ e)
+
+-- ---- who is left
+
+module _ {A : Type 0} (index : Index A) (subjects : List (Subject A)) (count : index.count ≡ length subjects)
+    (found : AreFound index subjects) where
+  within_count : (k : ℕ) → k < length subjects → k < index.count
+  within_count k within = omega (arith, within, count)
+
+  -- after a step of the client, who is not among these places rests, and no output is about it
+  pub left_by : (moment : ℕ) (view : View) (turn : Turn) (after : View) → RuleAt moment view turn after
+      → (awake places : List ℕ) → AreQuietBut view index.count subjects awake
+      → ((at : ℕ) → at < index.count → is_among at awake ≡ true → is_among at places ≡ true)
+      → ((ticket : ℕ) (path : Text) (at : ℕ) → at < index.count → has_place index.keys ticket at ≡ true
+      → has_place index.keys (key_of path) at ≡ true → list_any (is_about ticket path) turn.outputs ≡ true → is_among at places ≡ true)
+      → AreLeft after turn.outputs subjects places
+  left_by moment view turn after rule awake places quiet had about k d within none =
+      let s : Subject A = get_or subjects k d in
+      let fits = within_count k within in
+      let its = found.1 k d fits in
+      let silent : list_any (is_about s.ticket s.path) turn.outputs ≡ false =
+      unless (list_any (is_about s.ticket s.path) turn.outputs) (is_among k places) (about s.ticket s.path k fits its.0 its.1) none in
+      let asleep : is_among k awake ≡ false = unless (is_among k awake) (is_among k places) (had k fits) none in
+      (rests_at moment view turn after rule s silent (quiet_parts view s (quiet k d fits asleep)).0, silent)
+
+  -- and is quiet after the visits of others
+  pub quiet_by_step : (moment : ℕ) (view : View) (turn : Turn) (between after : View) → RuleAt moment view turn between
+      → Asks between after → (new : List (Subject A)) (awake places : List ℕ) → AreQuietBut view index.count subjects awake
+      → ((at : ℕ) → at < index.count → is_among at awake ≡ true → is_among at places ≡ true)
+      → AreLeft between turn.outputs subjects places → AreSameBut places subjects new
+      → AreQuietBut after index.count new places
+  quiet_by_step moment view turn between after rule asks new awake places quiet had left same k d fits none =
+      let s : Subject A = get_or subjects k d in
+      let within : k < length subjects = omega (arith, fits, count) in
+      let asleep : is_among k awake ≡ false = unless (is_among k awake) (is_among k places) (had k fits) none in
+      let was = quiet_parts view s (quiet k d fits asleep) in
+      subst (λ (t : Subject A). is_quiet after t ≡ true) (sym (same k d none))
+      (quiet_by after s (rests_on between after asks s (left k d within none).0) was.1)
+
+  -- those are told of among whom is each of whom there is something to tell
+  pub told_by : (view : View) (outputs : List (Made A)) (awake places : List ℕ) → AreQuietBut view index.count subjects awake
+      → ((at : ℕ) → at < index.count → is_among at awake ≡ true → is_among at places ≡ true)
+      → ((ticket : ℕ) (path : Text) (at : ℕ) → at < index.count → has_place index.keys ticket at ≡ true
+      → has_place index.keys (key_of path) at ≡ true → list_any (is_named ticket path) (said outputs) ≡ true → is_among at places ≡ true)
+      → AreTold view (said outputs) subjects places
+  told_by view outputs awake places quiet had named k d within none =
+      let s : Subject A = get_or subjects k d in
+      let fits = within_count k within in
+      let its = found.1 k d fits in
+      let unnamed : list_any (is_named s.ticket s.path) (said outputs) ≡ false =
+      unless (list_any (is_named s.ticket s.path) (said outputs)) (is_among k places) (named s.ticket s.path k fits its.0 its.1) none in
+      let asleep : is_among k awake ≡ false = unless (is_among k awake) (is_among k places) (had k fits) none in
+      (quiet k d fits asleep, named_first s.ticket s.path outputs unnamed)
+
+-- ---- the index of subjects that have changed
+
+-- with the same tickets and the same paths it is found
+pub found_still : {A : Type 0} (index : Index A) (old new : List (Subject A)) → length new ≡ length old
+    → ((k : ℕ) (d : Subject A) → k < length old
+    → ((get_or new k d).ticket ≡ (get_or old k d).ticket) × ((get_or new k d).path ≡ (get_or old k d).path))
+    → AreFound index old → AreFound index new
+found_still index old new size same found = (
+  omega (arith, found.0, size),
+  λ k d fits.
+      let within : k < length old = omega (arith, fits, found.0) in
+      let its = found.1 k d fits in
+      let equal = same k d within in (
+        ap (λ ticket. has_place index.keys ticket k) equal.0 ∙ its.0,
+        ap (λ path. has_place index.keys (key_of path) k) equal.1 ∙ its.1,
+      ),
+)
+
+module _ {A : Type 0} (now : ℕ) where
+  visit_keeps : (subject new : Subject A) → IsVisited now subject new → (new.ticket ≡ subject.ticket) × (new.path ≡ subject.path)
+  visit_keeps subject new visited = by visited.3
+    where
+      by : Visits now visited.0 subject visited.1 visited.2 new → (new.ticket ≡ subject.ticket) × (new.path ≡ subject.path)
+      by (inl kept) = elim kept.2 [
+        | inl same ↦ (ap (λ (s : Subject A). s.ticket) same, ap (λ (s : Subject A). s.path) same)
+        | inr rests ↦ (ap (λ (s : Subject A). s.ticket) rests, ap (λ (s : Subject A). s.path) rests)
+      ]
+      by (inr asked) = (
+        ap (λ (s : Subject A). s.ticket) asked.4 ∙ all_same_ticket now asked.0.outputs (record subject { progress = Progress.Reading }),
+        ap (λ (s : Subject A). s.path) asked.4 ∙ all_same_path now asked.0.outputs (record subject { progress = Progress.Reading }),
+      )
+
+  pub found_visited : (index : Index A) (outputs : List Output) (old new : List (Subject A)) → length new ≡ length old
+      → AreVisited now outputs old new → AreFound index old → AreFound index new
+  found_visited index outputs old new size visited found = found_still index old new size
+      (λ k d within.
+      let s : Subject A = get_or old k d in
+      let kept = visit_keeps (taken now outputs s) (get_or new k d) (visited k d within) in
+      (kept.0 ∙ all_same_ticket now outputs s, kept.1 ∙ all_same_path now outputs s))
+      found
+
+-- being told of changes neither
+pub found_told : {A : Type 0} (view : View) (index : Index A) (subjects : List (Subject A))
+    → AreFound index subjects → AreFound index (map (told_of view) subjects)
+found_told {A} view index subjects found = found_still index subjects (map (told_of view) subjects) (length-map subjects (told_of view))
+    (λ k d within.
+    let is = get_or-map (told_of view) subjects k d d within in
+    (ap (λ (s : Subject A). s.ticket) is, ap (λ (s : Subject A). s.path) is))
+    found
+
+-- ---- quiet ones
+
+-- stale answers are forgotten
+pub quiet_still : {A : Type 0} (view : View) (count : ℕ) (subjects : List (Subject A)) (awake : List ℕ)
+    → AreQuietBut view count subjects awake → AreQuietBut (after_forgetting view) count subjects awake
+quiet_still {A} view count subjects awake quiet k d fits none =
+    let s : Subject A = get_or subjects k d in
+    let was = quiet_parts view s (quiet k d fits none) in
+    quiet_by (after_forgetting view) s (rests_still view s was.0) was.1
+
+-- they were told of: those that were not had nothing to be told
+pub quiet_told : {A : Type 0} (view : View) (outputs : List Output) (count : ℕ) (subjects new : List (Subject A)) (places awake : List ℕ)
+    → count ≡ length subjects → new ≡ map (told_of view) subjects → AreTold view outputs subjects places
+    → ((k : ℕ) (d : Subject A) → k < length new → is_among k places ≡ true → is_among k awake ≡ false
+    → is_quiet view (get_or new k d) ≡ true)
+    → AreQuietBut view count new awake
+quiet_told {A} view outputs count subjects new places awake size mapped told quiet k d fits none = by (is_among k places) refl
+  where
+    within : k < length subjects
+    within = omega (arith, fits, size)
+
+    same_size : length new ≡ length subjects
+    same_size = ap length mapped ∙ length-map subjects (told_of view)
+
+    by : (b : Bool) → is_among k places ≡ b → is_quiet view (get_or new k d) ≡ true
+    by true e = quiet k d (omega (arith, within, same_size)) e none
+    by false e =
+        let s : Subject A = get_or subjects k d in
+        let was = (told k d within e).0 in
+        let parts = quiet_parts view s was in
+        let is : get_or new k d ≡ s =
+        ap (λ all. get_or all k d) mapped ∙ get_or-map (told_of view) subjects k d d within ∙ told_same view s parts.0 parts.1 in
+        ap (λ (t : Subject A). is_quiet view t) is ∙ was
+
+-- those that are new are awake
+pub quiet_more : {A : Type 0} (view : View) (known count : ℕ) (subjects : List (Subject A)) (old new : List ℕ)
+    → ((at : ℕ) → is_among at old ≡ true → is_among at new ≡ true)
+    → ((at : ℕ) → known ≤ at → at < count → is_among at new ≡ true)
+    → AreQuietBut view known subjects old → AreQuietBut view count subjects new
+quiet_more view known count subjects old new had woken quiet k d fits none = by (nat_lt k known) refl
+  where
+    by : (b : Bool) → nat_lt k known ≡ b → is_quiet view (get_or subjects k d) ≡ true
+    by true e =
+        let below : k < known = grind (arith, nat_tests) in
+        quiet k d below (unless (is_among k old) (is_among k new) (had k) none)
+    by false e =
+        let above : known ≤ k = grind (arith, nat_tests) in
+        absurd (let f : true ≡ false = sym (woken k above fits) ∙ none in cc)
+
+-- ---- the index is made
+
+pub found_more : {A : Type 0} (old new : Index A) (subjects : List (Subject A)) (subject : Subject A) → AreFound old subjects
+    → old.count < length subjects → subject ≡ get_or subjects old.count subject → new.count ≡ old.count + 1
+    → has_place new.keys subject.ticket old.count ≡ true → has_place new.keys (key_of subject.path) old.count ≡ true
+    → ((key at : ℕ) → has_place old.keys key at ≡ true → has_place new.keys key at ≡ true) → AreFound new subjects
+found_more {A} old new subjects subject found within is size ticket path kept = (omega (arith, size, within), each)
+  where
+    each : (k : ℕ) (d : Subject A) → k < new.count
+        → (has_place new.keys (get_or subjects k d).ticket k ≡ true) × (has_place new.keys (key_of (get_or subjects k d).path) k ≡ true)
+    each k d fits = by (nat_lt k old.count) refl
+      where
+        by : (b : Bool) → nat_lt k old.count ≡ b
+            → (has_place new.keys (get_or subjects k d).ticket k ≡ true) × (has_place new.keys (key_of (get_or subjects k d).path) k ≡ true)
+        by true e =
+            let below : k < old.count = grind (arith, nat_tests) in
+            let its = found.1 k d below in
+            (kept (get_or subjects k d).ticket k its.0, kept (key_of (get_or subjects k d).path) k its.1)
+        by false e =
+            let last : k ≡ old.count = let above : old.count ≤ k = grind (arith, nat_tests) in omega (arith, above, fits, size) in
+            let here : get_or subjects k d ≡ subject =
+            ap (λ n. get_or subjects n d) last ∙ get_or_default subjects old.count d subject within ∙ sym is in (
+              ap (λ (s : Subject A). has_place new.keys s.ticket k) here ∙ ap (has_place new.keys subject.ticket) last ∙ ticket,
+              ap (λ (s : Subject A). has_place new.keys (key_of s.path) k) here ∙ ap (has_place new.keys (key_of subject.path)) last ∙ path,
+            )
+
+-- one more place is gone over
+pub awake_more : {A : Type 0} (view : View) (subjects : List (Subject A)) (places : List ℕ) (index : ℕ) (old new : List ℕ)
+    (subject : Subject A) → index < length places → subject ≡ get_or subjects (get_or places index 0) subject
+    → ((at : ℕ) → is_among at old ≡ true → is_among at new ≡ true)
+    → (is_among (get_or places index 0) new ≡ false → is_quiet view subject ≡ true)
+    → ((k : ℕ) (d : Subject A) → k < length subjects → is_among k (take index places) ≡ true → is_among k old ≡ false
+    → is_quiet view (get_or subjects k d) ≡ true)
+    → (k : ℕ) (d : Subject A) → k < length subjects → is_among k (take (index + 1) places) ≡ true → is_among k new ≡ false
+    → is_quiet view (get_or subjects k d) ≡ true
+awake_more {A} view subjects places index old new subject within is had here before k d fits among none =
+    by (is_among k (take index places)) (k == get_or places index 0) refl refl (sym more ∙ among)
+  where
+    more : is_among k (take (index + 1) places) ≡ (is_among k (take index places) || k == get_or places index 0)
+    more = list_any_more (λ its. k == its) places index 0 within
+
+    by : (a b : Bool) → is_among k (take index places) ≡ a → (k == get_or places index 0) ≡ b → (a || b) ≡ true
+        → is_quiet view (get_or subjects k d) ≡ true
+    by true b e f g = before k d fits e (unless (is_among k old) (is_among k new) (had k) none)
+    by false true e f g =
+        let at : k ≡ get_or places index 0 = (Decides-eqb k (get_or places index 0)).0 f in
+        let s : get_or subjects k d ≡ subject =
+        get_or_default subjects k d subject fits ∙ ap (λ n. get_or subjects n subject) at ∙ sym is in
+        ap (λ (t : Subject A). is_quiet view t) s ∙ here (sym (ap (λ n. is_among n new) at) ∙ none)
+    by false false e f g = absurd cc
+
+-- ---- an index of no subject
+
+pub none_found : {A : Type 0} (index : Index A) (subjects : List (Subject A)) → index.count ≡ 0 → AreFound index subjects
+none_found index subjects none = (omega (arith, none), λ k d fits. absurd (omega (arith, fits, none)))
+
+pub none_quiet : {A : Type 0} (view : View) (count : ℕ) (subjects : List (Subject A)) (awake : List ℕ) → count ≡ 0
+    → AreQuietBut view count subjects awake
+none_quiet view count subjects awake none k d fits away = absurd (omega (arith, fits, none))
+
+-- a subject that comes last is not in the index
+pub found_after : {A : Type 0} (index : Index A) (subjects : List (Subject A)) (last : Subject A)
+    → AreFound index subjects → AreFound index (subjects ++ last ∷ [])
+found_after index subjects last found = (
+  omega (arith, found.0, length-append subjects (last ∷ [])),
+  λ k d fits.
+      let its = found.1 k d fits in
+      let same = get_or_append_left subjects (last ∷ []) d k (omega (arith, fits, found.0)) in (
+        ap (λ (s : Subject _). has_place index.keys s.ticket k) same ∙ its.0,
+        ap (λ (s : Subject _). has_place index.keys (key_of s.path) k) same ∙ its.1,
+      ),
+)
+
+pub quiet_after : {A : Type 0} (view : View) (count : ℕ) (subjects : List (Subject A)) (last : Subject A) (awake : List ℕ)
+    → count ≤ length subjects → AreQuietBut view count subjects awake → AreQuietBut view count (subjects ++ last ∷ []) awake
+quiet_after view count subjects last awake within quiet k d fits none =
+    ap (λ (s : Subject _). is_quiet view s) (get_or_append_left subjects (last ∷ []) d k (omega (arith, fits, within)))
+    ∙ quiet k d fits none
+
+-- one output more is gone over
+pub named_more : {A : Type 0} (test : Output → Bool) (outputs : List (Made A)) (index : ℕ) (item : Made A)
+    → index < length outputs → item ≡ get_or outputs index item → list_any test (said (take (index + 1) outputs)) ≡ true
+    → (list_any test (said (take index outputs)) ≡ true) ⊎ (test (output_view item) ≡ true)
+named_more {A} test outputs index item within is e = by (list_any test (said (take index outputs))) refl (sym more ∙ e)
+  where
+    more : list_any test (said (take (index + 1) outputs)) ≡ (list_any test (said (take index outputs)) || test (output_view item))
+    more =
+        any_said test (take (index + 1) outputs) ∙ list_any_more (λ (o : Made A). test (output_view o)) outputs index item within
+        ∙ ap (λ b. b || test (output_view (get_or outputs index item))) (sym (any_said test (take index outputs)))
+        ∙ ap (λ (o : Made A). list_any test (said (take index outputs)) || test (output_view o)) (sym is)
+
+    by : (b : Bool) → list_any test (said (take index outputs)) ≡ b → (b || test (output_view item)) ≡ true
+        → (list_any test (said (take index outputs)) ≡ true) ⊎ (test (output_view item) ≡ true)
+    by true f g = inl f
+    by false f g = inr g
+
+-- the same of what is found
+pub about_by : {A E V : Type 0} (items : V → List ℕ) (about : About A) → about.is_each ≡ false → (index : Index A) (outputs : List Output)
+    → AreNoted about outputs → (result : Result V E)
+    → IfOk result (λ all. (ticket : ℕ) (path : Text) (at : ℕ) → at < index.count → has_place index.keys ticket at ≡ true
+    → has_place index.keys (key_of path) at ≡ true → list_any (is_named ticket path) outputs ≡ true → is_among at (items all) ≡ true)
+    → IfOk result (λ all. (ticket : ℕ) (path : Text) (at : ℕ) → at < index.count → has_place index.keys ticket at ≡ true
+    → has_place index.keys (key_of path) at ≡ true → list_any (is_about ticket path) outputs ≡ true → is_among at (items all) ≡ true)
+about_by items about each index outputs noted (Ok all) named = λ ticket path at fits its other e.
+    named ticket path at fits its other (all_named about each ticket path outputs noted e)
+about_by items about each index outputs noted (Err fault) named = named
+
+-- one more is among them
+pub woken_more : (at place : ℕ) (places : List ℕ) → (at < place → is_among at places ≡ true) → at < place + 1
+    → is_among at (places ++ place ∷ []) ≡ true
+woken_more at place places had below = by (nat_lt at place) refl
+  where
+    by : (b : Bool) → nat_lt at place ≡ b → is_among at (places ++ place ∷ []) ≡ true
+    by true e = let before : at < place = grind (arith, nat_tests) in among_before at place places (had before)
+    by false e =
+        let is : at ≡ place = let above : place ≤ at = grind (arith, nat_tests) in omega (arith, above, below) in
+        ap (λ n. is_among n (places ++ place ∷ [])) is ∙ among_last place places

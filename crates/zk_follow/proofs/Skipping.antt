@@ -1,0 +1,278 @@
+-- Places in order are gone over one after the other: between two of them there is none.
+use Rattle.std.proofs.Common.{◌≡◌, ◌≢◌, ◌≤◌, ◌<◌, ◌+◌, ◌++◌, ◌∙◌, ℕ, zero, suc, Bool, true, false, List, [], ◌∷◌, length, get_or, set}
+use Rattle.std.proofs.Common.{drop, map, take, refl, sym, ap, subst, arith, append_assoc, ◌-◌}
+use Rattle.std.specs.Prelude.{◌==◌, nat_lt, All}
+use Rattle.std.specs.List.{flat_map}
+use Rattle.std.proofs.lemmas.List.{append-nil, get_or_default, get_or-set_other, set-get_or}
+use Rattle.std.proofs.lemmas.List.Edits.{map_over_more}
+use Rattle.std.proofs.lemmas.List.Folds.{list_any_at, list_any_none}
+use Rattle.std.proofs.lemmas.Bool.Decides.{Decides-eqb, nat_tests}
+use Rattle.zk_turns.specs.Turns.{Output}
+use Rattle.zk_turns.specs.View.{View}
+use Rattle.zk_follow.specs.declared.subject.Subject.{Subject}
+use Rattle.zk_follow.specs.Following.{is_among, news_in, taken, told_of, IsCounted, IsFollowed, IsVisited}
+use Rattle.zk_follow.specs.inner.Following.{Asks}
+use Rattle.zk_follow.specs.inner.Places.{AreSameBut, IsAscending}
+use Rattle.zk_follow.specs.declared.news.News.{News}
+use Rattle.zk_follow.specs.inner.Resting.{AreLeft, AreTold}
+use Rattle.zk_follow.proofs.Visiting.{is_visited, more_visited, one_more_visited, same_after, AllBefore, SameFrom, StandsAt, VisitedBefore}
+use Rattle.zk_follow.proofs.Resting.{nothing_told, quiet_parts, rest_counted_as, rest_followed, rest_visits, rests_on, told_same}
+use Rattle.zk_follow.proofs.Telling.{at_seam, flat_more}
+use Rattle.std.proofs.lemmas.Grind.{get_or_default_zero}
+
+-- ---- between places
+
+-- where the part begins that comes after so many places
+abbrev pub start_of : List ℕ → ℕ → ℕ
+start_of places zero = 0
+start_of places (suc count) = get_or places count 0 + 1
+
+pub start_next : (places : List ℕ) (count : ℕ) → start_of places (count + 1) ≡ get_or places count 0 + 1
+start_next places count = let e : count + 1 ≡ suc count = omega arith in ap (start_of places) e
+
+module _ (places : List ℕ) (ascend : IsAscending places) where
+  pub start_low : (count : ℕ) → count < length places → start_of places count ≤ get_or places count 0
+  start_low zero within = omega arith
+  start_low (suc count) within =
+      let less : get_or places count 0 < get_or places (suc count) 0 = ascend count (suc count) (omega arith) within in
+      omega (arith, less)
+
+  low : (count j : ℕ) → j < count → count ≤ length places → get_or places j 0 < start_of places count
+  low zero j less within = absurd (omega (arith, less))
+  low (suc count) j less within = by (nat_lt j count) refl
+    where
+      by : (b : Bool) → nat_lt j count ≡ b → get_or places j 0 < get_or places count 0 + 1
+      by true e =
+          let before : j < count = grind (arith, nat_tests) in
+          let rises : get_or places j 0 < get_or places count 0 = ascend j count before (omega (arith, within)) in
+          omega (arith, rises)
+      by false e =
+          let is : j ≡ count = grind (arith, nat_tests) in
+          let same : get_or places j 0 ≡ get_or places count 0 = ap (λ n. get_or places n 0) is in
+          omega (arith, same)
+
+  high : (count j : ℕ) → count ≤ j → j < length places → get_or places count 0 ≤ get_or places j 0
+  high count j le within = by (nat_lt count j) refl
+    where
+      by : (b : Bool) → nat_lt count j ≡ b → get_or places count 0 ≤ get_or places j 0
+      by true e =
+          let before : count < j = grind (arith, nat_tests) in
+          let rises : get_or places count 0 < get_or places j 0 = ascend count j before within in
+          omega (arith, rises)
+      by false e =
+          let is : count ≡ j = grind (arith, nat_tests) in
+          let same : get_or places count 0 ≡ get_or places j 0 = ap (λ n. get_or places n 0) is in
+          omega (arith, same)
+
+  -- what is after those before a place, and before that place, is none of them
+  pub between : (count k : ℕ) → count ≤ length places → start_of places count ≤ k → (count < length places → k < get_or places count 0)
+      → is_among k places ≡ false
+  between count k fits after before = list_any_none (λ its. k == its) places none
+    where
+      differs : (its : ℕ) → k ≢ its → (k == its) ≡ false
+      differs its other = by (k == its) refl
+        where
+          by : (b : Bool) → (k == its) ≡ b → b ≡ false
+          by true e = absurd (other ((Decides-eqb k its).0 e))
+          by false e = refl
+
+      none : All (λ its. (k == its) ≡ false) places
+      none j d within = by (nat_lt j count) refl
+        where
+          is : get_or places j d ≡ get_or places j 0
+          is = get_or_default_zero places j d within
+
+          by : (b : Bool) → nat_lt j count ≡ b → (k == get_or places j d) ≡ false
+          by true e =
+              let earlier : j < count = grind (arith, nat_tests) in
+              let less = low count j earlier fits in
+              differs (get_or places j d) (λ same. omega (arith, less, is, same, after))
+          by false e =
+              let later : count ≤ j = grind (arith, nat_tests) in
+              let more = high count j later within in
+              let has : count < length places = omega (arith, later, within) in
+              let under = before has in
+              differs (get_or places j d) (λ same. omega (arith, more, is, same, under))
+
+-- ---- a walk, step by step
+
+pub walk : (P : ℕ → Type 0) (from count : ℕ) → ((k : ℕ) → from ≤ k → k < from + count → P k → P (k + 1)) → P from → P (from + count)
+walk P from zero step p = let e : from ≡ from + 0 = omega arith in subst P e p
+walk P from (suc count) step p =
+    let e : (from + count) + 1 ≡ from + suc count = omega arith in
+    subst P e (step (from + count) (omega arith) (omega arith) (walk P from count (λ k low below. step k low (omega (arith, below))) p))
+
+pub walk_to : (P : ℕ → Type 0) (from to : ℕ) → from ≤ to → ((k : ℕ) → from ≤ k → k < to → P k → P (k + 1)) → P from → P to
+walk_to P from to le step p =
+    let e : from + (to - from) ≡ to = omega (arith, le) in
+    subst P e (walk P from (to - from) (λ k low below. step k low (omega (arith, below, e))) p)
+
+-- ---- visits
+
+-- Those before a place are followed and were visited, and those from it on are as they were.
+pub record Seam {A : Type 0} (now : ℕ) (outputs : List Output) (view : View) (first subjects : List (Subject A)) (place : ℕ) : Type 0 where
+  pub before : AllBefore place (StandsAt now view) subjects
+  pub visited : VisitedBefore place now outputs first subjects
+  pub rest_of : SameFrom place subjects first
+
+-- Who is none of the places is as after a visit.
+pub skip : {A : Type 0} (now : ℕ) (outputs : List Output) (old view : View) → Asks old view → (first subjects : List (Subject A))
+    (places : List ℕ) → AreLeft old outputs first places → (from to : ℕ) → from ≤ to → to ≤ length first
+    → ((k : ℕ) → from ≤ k → k < to → is_among k places ≡ false)
+    → Seam now outputs view first subjects from → Seam now outputs view first subjects to
+skip {A} now outputs old view asks first subjects places left from to le fits none seam = record {
+  before = λ k d below. (each k d below).0;
+  visited = λ k d below. (each k d below).1;
+  rest_of = λ k d after. seam.rest_of k d (omega (arith, le, after));
+}
+  where
+    each : (k : ℕ) (d : Subject A) → k < to
+        → StandsAt now view (get_or subjects k d) × IsVisited now (taken now outputs (get_or first k d)) (get_or subjects k d)
+    each k d below = by (nat_lt k from) refl
+      where
+        by : (b : Bool) → nat_lt k from ≡ b
+            → StandsAt now view (get_or subjects k d) × IsVisited now (taken now outputs (get_or first k d)) (get_or subjects k d)
+        by true e =
+            let earlier : k < from = grind (arith, nat_tests) in
+            (seam.before k d earlier, seam.visited k d earlier)
+        by false e =
+            let later : from ≤ k = grind (arith, nat_tests) in
+            let within : k < length first = omega (arith, below, fits) in
+            let s : Subject A = get_or first k d in
+            let rests = left k d within (none k later below) in
+            let rest = rests_on old view asks s rests.0 in
+            subst (λ (t : Subject A). StandsAt now view t × IsVisited now (taken now outputs s) t) (sym (seam.rest_of k d later)) (
+              (rest_followed now view s rest, rest_counted_as now view s rest),
+              is_visited now view [] (taken now outputs s) view [] s (rest_visits now view s rest outputs rests.1 []),
+            )
+
+-- ---- telling
+
+-- Those before a place are changed and what there is of them is added.
+pub record Told {X Y : Type 0} (f : X → X) (g : X → List Y) (first now : List X) (old more : List Y) (place : ℕ) : Type 0 where
+  pub subjects : now ≡ map f (take place first) ++ drop place first
+  pub all : more ≡ old ++ flat_map g (take place first)
+
+-- Of whom there is nothing, and who does not change, is as before.
+pub pass : {X Y : Type 0} (f : X → X) (g : X → List Y) (first now : List X) (old all : List Y) (from to : ℕ)
+    → from ≤ to → to ≤ length first
+    → ((k : ℕ) (d : X) → from ≤ k → k < to → (f (get_or first k d) ≡ get_or first k d) × (g (get_or first k d) ≡ []))
+    → Told f g first now old all from → Told f g first now old all to
+pass f g [] now old all from to le fits none told = let e : from ≡ to = omega (arith, le, fits) in subst (Told f g [] now old all) e told
+pass {X} f g (d ∷ more) now old all from to le fits none told = walk_to (Told f g (d ∷ more) now old all) from to le step told
+  where
+    step : (k : ℕ) → from ≤ k → k < to → Told f g (d ∷ more) now old all k → Told f g (d ∷ more) now old all (k + 1)
+    step k low below told =
+        let item : X = get_or (d ∷ more) k d in
+        let within : k < length (d ∷ more) = omega (arith, fits, below) in
+        let nothing = none k d low below in
+        let its : item ≡ get_or (d ∷ more) k item = get_or_default (d ∷ more) k d item within in
+        let here : item ≡ get_or now k item = its ∙ sym (at_seam f (d ∷ more) now k item within told.subjects) in
+        record {
+          subjects = sym (set-get_or now k item) ∙ ap (set now k) (sym here ∙ sym nothing.0)
+              ∙ map_over_more f (d ∷ more) now k item within told.subjects here;
+          all = told.all ∙ ap (λ news. old ++ news) (sym (flat_more g (d ∷ more) k item within its
+              ∙ ap (λ news. flat_map g (take k (d ∷ more)) ++ news) nothing.1
+              ∙ append-nil (flat_map g (take k (d ∷ more)))));
+        }
+
+-- ---- one visit more
+
+-- of another place than this one
+not_at : (places : List ℕ) (index k : ℕ) → index < length places → is_among k places ≡ false → k ≢ get_or places index 0
+not_at places index k within none same =
+    let f : true ≡ false =
+    sym (list_any_at (λ its. k == its) places index 0 within ((Decides-eqb k (get_or places index 0)).1 same)) ∙ none in
+    cc
+
+pub same_more : {X : Type 0} (places : List ℕ) (index : ℕ) (first all : List X) (new : X) → index < length places
+    → AreSameBut places first all → AreSameBut places first (set all (get_or places index 0) new)
+same_more places index first all new within same k d none =
+    get_or-set_other all (get_or places index 0) k new d (not_at places index k within none) ∙ same k d none
+
+module _ {A : Type 0} (now : ℕ) (outputs : List Output) (first subjects : List (Subject A)) (places : List ℕ) (index : ℕ)
+    (ascend : IsAscending places) (below : All (λ at. at < length first) places) (within : index < length places) where
+  abbrev pub place : ℕ
+  place = get_or places index 0
+
+  pub is_within : place < length first
+  is_within = below index 0 within
+
+  -- up to the place that is visited next
+  pub at_place : (old view : View) → Asks old view → AreLeft old outputs first places
+      → Seam now outputs view first subjects (start_of places index) → Seam now outputs view first subjects place
+  at_place old view asks left seam =
+      skip now outputs old view asks first subjects places left (start_of places index) place (start_low places ascend index within)
+      (omega (arith, is_within)) (λ k low high. between places ascend index k (omega (arith, within)) low (λ has. high)) seam
+
+  pub visited_more : (old view after : View) → Asks old view → Asks view after → AreLeft old outputs first places
+      → length subjects ≡ length first → (new : Subject A) → IsFollowed now after new → IsCounted after new
+      → IsVisited now (taken now outputs (get_or subjects place new)) new
+      → Seam now outputs view first subjects (start_of places index)
+      → Seam now outputs after first (set subjects place new) (start_of places (index + 1))
+  visited_more old view after asks more left size new followed counted visited seam =
+      let here = at_place old view asks left seam in
+      let fits : place < length subjects = omega (arith, is_within, size) in
+      subst (Seam now outputs after first (set subjects place new)) (sym (start_next places index)) (record {
+        before = more_visited now view after more subjects place new fits followed counted here.before;
+        visited = one_more_visited now outputs first subjects place (get_or subjects place new) new is_within fits
+            (get_or_default subjects place new (get_or subjects place new) fits) here.rest_of visited here.visited;
+        rest_of = same_after subjects first place new here.rest_of;
+      })
+
+-- after the last place
+pub at_end : {A : Type 0} (now : ℕ) (outputs : List Output) (first subjects : List (Subject A)) (places : List ℕ) (index : ℕ)
+    → IsAscending places → All (λ at. at < length first) places → index ≡ length places
+    → (old view : View) → Asks old view → AreLeft old outputs first places
+    → Seam now outputs view first subjects (start_of places index) → Seam now outputs view first subjects (length first)
+at_end now outputs first subjects places index ascend below end old view asks left seam =
+    skip now outputs old view asks first subjects places left (start_of places index) (length first) (start_within index end)
+    (omega arith) (λ k low high. between places ascend index k (omega (arith, end)) low (λ has. absurd (omega (arith, has, end)))) seam
+  where
+    start_within : (count : ℕ) → count ≡ length places → start_of places count ≤ length first
+    start_within zero e = omega arith
+    start_within (suc count) e = let fits = below count 0 (omega (arith, e)) in omega (arith, fits)
+
+-- ---- one more is told of
+
+module _ {A : Type 0} (view : View) (outputs : List Output) (first subjects : List (Subject A)) (old all : List (ℕ × News))
+    (places : List ℕ) (index : ℕ) (ascend : IsAscending places) (below : All (λ at. at < length first) places)
+    (told : AreTold view outputs first places) where
+  abbrev T : List (Subject A) → List (ℕ × News) → ℕ → Type 0
+  T now more place = Told (told_of view) (news_in view outputs) first now old more place
+
+  -- there is nothing to tell of those between
+  pass_to : (to : ℕ) → start_of places index ≤ to → to ≤ length first
+      → ((k : ℕ) → start_of places index ≤ k → k < to → is_among k places ≡ false)
+      → T subjects all (start_of places index) → T subjects all to
+  pass_to to le fits none =
+      pass (told_of view) (news_in view outputs) first subjects old all (start_of places index) to le fits
+      (λ k d low high.
+      let its = told k d (omega (arith, high, fits)) (none k low high) in
+      let parts = quiet_parts view (get_or first k d) its.0 in
+      (told_same view (get_or first k d) parts.0 parts.1, nothing_told view (get_or first k d) parts.0 parts.1 outputs its.1))
+
+  pub told_more : index < length places → (more : List (ℕ × News)) (item new : Subject A) → length subjects ≡ length first
+      → item ≡ get_or subjects (get_or places index 0) item → new ≡ told_of view item → more ≡ all ++ news_in view outputs item
+      → T subjects all (start_of places index) → T (set subjects (get_or places index 0) new) more (start_of places (index + 1))
+  told_more within more item new size is its added before =
+      let place : ℕ = get_or places index 0 in
+      let fits : place < length first = below index 0 within in
+      let here = pass_to place (start_low places ascend index within) (omega (arith, fits))
+      (λ k low high. between places ascend index k (omega (arith, within)) low (λ has. high)) before in
+      let was : item ≡ get_or first place item = is ∙ at_seam (told_of view) first subjects place item fits here.subjects in
+      subst (T (set subjects place new) more) (sym (start_next places index)) (record {
+        subjects = ap (set subjects place) its ∙ map_over_more (told_of view) first subjects place item fits here.subjects is;
+        all = added ∙ ap (λ news. news ++ news_in view outputs item) here.all
+            ∙ append_assoc old (flat_map (news_in view outputs) (take place first)) (news_in view outputs item)
+            ∙ ap (λ news. old ++ news) (sym (flat_more (news_in view outputs) first place item fits was));
+      })
+
+  pub told_end : index ≡ length places → T subjects all (start_of places index) → T subjects all (length first)
+  told_end end before =
+      pass_to (length first) (start_within index end) (omega arith)
+      (λ k low high. between places ascend index k (omega (arith, end)) low (λ has. absurd (omega (arith, has, end)))) before
+    where
+      start_within : (count : ℕ) → count ≡ length places → start_of places count ≤ length first
+      start_within zero e = omega arith
+      start_within (suc count) e = let fits = below count 0 (omega (arith, e)) in omega (arith, fits)

@@ -1,0 +1,21 @@
+-- One more place is there, and those that were; what was quiet stays so, and what is new is awake: `quiet_more`.
+use Rattle.std.proofs.Common.{◌∙◌, ap, arith, sym, subst}
+use Rattle.zk_follow.specs.Following.{is_among, AreQuietBut}
+use Rattle.zk_follow.proofs.Finding.{quiet_more, woken_more}
+use Rattle.zk_follow.proofs.Placing.{among_before}
+use Rattle.zk_follow.proofs.index.fit_all.Goals as goal
+
+pub loop-place-preserved : goal.loop-place-preserved
+loop-place-preserved g c = record {
+  had = λ at e. ap (is_among at) c.in_ok-push.ensures.items
+      ∙ among_before at c.loop-place.place c.loop-place.awake.items (c.loop-place.invariant.had at e);
+  woken = λ at above below. ap (is_among at) c.in_ok-push.ensures.items
+      ∙ woken_more at c.loop-place.place c.loop-place.awake.items (c.loop-place.invariant.woken at above) below;
+}
+
+pub returns-clause-rest : goal.returns-clause-rest
+returns-clause-rest g c = λ view quiet.
+    quiet_more view c.count-known.result c.fit.new.self.count c.args.subjects.now c.args.awake.now.items c.loop-place.awake.items
+    c.loop-place.invariant.had
+    (λ at above below. c.loop-place.invariant.woken at above (omega (arith, below, c.loop-place-test.false, c.in_ok-fit.ensures.count)))
+    (subst (λ n. AreQuietBut view n c.args.subjects.now c.args.awake.now.items) (sym c.count-known.ensures) quiet)

@@ -1,0 +1,61 @@
+-- Each turn tells of one subject more: `told_more`. Between two places there is nothing to tell, and after the last one: `told_end`.
+use Rattle.std.proofs.Common.{◌≡◌, ◌<◌, ◌∙◌, ◌++◌, ap, arith, get_or, length, refl, subst, sym, rules}
+use Rattle.std.specs.List.{flat_map}
+use Rattle.std.proofs.lemmas.List.{append-nil, length-set, take_all}
+use Rattle.zk_client.specs.Clients.{view_of}
+use Rattle.zk_client.specs.Views.{said}
+use Rattle.zk_follow.specs.Following.{news_in, told_of}
+use Rattle.zk_follow.proofs.Skipping.{told_more, told_end}
+use Rattle.zk_follow.proofs.Telling.{whole_mapped}
+use Rattle.zk_follow.proofs.news.tell_each.Goals as goal
+
+pub loop-place-init : goal.loop-place-init
+loop-place-init g c = record { size = refl; told = record { subjects = refl; all = sym (append-nil c.args.all.now.items) } }
+
+pub bounds-subjects-place : goal.bounds-subjects-place
+bounds-subjects-place g c =
+    let fits = c.requires.below c.loop-place.place-index 0 c.loop-place-test.true in
+    omega (arith, fits, c.loop-place.invariant.size)
+
+pub loop-place-preserved : goal.loop-place-preserved
+loop-place-preserved g c =
+    let view = view_of c.args.client.now in
+    let outputs = said c.args.outputs.now in
+    let subjects = c.loop-place.subjects in
+    let place = get_or c.args.places.now c.loop-place.place-index 0 in
+    let item = get_or subjects place c.index-subjects-place.result in
+    record {
+      size = length-set subjects place c.report.new.self ∙ c.loop-place.invariant.size;
+      told = told_more view outputs c.args.subjects.now subjects c.args.all.now.items c.loop-place.all.items c.args.places.now
+          c.loop-place.place-index c.requires.ascend c.requires.below c.requires.told c.loop-place-test.true c.report.new.all.items item
+          c.report.new.self c.loop-place.invariant.size (ap (get_or subjects place) c.index-subjects-place.is) c.report.ensures.told
+          c.in_ok-report.ensures.news c.loop-place.invariant.told;
+    }
+
+pub returns-clause-told : goal.returns-clause-told
+returns-clause-told g c =
+    let end : c.loop-place.place-index ≡ length c.args.places.now =
+    omega (arith, c.loop-place-test.false, c.loop-place.auto.place-index-end) in
+    let whole = told_end (view_of c.args.client.now) (said c.args.outputs.now) c.args.subjects.now c.loop-place.subjects
+    c.args.all.now.items c.loop-place.all.items c.args.places.now c.loop-place.place-index c.requires.ascend c.requires.below
+    c.requires.told end c.loop-place.invariant.told in
+    whole.subjects ∙ whole_mapped (told_of (view_of c.args.client.now)) c.args.subjects.now (length c.args.subjects.now) (omega arith)
+
+pub returns-clause-news : goal.returns-clause-news
+returns-clause-news g c =
+    let first = c.args.subjects.now in
+    let end : c.loop-place.place-index ≡ length c.args.places.now =
+    omega (arith, c.loop-place-test.false, c.loop-place.auto.place-index-end) in
+    let whole = told_end (view_of c.args.client.now) (said c.args.outputs.now) first c.loop-place.subjects
+    c.args.all.now.items c.loop-place.all.items c.args.places.now c.loop-place.place-index c.requires.ascend c.requires.below
+    c.requires.told end c.loop-place.invariant.told in
+    let news = news_in (view_of c.args.client.now) (said c.args.outputs.now) in
+    subst (λ all. c.loop-place.all.items ≡ c.args.all.now.items ++ flat_map news all)
+    (take_all (length first) first (omega arith)) whole.all
+
+pub offset_bounds-subjects-place : goal.offset_bounds-subjects-place
+offset_bounds-subjects-place g c =
+    let fits = c.requires.below c.loop-place.place-index 0 c.loop-place-test.true in
+    let less : get_or c.args.places.now c.loop-place.place-index 0 < length c.loop-place.subjects =
+    omega (arith, fits, c.loop-place.invariant.size) in
+    search rules

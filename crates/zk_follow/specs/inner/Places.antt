@@ -1,0 +1,20 @@
+-- What contracts of private functions say of places: nobody has to believe it.
+use Rattle.std.specs.Prelude.{◌≡◌, ◌<◌, ◌==◌, ℕ, Bool, false, List, length, bytes_eq, slice_index_or}
+use Rattle.zk_nodes.specs.Path.{Text}
+use Rattle.zk_turns.specs.Turns.{Output}
+use Rattle.zk_turns.specs.Turns as turns
+use Rattle.zk_follow.specs.Following.{is_among}
+
+-- each is below the next
+abbrev pub IsAscending : List ℕ → Type 0
+IsAscending places = (i j : ℕ) → i < j → j < length places → slice_index_or places i 0 < slice_index_or places j 0
+
+-- whether an output names a subject of this ticket and this path
+abbrev pub is_named : ℕ → Text → Output → Bool
+is_named ticket path (turns.Answer its outcome) = ticket == its
+is_named ticket path (turns.Report at side event) = bytes_eq at path
+is_named ticket path _ = false
+
+-- Those are as they were whose places are not among these.
+abbrev pub AreSameBut : {X : Type 0} → (places : List ℕ) → (old new : List X) → Type 0
+AreSameBut {X} places old new = (k : ℕ) (d : X) → is_among k places ≡ false → slice_index_or new k d ≡ slice_index_or old k d

@@ -1,0 +1,202 @@
+//! Which subjects outputs name, found in a time that does not rise with the number of subjects.
+
+ghost use Rattle.std.specs.Prelude.{◌≡◌, ◌<◌, ◌+◌, ◌-◌, ◌^◌, ℕ, All, true, false, length, IfOk, OnOk};
+ghost use Rattle.std.specs.List.{list_any};
+ghost use Rattle.zk_nodes.specs.Path.{Text};
+ghost use Rattle.zk_client.specs.Views.{output_view, said};
+ghost use Rattle.zk_follow.specs.inner.Resting.{is_about, AreCovered};
+ghost use Rattle.zk_follow.specs.Places.{has_place, key_of, AreFound};
+ghost use Rattle.zk_follow.specs.inner.Places.{is_named, IsAscending};
+ghost use Rattle.zk_follow.specs.Following.{AreQuietBut};
+ghost use Rattle.zk_follow.specs.Following.{is_among};
+ghost use Rattle.zk_turns.specs.View.{View};
+
+use crate::about::About;
+use crate::places::{Places, add_below, all_below, key_of, put_in_order};
+use crate::subject::Subject;
+use std::alloc::{AllocError, Allocator};
+use zk_client::Output;
+
+/// The places of the first subjects by their tickets, and by the keys of their paths.
+#[derive(Drop)]
+pub(crate) struct Index<A: Allocator + Copy> {
+    keys: Places<A>,
+    count: usize,
+}
+
+impl<A: Allocator + Copy> Index<A> {
+    /// An index of no subject.
+    pub(crate) fn new(alloc: A) -> Index<A>
+        ensures { result.count ≡ 0 }
+    {
+        Index {
+            keys: Places::new(alloc),
+            count: 0,
+        }
+    }
+
+    /// How many subjects it is of.
+    pub(crate) fn count(&self) -> usize
+        ensures { result ≡ self.now.count }
+    {
+        self.count
+    }
+
+    /// Adds the next subject. An error means that memory ran out.
+    fn add(&mut self, subject: &Subject<A>) -> Result<(), AllocError>
+        requires sized { 0 < length self.old.keys.buckets.items }
+        requires fits { self.old.count < 2 ^ 64 - 1 }
+        ensures size { length self.new.keys.buckets.items ≡ length self.old.keys.buckets.items }
+        ensures count { OnOk result (self.new.count ≡ self.old.count + 1) }
+        ensures ticket { OnOk result (has_place self.new.keys subject.now.ticket self.old.count ≡ true) }
+        ensures path { OnOk result (has_place self.new.keys (key_of subject.now.path) self.old.count ≡ true) }
+        ensures kept { OnOk result ((key at : ℕ) → has_place self.old.keys key at ≡ true → has_place self.new.keys key at ≡ true) }
+    {
+        self.keys.put(subject.ticket, self.count)?;
+        self.keys.put(key_of(subject.path.as_str()), self.count)?;
+        self.count += 1;
+        Ok(())
+    }
+
+    /// Adds the subjects that are not in it. An error means that memory ran out.
+    fn add_all(&mut self, subjects: &[Subject<A>]) -> Result<(), AllocError>
+        requires sized { 0 < length self.old.keys.buckets.items }
+        requires found { AreFound self.old subjects.now }
+        ensures sized { OnOk result (0 < length self.new.keys.buckets.items) }
+        ensures count { OnOk result (self.new.count ≡ length subjects.now) }
+        ensures found { OnOk result (AreFound self.new subjects.now) }
+    {
+        while self.count < subjects.len() {
+            self.add(&subjects[self.count])?;
+        }
+        Ok(())
+    }
+
+    /// Makes room for all of these, of which it is an index of the first: more buckets than subjects. An error means that memory ran out.
+    fn grow(&mut self, alloc: A, subjects: &[Subject<A>]) -> Result<(), AllocError>
+        requires { AreFound self.old subjects.now }
+        ensures sized { OnOk result (0 < length self.new.keys.buckets.items) }
+        ensures found { OnOk result (AreFound self.new subjects.now) }
+    {
+        if subjects.len() < self.keys.size() {
+            return Ok(());
+        }
+        let size = subjects.len().saturating_mul(2).saturating_add(16);
+        self.keys = Places::sized(alloc, size)?;
+        self.count = 0;
+        Ok(())
+    }
+
+    /// Becomes an index of all of these, of which it is one of the first. An error means that memory ran out.
+    fn fit(&mut self, alloc: A, subjects: &[Subject<A>]) -> Result<(), AllocError>
+        requires { AreFound self.old subjects.now }
+        ensures sized { OnOk result (0 < length self.new.keys.buckets.items) }
+        ensures count { OnOk result (self.new.count ≡ length subjects.now) }
+        ensures found { OnOk result (AreFound self.new subjects.now) }
+    {
+        self.grow(alloc, subjects)?;
+        self.add_all(subjects)
+    }
+
+    /// Adds the places of those that an output names: by the ticket of an answer, or the path of a report.
+    fn add_named(&self, output: &Output<A>, all: &mut Vec<usize, A>) -> Result<(), AllocError>
+        requires { 0 < length self.now.keys.buckets.items }
+        ensures below { OnOk result (All (λ at. at < self.now.count) all.old.items → All (λ at. at < self.now.count) all.new.items) }
+        ensures had { OnOk result ((at : ℕ) → at < self.now.count → is_among at all.old.items ≡ true → is_among at all.new.items ≡ true) }
+        ensures named { OnOk result ((ticket : ℕ) (path : Text) (at : ℕ) → at < self.now.count
+            → has_place self.now.keys ticket at ≡ true → has_place self.now.keys (key_of path) at ≡ true
+            → is_named ticket path (output_view output.now) ≡ true → is_among at all.new.items ≡ true) }
+    {
+        match output {
+            Output::Answer { ticket, .. } => self.keys.add_at(*ticket, self.count, all),
+            Output::Report { path, .. } => self.keys.add_at(key_of(path.as_str()), self.count, all),
+            _ => Ok(()),
+        }
+    }
+
+    /// Adds the places of those that outputs name.
+    fn add_all_named(
+        &self,
+        outputs: &[Output<A>],
+        all: &mut Vec<usize, A>,
+    ) -> Result<(), AllocError>
+        requires { 0 < length self.now.keys.buckets.items }
+        ensures below { OnOk result (All (λ at. at < self.now.count) all.old.items → All (λ at. at < self.now.count) all.new.items) }
+        ensures had { OnOk result ((at : ℕ) → at < self.now.count → is_among at all.old.items ≡ true → is_among at all.new.items ≡ true) }
+        ensures named { OnOk result ((ticket : ℕ) (path : Text) (at : ℕ) → at < self.now.count
+            → has_place self.now.keys ticket at ≡ true → has_place self.now.keys (key_of path) at ≡ true
+            → list_any (is_named ticket path) (said outputs.now) ≡ true → is_among at all.new.items ≡ true) }
+    {
+        for output in outputs {
+            self.add_named(output, all)?;
+        }
+        Ok(())
+    }
+
+    /// The places of these, and of those that outputs name, in order. An error means that memory ran out.
+    pub(crate) fn with_named(
+        &self,
+        alloc: A,
+        places: &[usize],
+        outputs: &[Output<A>],
+    ) -> Result<Vec<usize, A>, AllocError>
+        requires { 0 < length self.now.keys.buckets.items }
+        ensures ascend { IfOk result (λ all. IsAscending all.items) }
+        ensures below { IfOk result (λ all. All (λ at. at < self.now.count) all.items) }
+        ensures had { IfOk result (λ all. (at : ℕ) → at < self.now.count → is_among at places.now ≡ true → is_among at all.items ≡ true) }
+        ensures named { IfOk result (λ all. (ticket : ℕ) (path : Text) (at : ℕ) → at < self.now.count
+            → has_place self.now.keys ticket at ≡ true → has_place self.now.keys (key_of path) at ≡ true
+            → list_any (is_named ticket path) (said outputs.now) ≡ true → is_among at all.items ≡ true) }
+    {
+        let mut all = Vec::new(alloc);
+        add_below(places, self.count, &mut all)?;
+        self.add_all_named(outputs, &mut all)?;
+        put_in_order(&mut all);
+        Ok(all)
+    }
+
+    /// The places of these, and of those that outputs may be about, in order. An error means that memory ran out.
+    pub(crate) fn with_those_about(
+        &self,
+        alloc: A,
+        places: &[usize],
+        about: &About<A>,
+        outputs: &[Output<A>],
+    ) -> Result<Vec<usize, A>, AllocError>
+        requires sized { 0 < length self.now.keys.buckets.items }
+        requires covered { AreCovered about.now (said outputs.now) }
+        ensures ascend { IfOk result (λ all. IsAscending all.items) }
+        ensures below { IfOk result (λ all. All (λ at. at < self.now.count) all.items) }
+        ensures had { IfOk result (λ all. (at : ℕ) → at < self.now.count → is_among at places.now ≡ true → is_among at all.items ≡ true) }
+        ensures about { IfOk result (λ all. (ticket : ℕ) (path : Text) (at : ℕ) → at < self.now.count
+            → has_place self.now.keys ticket at ≡ true → has_place self.now.keys (key_of path) at ≡ true
+            → list_any (is_about ticket path) (said outputs.now) ≡ true → is_among at all.items ≡ true) }
+    {
+        if about.is_about_each() {
+            return all_below(alloc, self.count);
+        }
+        self.with_named(alloc, places, outputs)
+    }
+}
+
+/// Adds the subjects that the index lacks to it, and to those that may not be quiet. An error means that memory ran out.
+pub(crate) fn fit_all<A: Allocator + Copy>(
+    alloc: A,
+    subjects: &[Subject<A>],
+    index: &mut Index<A>,
+    awake: &mut Vec<usize, A>,
+) -> Result<(), AllocError>
+    requires { AreFound index.old subjects.now }
+    ensures sized { OnOk result (0 < length index.new.keys.buckets.items) }
+    ensures count { OnOk result (index.new.count ≡ length subjects.now) }
+    ensures found { OnOk result (AreFound index.new subjects.now) }
+    ensures rest { OnOk result ((view : View) → AreQuietBut view index.old.count subjects.now awake.old.items
+        → AreQuietBut view index.new.count subjects.now awake.new.items) }
+{
+    let known = index.count();
+    index.fit(alloc, subjects)?;
+    for place in known..subjects.len() {
+        awake.push(place)?;
+    }
+    Ok(())
+}
