@@ -26,7 +26,7 @@
  *   - malloc, realloc and free are those of one allocator, whose blocks are aligned to 16 bytes;
  *   - a bool is 0 or 1, and this header is that of the library that is linked: dw_version tells that one.
  *
- * What the library promises, and is proved of each function, whatever comes in:
+ * What the library promises, and is proved of each function and of whoever used a handle by these functions alone, whatever comes in:
  *   - an answer that is marked good is what the servers' history has at the last seen zxid;
  *   - each watch is reported once at most, and the answer that it was left with is stale from then on;
  *   - a reply goes to the call that has waited longest, and each call is answered once, unless the client halts before;

@@ -281,5 +281,40 @@ class MachineTest(unittest.TestCase):
             self._rows("machine/raw_requests.txt", case.rows, SpelledPlay())
 
 
+class PiecesTest(unittest.TestCase):
+    """A session with memory goes on, whatever the sizes of the pieces in which bytes come. No clause says that it does not halt."""
+
+    NOW = 100
+    BESIDE = 92
+    """The bytes of a reply to getData, with its length, beside those of the data."""
+    SIZES = (*range(1, 1_200), *range(1_200, 66_000, 113), 20_001, 59_999, 65_535, 65_536, 65_537)
+
+    def setUp(self) -> None:
+        self.session, self.xid = Handle("dw_session_"), 0
+        self.session.call("open", TIMEOUT_MS, 1, 1)
+        accepted = struct.pack(">iiiqi16s?", 37, 0, TIMEOUT_MS, 1, 16, b"", False)
+        steps = (("moment",), ("opened",), ("bytes", accepted))
+        self.assertEqual([self.session.call(name, self.NOW, *rest) for name, *rest in steps], [declared.OK] * 3)
+
+    def _answer(self, length: int, *cuts: int) -> list[int]:
+        """Asks, and hands in a reply with so many bytes of data, cut at these places. The lengths of the answers that are told."""
+        self.xid += 1
+        self.assertEqual(self.session.call("get_data", self.NOW, self.xid, NO_LIMIT, b"/a", False), declared.OK)
+        reply = struct.pack(">iqii", self.xid, self.xid, 0, length) + b"d" * length + bytes(68)
+        frame, told = struct.pack(">i", len(reply)) + reply, []
+        for begin, end in zip((0, *cuts), (*cuts, len(frame))):
+            self.assertEqual(self.session.call("bytes", self.NOW, frame[begin:end]), declared.OK, (length, begin, end))
+            told += [output.length for output in self.session.outputs() if output.kind == declared.ANSWER]
+        return told
+
+    def test_a_frame_of_each_size_that_comes_whole(self) -> None:
+        for size in filter(lambda size: size >= self.BESIDE, self.SIZES):
+            self.assertEqual(self._answer(size - self.BESIDE), [size - self.BESIDE])
+
+    def test_a_frame_that_is_held_at_each_size(self) -> None:
+        for size in self.SIZES:
+            self.assertEqual(self._answer(size, size), [size])
+
+
 if __name__ == "__main__":
     unittest.main()

@@ -3,6 +3,7 @@ pub mod Held
 pub mod Kept
 pub mod Lives
 pub mod SessionLives
+pub mod SessionPasts
 pub mod Sessions
 pub mod Stood
 pub mod inner

@@ -2,6 +2,7 @@
 
 ghost use Rattle.ffi_c.specs.Lives.{HoldsForLife, SameForLife};
 ghost use Rattle.ffi_c.specs.SessionLives.{SoundForLife};
+ghost use Rattle.ffi_c.specs.SessionPasts.{CoherentForLife};
 
 /// Whoever took a handle of zeros, used it by the functions of this library alone, one after the other and whatever they answered, and has
 /// a client in it has all of [`holds`](zk_client::holds) for the turns that the steps were since the client was made or renewed, with
@@ -22,4 +23,16 @@ pub fn same_for_life()
 /// whose subjects are good, or being read, or why not, and of whose calls each is on its way, or why not, and none is past its limit.
 pub fn sound_for_life()
     ensures { SoundForLife }
+{}
+
+/// Whoever took a session's handle of zeros, used it by the functions of this library alone, one after the other and whatever they
+/// answered, and has a session in it has all of [`holds`](zk_client::holds) for the turns of its client since the session began: opened,
+/// resumed, or renewed after an expiry. The bytes that these turns heard, and the beginnings and ends of connections, are those that were
+/// handed in; after memory ran out within a step, only that they are turns. Each report of them was told once, and no other; and each call
+/// that was asked was settled once, or waits.
+///
+/// So the good answers are those of any servers of the model that sent these bytes, whose history the conclusions of `zk_conclusions` are
+/// about, at the paths where the servers keep to the model.
+pub fn coherent_for_life()
+    ensures { CoherentForLife }
 {}
