@@ -46,11 +46,14 @@ class Handle:
         self._prefix, self._handle = prefix, declared._Handle()
 
     def call(self, name: str, *words: Any) -> int:
-        """Calls the function of this name with these parameters, in which bytes stand before their length."""
-        spelled: list[Any] = []
+        """Calls the function of this name with these parameters, in which bytes stand before their length. A function that Python's client does not
+        declare, as those of a dw_client, gets each number in eight bytes, of which it reads those that its type has."""
+        function, spelled = getattr(declared._library, self._prefix + name), list[Any]()
         for word in words:
             spelled += [word, len(word)] if isinstance(word, bytes) else [word]
-        return int(getattr(declared._library, self._prefix + name)(byref(self._handle), *spelled))
+        if function.argtypes is None:
+            spelled = [c_uint64(word) if isinstance(word, int) else word for word in spelled]
+        return int(function(byref(self._handle), *spelled))
 
     def outputs(self) -> Iterator[declared._Output]:
         """The outputs of the last step."""
