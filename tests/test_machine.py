@@ -8,7 +8,7 @@ from __future__ import annotations
 import struct
 import unittest
 from ctypes import byref, c_int64, create_string_buffer
-from typing import Callable
+from typing import Any, Callable
 
 from machine import (
     LONGEST_FRAME,
@@ -293,7 +293,7 @@ class PiecesTest(unittest.TestCase):
         self.session, self.xid = Handle("dw_session_"), 0
         self.session.call("open", TIMEOUT_MS, 1, 1)
         accepted = struct.pack(">iiiqi16s?", 37, 0, TIMEOUT_MS, 1, 16, b"", False)
-        steps = (("moment",), ("opened",), ("bytes", accepted))
+        steps: list[list[Any]] = [["moment"], ["opened"], ["bytes", accepted]]
         self.assertEqual([self.session.call(name, self.NOW, *rest) for name, *rest in steps], [declared.OK] * 3)
 
     def _answer(self, length: int, *cuts: int) -> list[int]:
