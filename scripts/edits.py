@@ -23,6 +23,7 @@ from dataclasses import dataclass
 from functools import cache, cached_property
 from pathlib import Path
 
+from pins import end_of_angles
 from repository import CRATES, TOP, crates_listed, tracked
 
 GATE = TOP / "scripts/gate_bodies.txt"
@@ -222,14 +223,8 @@ def owner_of(text: str, start: int, indent: int) -> tuple[str, bool]:
 
 def split_generics(text: str) -> tuple[set[str], str]:
     """The type parameters of an impl, and what stands after them."""
-    if not text.startswith("<"):
-        return set(), text.strip()
-    depth = 0
-    for at, letter in enumerate(text):
-        depth += (letter == "<") - (letter == ">" and text[at - 1] != "-")
-        if not depth:
-            return set(re.findall(r"(?:^|, )(\w+)", text[1:at])), text[at + 1 :].strip()
-    return set(), text
+    end = end_of_angles(text) if text.startswith("<") else 0
+    return set(re.findall(r"(?:^|, )(\w+)", text[1 : max(1, end - 1)])), text[end:].strip()
 
 
 def spelled(kind: str, given: set[str]) -> str:

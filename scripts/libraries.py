@@ -21,7 +21,7 @@ from pathlib import Path
 from types import ModuleType
 from typing import Any
 
-from repository import CRATES, TOP, crates_listed
+from repository import CRATES, TOP, crates_below
 
 MEMORY = 3_700_000_000
 PREBUILT = TOP / "prebuilt/x86_64-linux"
@@ -93,14 +93,6 @@ def take(rt: ModuleType, libraries: list[Any]) -> list[str]:
 # What is made of it
 
 
-def crates_with(*names: str, top: Path = TOP) -> list[str]:
-    """These crates of a checkout and those of it that they use, lowest first."""
-    listed, found = crates_listed(top), {*names}
-    for crate in reversed(listed):
-        found |= {*listed[crate]} if crate in found else set()
-    return [crate for crate in listed if crate in found]
-
-
 def sum_of(data: bytes) -> str:
     return hashlib.sha256(data).hexdigest()
 
@@ -108,7 +100,7 @@ def sum_of(data: bytes) -> str:
 def sum_of_sources(name: str) -> str:
     """A checksum of all that an archive is made from: the sources, specifications and proofs of its crate and of the crates below it."""
     summed = hashlib.sha256()
-    for crate in sorted(crates_with(name)):
+    for crate in sorted((name, *crates_below()[name])):
         for path in (path for part in ("src", "specs", "proofs") for path in sorted((CRATES / crate / part).glob("**/*")) if path.is_file()):
             summed.update(f"{path.relative_to(TOP).as_posix()}\0{sum_of(path.read_bytes())}\n".encode())
     return summed.hexdigest()
@@ -119,9 +111,3 @@ def said_by(*words: str) -> str:
     if not shutil.which(words[0]):
         return "none"
     return subprocess.run(words, capture_output=True, text=True, check=True).stdout.splitlines()[0].strip()
-
-
-def fields_of(text: str) -> dict[str, str]:
-    """The fields of a file MADE, whose lines are `NAME: VALUE`."""
-    lines = [line.partition(": ") for line in text.splitlines()]
-    return {name: value for name, _, value in lines}

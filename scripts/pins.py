@@ -317,7 +317,7 @@ def fields(lines: list[str]) -> list[list[str]]:
 
 
 def definitions(lines: list[str]) -> Iterator[Definition]:
-    """The definitions of a file of specs/, each with the modules that are around it."""
+    """The definitions of a file of specs/, each with the modules that are around it. A line that is of none is one by itself, so that each is pinned."""
     around: list[str] = []
     current: Definition | None = None
     is_open = False
@@ -330,8 +330,8 @@ def definitions(lines: list[str]) -> Iterator[Definition]:
         around = around if indent else []
         found = DEFINITION.match(line.lstrip())
         if indent > 2 * len(around) or not found or not is_head(line.strip()):
-            if current:
-                current.lines.append(line)
+            current = current or Definition("", line.split()[0].rstrip(":"), around, [])
+            current.lines.append(line)
             continue
         if current:
             yield current

@@ -456,17 +456,6 @@ def wrong() -> Iterator[str]:
     yield from wrong_places(kinds[-1])
 
 
-def listed() -> Iterator[str]:
-    """A row a file: how many lines the client names, the crates theory_ add, and the rest of the library adds; and the names, those that are added
-    with one mark or two."""
-    client, theory, library = believed()
-    marks = {key: "" if key in client else "+" if key in theory else "++" for key in library}
-    counts = added([lines_of(keys) for keys in (client, theory, library)])
-    for file in sorted({definitions[key].file for key in library}):
-        names = sorted(f"{marks[key]}{key[1]}" for key in library if definitions[key].file == file and " " not in key[1])
-        yield f"{file} ({'+'.join(str(one[file]) for one in counts)}): {' '.join(names)}"
-
-
 def crates_of_lemmas() -> set[str]:
     """The crates that name what is in proofs/ of ours, in clauses of public functions or in specs/."""
     texts = [(path.relative_to(CRATES).parts[0], path.read_text(encoding="utf-8")) for path in CRATES.glob("*/specs/**/*.antt")]

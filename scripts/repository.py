@@ -37,9 +37,9 @@ def texts_of(*folders: str) -> dict[str, str]:
 
 
 @cache
-def crates_listed(top: Path = TOP) -> dict[str, list[str]]:
+def crates_listed() -> dict[str, list[str]]:
     """Each crate of crates.txt, lowest first, with all that are in its line."""
-    lines = [line.split("#")[0] for line in (top / "crates.txt").read_text(encoding="utf-8").splitlines()]
+    lines = [line.split("#")[0] for line in (TOP / "crates.txt").read_text(encoding="utf-8").splitlines()]
     return {line.split(":")[0].split()[0]: line.split(":")[1].split() for line in lines if line.strip()}
 
 

@@ -1,5 +1,193 @@
-# The parts of scripts/clients that try many sessions at once, for that script, which sources this: on an ensemble whose servers are killed, at a
-# server that is away for longer than an outage, and beside one that hangs back.
+# The parts of scripts/clients that try many sessions at once, for that script, which sources this: through outages that are shorter than the
+# timeout of a session, on an ensemble whose servers are killed, at a server that is away for longer than that, and beside one that hangs back.
+
+# Ends a server at once: it has no time to say or to write anything.
+kill_server() {
+    kill -KILL "${servers[$1]}"
+    wait "${servers[$1]}" 2>/dev/null || true
+    unset "servers[$1]"
+}
+
+# This moment, in seconds of the system's clock.
+moment() {
+    date +%s.%3N
+}
+
+# Waits for up to 60 seconds until each of the servers at these ports serves, and prints the moment from which on all do. It is told some 20
+# milliseconds late.
+serve_since() {
+    python3 - "$@" <<'EOF'
+import socket, sys, time
+
+
+def serves(port):
+    try:
+        with socket.create_connection(("127.0.0.1", port), 2) as asked:
+            asked.sendall(b"srvr")
+            return b"Mode: " in asked.makefile("rb").read()
+    except OSError:
+        return False
+
+
+end = time.monotonic() + 60
+while not all(serves(int(port)) for port in sys.argv[1:]):
+    if time.monotonic() > end:
+        sys.exit(1)
+    time.sleep(0.02)
+print(f"{time.time():.3f}")
+EOF
+}
+
+# This many ways to the server at a port, by a name; each is at this port, or at a free one. Their ports are in NAME.port. While the file NAME.hold is
+# there, they pass nothing on and end nothing, as where a cable is out. Where NAME.close is there, each is closed for as many seconds as that
+# says, right after its client has sent something; and then the file is gone.
+start_ways() {
+    python3 - "$folder/$1" "${@:2}" <<'EOF' &
+import asyncio, os, sys
+
+name, target, count, own = sys.argv[1], *map(int, sys.argv[2:])
+
+
+class Way:
+    async def open(self, own):
+        self.listener = await asyncio.start_server(self.enter, "127.0.0.1", own)
+        self.port = self.listener.sockets[0].getsockname()[1]
+        self.connections = []
+        self.is_heard = asyncio.Event()
+
+    async def enter(self, reader, writer):
+        try:
+            server_reader, server_writer = await asyncio.open_connection("127.0.0.1", target)
+        except ConnectionError:
+            return writer.close()
+        self.connections += [writer, server_writer]
+        await asyncio.gather(self.pass_on(reader, server_writer, True), self.pass_on(server_reader, writer, False))
+
+    async def pass_on(self, reader, writer, is_client):
+        try:
+            while data := await reader.read(65536):
+                while os.path.exists(name + ".hold"):
+                    await asyncio.sleep(0.05)
+                writer.write(data)
+                await writer.drain()
+                if is_client:
+                    self.is_heard.set()
+        except ConnectionError:
+            pass
+        writer.close()
+
+    async def close(self, seconds):
+        self.is_heard.clear()
+        await self.is_heard.wait()
+        await asyncio.sleep(0.02)
+        self.listener.close()
+        for writer in self.connections:
+            writer.transport.abort()
+        await asyncio.sleep(seconds)
+        await self.open(self.port)
+
+
+async def main():
+    ways = [Way() for _ in range(count)]
+    for way in ways:
+        await way.open(own)
+    with open(name + ".new", "w") as file:
+        print(*(way.port for way in ways), file=file)
+    os.rename(name + ".new", name + ".port")
+    while True:
+        await asyncio.sleep(0.1)
+        if os.path.exists(name + ".close"):
+            seconds = float(open(name + ".close").read())
+            await asyncio.gather(*(way.close(seconds) for way in ways))
+            os.remove(name + ".close")
+
+
+asyncio.run(main())
+EOF
+    begun[$1]=$!
+    within 20 test -e "$folder/$1.port" || fail "no way $1"
+}
+
+# Six ways to the server at a port, the doors.
+start_doors() {
+    start_ways doors "$1" 6 0
+}
+
+# A way from a port to another one, by a name.
+start_way() {
+    start_ways "$1" "$3" 1 "$2"
+}
+
+# The sessions of ten seconds that have connections to the server at a port.
+sessions_at() {
+    (exec 3<>"/dev/tcp/127.0.0.1/$1" && printf cons >&3 && timeout 5 sed -n '/,to=10000,/s/.*,sid=\([^,]*\),.*/\1/p' <&3 | sort) 2>/dev/null
+}
+
+has_six_sessions() {
+    [[ $(sessions_at "$1" | wc -l) == 6 ]]
+}
+
+doors_are_open() {
+    [[ ! -e $folder/doors.close ]]
+}
+
+# Sets the command that follows a node by the client of a language, and builds what it runs.
+set_follower() {
+    case $1 in
+    c)
+        needs "${compiler[0]}" make
+        bounded 60 make -C clients/c
+        follower=(clients/c/out/follow)
+        ;;
+    rust)
+        needs cargo
+        bounded 120 cargo build "${rust[@]}" --example follow
+        follower=(cargo run --quiet "${rust[@]}" --example follow --)
+        ;;
+    python)
+        needs python3
+        follower=(python3 clients/python/examples/follow.py)
+        ;;
+    esac
+}
+
+all_print() {
+    local number
+    for number in 1 2 3 4 5 6; do
+        grep -qw "$1" "$folder/printed$number.log" || return 1
+    done
+}
+
+# Six followers with sessions of ten seconds live through an outage of this many seconds, which begins when the server has just heard them.
+try_outage() {
+    local port=$1 seconds=$2 before
+    before=$(sessions_at "$port")
+    echo "$seconds" >"$folder/doors.new"
+    mv "$folder/doors.new" "$folder/doors.close"
+    within 30 doors_are_open || fail "the doors stay closed"
+    outside "$port" set /follow "after-$seconds"
+    within 30 all_print "after-$seconds" || fail "a follower does not print 'after-$seconds'"
+    [[ $(sessions_at "$port") == "$before" ]] || fail "an outage of $seconds seconds has lost a session"
+}
+
+try_outages() {
+    local port number seconds
+    local -a doors
+    have_servers
+    set_follower "$1"
+    serve_alone one
+    outside "$port" create /follow begin
+    start_doors "$port"
+    read -ra doors <"$folder/doors.port"
+    for number in 1 2 3 4 5 6; do
+        "${follower[@]}" "127.0.0.1:${doors[number - 1]}" /follow >"$folder/printed$number.log" 2>"$folder/said$number.log" &
+        begun[follower$number]=$!
+    done
+    within 40 has_six_sessions "$port" || fail "six followers have no six sessions of ten seconds"
+    for seconds in 6.6 7.5 9.0; do
+        try_outage "$port" "$seconds"
+    done
+}
 
 # Sets the command that opens many sessions by the client of a language, and builds what it runs.
 set_crowd() {

@@ -1,4 +1,4 @@
-// Contenders of Curator, for real_server.py and trials/real_server.sh:
+// Contenders of Curator, for real_server.py:
 //
 //   java -cp JARS CuratorContenders.java HOST:PORT/ROOT PATH JUDGE COUNT ROUNDS lock|readwrite [FILE]
 //
