@@ -66,6 +66,7 @@ enum {
     DWS_LONGEST_SAVED = 256, /* the most bytes of a session that is taken up after memory ran out */
     DWS_LONGEST_LINE = 5120, /* the most bytes of a message with a path */
     DWS_MOST_NODES = 65536,  /* the most nodes of a tree, where a program says nothing else: as many as the library watches */
+    DWS_PAUSE_MS = 100,      /* the first pause before a call is asked again; each further one is twice as long, up to a second */
     DWS_SHARE = 10,          /* a look at a whole tree takes at most this part of the time: after one that took long, the next one waits */
     DWS_LATE = 99,           /* why a call was not answered: its limit has come after it was sent, and it may have happened, or may yet */
     DWS_REFUSED = 100        /* why a call was not asked: DWS_REFUSED less what the library answered, which is below 0 */
@@ -76,6 +77,7 @@ typedef struct dws_call dws_call;
 typedef struct dws_subject dws_subject;
 typedef struct dws_tree dws_tree;
 typedef struct dws_wire dws_wire;
+typedef struct dws_observation dws_observation;
 
 /* What a session tells besides, with the server and words. */
 enum dws_event {
@@ -87,6 +89,24 @@ enum dws_event {
     DWS_CLOSED,         /* it was closed, as it was asked */
     DWS_BARRED,         /* the server does not take the credentials of the session, which is over: requests.h */
     DWS_FAILED          /* memory ran out: the session is over */
+};
+
+/* What is observed of a session, for counters and traces. stats.h counts it. */
+enum dws_observed {
+    DWS_SAW_EVENT,     /* `event`, with `cause`, `server` and `words` */
+    DWS_SAW_ANSWER,    /* `call` has its answer, or will have none: `path` and `took_us` */
+    DWS_SAW_BYTES_IN,  /* this many `bytes` were read of the connection */
+    DWS_SAW_BYTES_OUT  /* they were written to it */
+};
+struct dws_observation {
+    enum dws_observed kind;
+    enum dws_event event;
+    int32_t cause; /* of DWS_CUT, one of enum dw_cause; 0 where the server or the network has ended the connection */
+    const char *server, *words;
+    const dws_call *call;
+    const char *path; /* about which the call is, as the program has named it; NULL where it is about none */
+    uint64_t took_us; /* since the call was asked; 0 where it was not */
+    size_t bytes;
 };
 
 /* A connection, for the callbacks of TLS. */
@@ -112,6 +132,9 @@ typedef struct dws_options {
     ssize_t (*read)(dws_wire *wire, void *room, size_t size, void *context);
     ssize_t (*write)(dws_wire *wire, const void *bytes, size_t size, void *context);
     void *context;          /* is passed to read and write; dws_context gives it */
+    /* Is told what is observed, with `observer`. It looks, and neither asks nor ends anything. */
+    void (*observe)(dws_session *session, const dws_observation *seen, void *observer);
+    void *observer;
 } dws_options;
 
 enum dws_kind { DWS_EXISTS, DWS_GET, DWS_CHILDREN, DWS_SET, DWS_CREATE, DWS_DELETE, DWS_CLOSE, DWS_RAW /* requests.h */ };
@@ -127,6 +150,12 @@ struct dws_bytes {
 struct dws_call {
     void (*then)(dws_session *session, dws_call *call); /* called once with the answer, if it is not NULL: set it before it is asked */
     void *context;                                      /* the program's own */
+    /* Called once where what a read with a watch has found is another thing, with `event`; 0 is that the watch went with its session. Set it before
+     * it is asked: then the call lives until this is called, or dws_unwatch. It may be asked again there. */
+    void (*changed)(dws_session *session, dws_call *call);
+    int32_t limit_ms;                                   /* how long it waits in all; 0 is as the options say; below 0 there is no limit */
+    int tries;                                          /* how often it is asked again within its limit where that is safe: dws_may_repeat */
+    enum dw_event event;                                /* of `changed` */
     /* The answer. */
     bool is_answered;
     int32_t why;      /* 0, or the server's code, below 0, or enum dw_outcome, DWS_LATE, or above DWS_REFUSED. dws_words has words */
@@ -144,9 +173,10 @@ struct dws_call {
     size_t room, names_room;
     bool watch, is_null_sent, is_patient; /* the last one: it has no limit */
     int32_t number; /* the version, the mode, or the operation of DWS_RAW */
-    uint64_t ticket, until_ms;
+    uint64_t ticket, until_ms, asked_us, again_ms; /* the last two: when it was asked, if that is observed, and when it is asked again */
+    int tried;
     const struct dws_record *record; /* of DWS_RAW */
-    dws_call *next;
+    dws_call *next, *watched;        /* the next one of its line, and of those that watch or are to be told */
 };
 
 /* A node, or the names of its children, that is read again after each change. What is kept of it: */
@@ -266,6 +296,17 @@ static inline dws_call *dws_create(dws_session *s, dws_call *call, const char *p
 /* Deletes a node that has this version, and no children; -1 is any. */
 static inline dws_call *dws_delete(dws_session *s, dws_call *call, const char *path, int32_t version);
 
+/* Whether a call that has failed is safe to be asked again, and of use: it has not happened, or changes nothing, and the reason passes, as that the
+ * server has too much to do, or that the session has expired and another one has begun. A write that may have happened is not. */
+static inline bool dws_may_repeat(const dws_session *s, const dws_call *call);
+
+/* Has `changed` of a call be called no more. */
+static inline void dws_unwatch(dws_session *s, dws_call *call);
+
+/* Dials these hosts from the next attempt on, in a new order. A connection that is there stays. False where the text is no such thing or has another
+ * chroot than the session, or memory ran out: then nothing is changed, and `why`, which has `size` bytes and may be NULL with none, says so. */
+static inline bool dws_set_hosts(dws_session *s, const char *hosts, char *why, size_t size);
+
 /* Tells the servers who the session is, in the words of a scheme, as `digest` and `user:password`: this connection at once, and each later one before
  * anything else. Where a server does not take that, DWS_BARRED is told, the session is over, and each call fails with the code -115; where the library
  * does not, since both have more than 1,048,555 bytes or the scheme is no UTF-8, DWS_FAILED is told. Credentials cross the network as they are: use TLS.
@@ -278,7 +319,7 @@ static inline int32_t dws_wait(dws_session *s, dws_call *call);
 /* Writes why a call has failed, in words: the reason, the path, and what to do. */
 static inline void dws_words(dws_session *s, const dws_call *call, char *room, size_t size);
 
-/* Frees what a call holds that is answered, or was never asked. */
+/* Frees what a call holds that is answered, or was never asked, and whose `changed` waits for nothing. */
 static inline void dws_release(dws_call *call);
 
 /* Follows the data of a node: `changed` is called with what is kept of it, at first and at each change of that or of its mark. So it is
@@ -414,12 +455,14 @@ struct dws_session {
     struct dws_host *hosts;
     size_t host_count, place, dials;   /* which one is to be dialled, and how many times one was */
     char server[DWS_LONGEST_HOST + 8]; /* the one that was dialled last */
+    char dialled[DWS_LONGEST_HOST];    /* its name */
     char trouble[256];                 /* what became of the last attempt */
     dws_wire wire;
     short read_wants, write_wants;     /* what poll is to wait for besides, to read and to write */
     bool is_dial_due, is_connecting, is_expired, is_closing, is_over, is_resumed;
     bool has_more, has_news;           /* bytes that poll does not tell of, and something that a program may wait for */
     bool must_follow, must_introduce;  /* subjects or trees are new or gone; credentials are new */
+    bool must_list;                    /* the hosts are others */
     bool is_acting;                    /* what a step says is being taken */
     bool is_unread;                    /* a reply does not read */
     bool is_moment;                    /* what the library says is due, and no word of the server's */
@@ -430,6 +473,9 @@ struct dws_session {
     struct dws_bytes unsent;
     uint8_t *large;                    /* room for a large piece, or NULL */
     struct dws_line queue, sent;       /* calls that are to be asked, and those that were, in the order of their tickets */
+    struct dws_line again;             /* those that are asked again when their moment has come */
+    dws_call *watching, *fired;        /* those whose `changed` waits, and is to be called */
+    int32_t cause;                     /* why the connection is given up that is told next, or 0 */
     struct dws_line answered;          /* those that this step has answered, whose callbacks come when all that it says is taken */
     dws_call close;
     struct dws_errand *errands;
@@ -920,8 +966,54 @@ static inline void dws_wipe(void *at, size_t length)
     }
 }
 
+/* ---- Observing. ---- */
+
+static inline void dws_observe(dws_session *s, const dws_observation *seen)
+{
+    if (s->options.observe != NULL) {
+        s->options.observe(s, seen, s->options.observer);
+    }
+}
+
+static inline void dws_observe_event(dws_session *s, enum dws_event event, const char *words)
+{
+    dws_observation seen;
+    memset(&seen, 0, sizeof seen);
+    seen.kind = DWS_SAW_EVENT;
+    seen.event = event;
+    seen.cause = s->cause;
+    seen.server = s->server;
+    seen.words = words;
+    s->cause = 0;
+    dws_observe(s, &seen);
+}
+
+static inline void dws_observe_bytes(dws_session *s, enum dws_observed kind, size_t count)
+{
+    dws_observation seen;
+    memset(&seen, 0, sizeof seen);
+    seen.kind = kind;
+    seen.bytes = count;
+    dws_observe(s, &seen);
+}
+
+static inline const char *dws_inner(const dws_session *s, const char *path);
+static inline uint64_t dws_now_us(void);
+
+static inline void dws_observe_answer(dws_session *s, const dws_call *call)
+{
+    dws_observation seen;
+    memset(&seen, 0, sizeof seen);
+    seen.kind = DWS_SAW_ANSWER;
+    seen.call = call;
+    seen.path = call->path != NULL ? dws_inner(s, call->path) : NULL;
+    seen.took_us = s->options.observe != NULL && call->asked_us != 0 ? dws_now_us() - call->asked_us : 0;
+    dws_observe(s, &seen);
+}
+
 static inline void dws_tell(dws_session *s, enum dws_event event, const char *words)
 {
+    dws_observe_event(s, event, words);
     if (s->options.told != NULL) {
         dws_mark(s);
         s->options.told(s, event, s->server, words);
@@ -961,11 +1053,147 @@ static inline void dws_call_back(dws_session *s, dws_call *call)
     }
 }
 
+/* ---- Calls that are asked again, and those that are told when something changes. ---- */
+
+/* Whether a call changes nothing. */
+static inline bool dws_is_read(const dws_call *call)
+{
+    switch (call->kind) {
+    case DWS_EXISTS:
+    case DWS_GET:
+    case DWS_CHILDREN: return true;
+    case DWS_RAW:
+        return call->number == DW_OPERATION_SYNC || call->number == DW_OPERATION_GET_ACL || call->number == DW_OPERATION_MULTI_READ
+            || call->number == DW_OPERATION_GET_EPHEMERALS || call->number == DW_OPERATION_GET_ALL_CHILDREN_NUMBER
+            || call->number == DW_OPERATION_WHO_AM_I;
+    default: return false;
+    }
+}
+
+static inline bool dws_is_busy(int32_t code);
+
+static inline bool dws_may_repeat(const dws_session *s, const dws_call *call)
+{
+    int32_t why = call->why;
+    if (s->is_over || s->is_closing || call->kind == DWS_CLOSE) {
+        return false;
+    }
+    if (why == DW_OUTCOME_LOST || why == DWS_LATE || why == DW_CODE_CONNECTION_LOSS) {
+        return dws_is_read(call);
+    }
+    return why == DW_OUTCOME_EXPIRED || why == DW_OUTCOME_NOT_CONNECTED || dws_is_busy(why);
+}
+
+/* Has a call asked again after a pause, where it is to be, that is safe, and there is time for it. */
+static inline bool dws_ask_later(dws_session *s, dws_call *call)
+{
+    uint64_t pause_ms = (uint64_t)DWS_PAUSE_MS << (call->tried < 4 ? call->tried : 4);
+    pause_ms = pause_ms < 1000 ? pause_ms : 1000;
+    if (call->tried >= call->tries || !dws_may_repeat(s, call) || s->now_ms + pause_ms >= call->until_ms) {
+        return false;
+    }
+    call->tried++;
+    call->again_ms = s->now_ms + pause_ms;
+    dws_append(&s->again, call);
+    return true;
+}
+
+/* Puts calls into the queue whose moment has come. */
+static inline void dws_queue_again(dws_session *s)
+{
+    for (dws_call **at = &s->again.first; s->again.count > 0 && *at != NULL;) {
+        if ((*at)->again_ms <= s->now_ms) {
+            dws_append(&s->queue, dws_remove(&s->again, at));
+        } else {
+            at = &(*at)->next;
+        }
+    }
+}
+
+/* When the first call is asked again. */
+static inline uint64_t dws_again_due(const dws_session *s)
+{
+    uint64_t first = UINT64_MAX;
+    for (const dws_call *call = s->again.count > 0 ? s->again.first : NULL; call != NULL; call = call->next) {
+        first = call->again_ms < first ? call->again_ms : first;
+    }
+    return first;
+}
+
+static inline void dws_unwatch(dws_session *s, dws_call *call)
+{
+    dws_call **lists[] = {&s->watching, &s->fired};
+    for (int i = 0; i < 2; i++) {
+        dws_call **at = lists[i];
+        while (*at != NULL && *at != call) {
+            at = &(*at)->watched;
+        }
+        if (*at != NULL) {
+            *at = call->watched;
+            call->watched = NULL;
+        }
+    }
+}
+
+/* A read with a watch is answered: where there is one now, it is told. */
+static inline void dws_watch(dws_session *s, dws_call *call, int32_t why)
+{
+    bool leaves_watch = why == 0 || (why == DW_CODE_NO_NODE && call->kind == DWS_EXISTS);
+    if (call->watch && call->changed != NULL && leaves_watch) {
+        dws_unwatch(s, call);
+        call->watched = s->watching;
+        s->watching = call;
+    }
+}
+
+/* A watch of a path is over, or where that is NULL each one: who waits for it is to be told when the step is whole. */
+static inline void dws_fire(dws_session *s, const char *path, enum dw_side side, enum dw_event event)
+{
+    for (dws_call **at = &s->watching; *at != NULL;) {
+        dws_call *call = *at, **last = &s->fired;
+        enum dw_side watched = call->kind == DWS_CHILDREN ? DW_SIDE_CHILDREN : DW_SIDE_DATA;
+        if (path != NULL && (watched != side || strcmp(call->path, path) != 0)) {
+            at = &call->watched;
+            continue;
+        }
+        while (*last != NULL) {
+            last = &(*last)->watched;
+        }
+        *at = call->watched;
+        call->watched = NULL;
+        call->event = event;
+        *last = call;
+    }
+}
+
+/* Tells calls that something has changed. One whose answer is not told yet waits for that. */
+static inline void dws_call_changed(dws_session *s)
+{
+    for (dws_call **at = &s->fired; *at != NULL;) {
+        dws_call *call = *at;
+        if (!call->is_answered) {
+            at = &call->watched;
+            continue;
+        }
+        *at = call->watched;
+        call->watched = NULL;
+        dws_mark(s);
+        s->has_news = true;
+        call->changed(s, call);
+        at = &s->fired; /* it may have changed them */
+    }
+}
+
 /* Answers a call: within a step it is told so at the end. A step is whole before the library says anything of it, so the last zxid is that of all of
  * it, and a mark may end by what is said last. */
 static inline void dws_finish(dws_session *s, dws_call *call, int32_t why)
 {
     call->why = why;
+    if (dws_ask_later(s, call)) {
+        return;
+    }
+    dws_observe_answer(s, call);
+    call->asked_us = 0;
     if (s->is_acting) {
         dws_append(&s->answered, call);
     } else {
@@ -976,8 +1204,10 @@ static inline void dws_finish(dws_session *s, dws_call *call, int32_t why)
 /* Tells all calls that a step has answered. */
 static inline void dws_call_all_back(dws_session *s)
 {
+    dws_call_changed(s);
     while (s->answered.count > 0) {
         dws_call_back(s, dws_remove(&s->answered, &s->answered.first));
+        dws_call_changed(s);
     }
 }
 
@@ -1045,6 +1275,7 @@ static inline void dws_answer_rest(dws_session *s)
         dws_call_all_back(s);
         dws_finish_all(s, &s->sent, may_happen ? (int32_t)DW_OUTCOME_LOST : dws_why_over(s));
         dws_finish_all(s, &s->queue, dws_why_over(s));
+        dws_finish_all(s, &s->again, dws_why_over(s));
         dws_finish_credentials(s, UINT64_MAX, dws_why_over(s));
         while (dws_show_next(s)) {
         }
@@ -1234,6 +1465,9 @@ static inline void dws_take_answer(dws_session *s, const dw_output *answer)
     if (is_raw && is_kept) {
         why = call->record->take(s, call);
     }
+    if (is_reply) {
+        dws_watch(s, call, why);
+    }
     dws_finish(s, call, is_kept ? why : DWS_REFUSED - (int32_t)DW_NO_MEMORY);
 }
 
@@ -1284,13 +1518,14 @@ static inline void dws_take_state(dws_session *s, enum dw_state state)
 }
 
 /* The connection is given up. Where it was over already, it was told why. */
-static inline void dws_take_drop(dws_session *s)
+static inline void dws_take_drop(dws_session *s, const dw_output *drop)
 {
     char words[256];
     size_t length;
     if (s->wire.socket < 0) {
         return;
     }
+    s->cause = (int32_t)drop->cause;
     enum dw_result result = dw_session_words(&s->machine, words, sizeof words - 1, &length);
     words[length < sizeof words ? length : sizeof words - 1] = 0;
     dws_hang_up(s);
@@ -1307,6 +1542,7 @@ static inline void dws_take_hang_up(dws_session *s)
         dws_hang_up(s);
         dws_tell_missed(s, strerror(ETIMEDOUT));
     } else if (s->wire.socket >= 0) {
+        s->cause = s->is_moment ? (int32_t)DW_CAUSE_SILENT : 0;
         dws_hang_up(s);
         dws_tell(s, DWS_CUT, s->is_moment ? "an answer does not come" : "the session is not of this connection any more");
     }
@@ -1336,7 +1572,7 @@ static inline void dws_take_shown(dws_session *s, uint64_t ticket)
     dws_note_seen(s, ticket, 0);
 }
 
-static inline void dws_take_report(dws_session *s);
+static inline void dws_take_report(dws_session *s, const dw_output *report);
 static inline void dws_take_refusal(dws_session *s, const dw_output *refused);
 static inline void dws_take_of_tree(dws_session *s, const dw_output *told);
 static inline void dws_take_introduction(dws_session *s, size_t place, int32_t code);
@@ -1346,9 +1582,9 @@ static inline void dws_take(dws_session *s, const dw_output *action)
     switch (action->kind) {
     case DW_KIND_SEND: dws_send_later(s, action->length); break;
     case DW_KIND_ANSWER: dws_take_answer(s, action); break;
-    case DW_KIND_REPORT: dws_take_report(s); break;
+    case DW_KIND_REPORT: dws_take_report(s, action); break;
     case DW_KIND_STATE: dws_take_state(s, action->state); break;
-    case DW_KIND_DROP: dws_take_drop(s); break;
+    case DW_KIND_DROP: dws_take_drop(s, action); break;
     case DW_KIND_DIAL:
         s->is_dial_due = true;
         s->place = action->place;
@@ -1393,6 +1629,7 @@ static inline void dws_act(dws_session *s, enum dw_result result)
     } else if (result != DW_NONE) {
         dws_fail(s, result);
     } else if (s->is_unread) {
+        s->cause = (int32_t)DW_CAUSE_BAD_PAYLOAD;
         dws_cut(s, "an answer does not read");
     }
 }
@@ -1735,6 +1972,40 @@ static inline bool dws_read_string(dws_session *s, const char *text, char *why, 
     return dws_read_hosts(s, length, why, size);
 }
 
+static inline bool dws_set_hosts(dws_session *s, const char *hosts, char *why, size_t size)
+{
+    char *text = s->hosts_text, *root = s->root;
+    struct dws_host *before = s->hosts;
+    size_t count = s->host_count;
+    s->hosts_text = NULL;
+    s->hosts = NULL;
+    s->host_count = 0;
+    bool is_read = dws_read_string(s, hosts, why, size), is_same = is_read && strcmp(s->root, root) == 0;
+    if (is_read && !is_same) {
+        snprintf(why, size, "the chroot of the session is '%s', and not '%s'", root, s->root);
+    }
+    free(is_same ? text : s->hosts_text);
+    free(is_same ? before : s->hosts);
+    if (!is_same) {
+        s->hosts_text = text;
+        s->root = root;
+        s->hosts = before;
+        s->host_count = count;
+    }
+    s->must_list = s->must_list || is_same;
+    return is_same;
+}
+
+/* Tells the library that the hosts are others, since no step is made in a callback. */
+static inline void dws_list_hosts(dws_session *s)
+{
+    if (s->must_list && !s->is_over) {
+        s->must_list = false;
+        s->dials = 0;
+        dws_act(s, dw_session_addresses(&s->machine, dws_in_time(s), s->host_count));
+    }
+}
+
 /* An address of the host, of which a name may have several: the next one at each look-up, which may take a while. */
 static inline bool dws_find_address(dws_session *s, struct dws_host *host, struct sockaddr_storage *address, socklen_t *length)
 {
@@ -1800,7 +2071,7 @@ static inline void dws_miss(dws_session *s, const char *why)
 /* Dials the host that the library has named; or, where they are dialled in order, the next one. */
 static inline void dws_dial(dws_session *s)
 {
-    struct dws_host *host = &s->hosts[s->options.is_in_order ? s->dials++ % s->host_count : s->place];
+    struct dws_host *host = &s->hosts[s->options.is_in_order ? s->dials++ % s->host_count : s->place % s->host_count];
     struct sockaddr_storage address;
     socklen_t length = 0;
     s->is_dial_due = false;
@@ -1815,7 +2086,8 @@ static inline void dws_dial(dws_session *s)
         dws_miss(s, strerror(errno));
         return;
     }
-    s->wire.host = host->name;
+    memcpy(s->dialled, host->name, sizeof s->dialled);
+    s->wire.host = s->dialled;
     s->is_connecting = true;
 }
 
@@ -1898,6 +2170,7 @@ static inline void dws_receive(dws_session *s)
         size = s->large != NULL ? (size_t)DWS_LARGE_PIECE : sizeof piece;
         ssize_t count = dws_read(s, room, size);
         if (count > 0) {
+            dws_observe_bytes(s, DWS_SAW_BYTES_IN, (size_t)count);
             dws_hear(s, came_ms, room, (size_t)count);
             bool is_full = count == (ssize_t)size;
             s->has_more = s->options.read != NULL || is_full || s->sent.count > 0; /* else poll tells of more */
@@ -1922,6 +2195,7 @@ static inline void dws_transmit(dws_session *s)
     }
     ssize_t count = dws_write(s, s->unsent.at, s->unsent.length);
     if (count >= 0) {
+        dws_observe_bytes(s, DWS_SAW_BYTES_OUT, (size_t)count);
         s->unsent.length -= (size_t)count;
         memmove(s->unsent.at, s->unsent.at + count, s->unsent.length);
         if (s->credentials != NULL) { /* they may be among it */
@@ -2399,13 +2673,14 @@ static inline void dws_see_trees(dws_session *s)
 }
 
 /* What was good of a path has ended. A tree that has it is whole again only where that is said after this. */
-static inline void dws_take_report(dws_session *s)
+static inline void dws_take_report(dws_session *s, const dw_output *report)
 {
     char path[DWS_LONGEST_LINE];
     size_t length = dw_session_copy(&s->machine, 0, path, sizeof path - 1);
     path[dws_least(length, sizeof path - 1)] = 0;
     s->has_news = true;
     dws_name_path(s, path);
+    dws_fire(s, path, report->side, report->event);
     for (dws_tree *tree = s->trees; tree != NULL; tree = tree->next) {
         if (strcmp(path, tree->path) == 0 || dws_is_below(path, tree->path)) {
             tree->is_good = tree->must_look = false;
@@ -2416,6 +2691,7 @@ static inline void dws_take_report(dws_session *s)
 /* Nothing is kept any more. Subjects of which something was are to be shown. */
 static inline void dws_lose_kept(dws_session *s)
 {
+    dws_fire(s, NULL, DW_SIDE_DATA, (enum dw_event)0);
     for (dws_subject *one = dws_next_subject(s, NULL), *next; one != NULL; one = next) {
         next = dws_next_subject(s, one);
         one->is_changed = one->is_changed || one->mark != 0;
@@ -2605,6 +2881,7 @@ static inline void dws_keep_time(dws_session *s)
         s->is_moment = false;
     }
     dws_finish_credentials(s, s->now_ms, DWS_LATE);
+    dws_queue_again(s);
     if (s->is_closing && s->close.until_ms <= s->now_ms) {
         dws_be_over(s);
     }
@@ -2622,6 +2899,7 @@ static inline bool dws_is_late(dws_session *s)
 /* Hands over what is new, shows what has changed, and asks what waits. */
 static inline void dws_work(dws_session *s)
 {
+    dws_list_hosts(s);
     dws_introduce_new(s);
     dws_follow_new(s);
     dws_mark(s);
@@ -2657,6 +2935,7 @@ static inline uint64_t dws_first_due(dws_session *s)
 {
     uint64_t first = dws_least(dws_deadline(s), dws_credentials_due(s));
     first = dws_least(first, s->queue.count > 0 ? s->queue.first->until_ms : UINT64_MAX);
+    first = dws_least(first, dws_again_due(s));
     first = dws_least(first, s->is_closing ? s->close.until_ms : UINT64_MAX);
     return dws_least(first, dws_first_look(s));
 }
@@ -2670,8 +2949,8 @@ static inline int dws_wanted(dws_session *s, struct pollfd *polled)
     polled->fd = s->is_over ? -1 : s->wire.socket;
     polled->events = (short)(POLLIN | (s->is_connecting ? POLLOUT : s->read_wants) | (s->unsent.length > 0 ? s->write_wants : 0));
     polled->revents = 0;
-    if (s->has_news || s->is_over || s->has_more || s->is_dial_due || s->must_follow || s->must_introduce || s->subjects[DWS_NAMED].first != NULL
-        || s->subjects[DWS_CHANGED].first != NULL) {
+    if (s->has_news || s->is_over || s->has_more || s->is_dial_due || s->must_follow || s->must_introduce || s->must_list
+        || s->subjects[DWS_NAMED].first != NULL || s->subjects[DWS_CHANGED].first != NULL) {
         return 0;
     }
     uint64_t first = dws_first_due(s);
@@ -2698,9 +2977,10 @@ static inline bool dws_turn(dws_session *s)
 /* ---- Calls: how they are asked, and why they have failed. ---- */
 
 /* How long a call waits, where there is a limit. */
-static inline uint64_t dws_patience_ms(const dws_session *s)
+static inline uint64_t dws_patience_ms(const dws_session *s, const dws_call *call)
 {
-    return s->options.patience_ms > 0 ? (uint64_t)s->options.patience_ms : dws_most(1000, (uint64_t)s->options.timeout_ms);
+    int32_t said_ms = call->limit_ms > 0 ? call->limit_ms : s->options.patience_ms;
+    return said_ms > 0 ? (uint64_t)said_ms : dws_most(1000, (uint64_t)s->options.timeout_ms);
 }
 
 /* A call is asked: it has no answer, and as long as the options say. */
@@ -2709,7 +2989,10 @@ static inline void dws_begin_call(const dws_session *s, dws_call *call)
     call->is_answered = false;
     call->why = 0;
     call->count = call->length = 0;
-    call->until_ms = s->options.patience_ms < 0 || call->is_patient ? UINT64_MAX : dws_now_ms() + dws_patience_ms(s);
+    call->tried = 0;
+    call->asked_us = s->options.observe != NULL ? dws_now_us() : 0;
+    bool is_endless = call->is_patient || call->limit_ms < 0 || (call->limit_ms == 0 && s->options.patience_ms < 0);
+    call->until_ms = is_endless ? UINT64_MAX : dws_now_ms() + dws_patience_ms(s, call);
 }
 
 /* Puts a call into the queue. */
@@ -2726,6 +3009,7 @@ static inline void dws_put(dws_session *s, dws_call *call)
 /* Asks about a path, with these bytes where they are not NULL. */
 static inline dws_call *dws_ask(dws_session *s, dws_call *call, enum dws_kind kind, const char *path, const char *bytes, size_t length)
 {
+    dws_unwatch(s, call);
     free(call->path);
     call->kind = kind;
     call->path = dws_outer(s, path);
@@ -2814,7 +3098,7 @@ static inline void dws_write_place(const char *path, bool is_create, int32_t why
 /* Writes why the limit of a call has come, before or after it was sent. */
 static inline void dws_write_late(dws_session *s, const dws_call *call, char *room, size_t size, const char *path)
 {
-    double waited_s = (double)(dws_patience_ms(s) / 100) / 10;
+    double waited_s = (double)(dws_patience_ms(s, call) / 100) / 10;
     char reason[64];
     if (call->why == DWS_LATE) {
         snprintf(reason, sizeof reason, "no answer came in %g s", waited_s);

@@ -1,6 +1,6 @@
 """What the tests of programs share: the server in memory, a server that does what a test says, and processes whose lines are waited for.
 
-  programs.py OUT SERVER     runs the tests of follow.py, tree.py, servers.py and short.py side by side, with the programs that are in OUT
+  programs.py OUT SERVER     runs the tests of follow.py, tree.py, servers.py, short.py and recipes.py side by side, with the programs that are in OUT
 """
 
 import concurrent.futures
@@ -76,10 +76,14 @@ class Partner:
         self._commands.sendall(f"{json.dumps(options)}\n".encode())
         self.address = "127.0.0.1:" + self._answers.readline().rstrip().removeprefix("listening ")
 
+    def ask(self, command):
+        """The line that the server answers to a command."""
+        self._commands.sendall(f"{command}\n".encode())
+        return self._answers.readline()
+
     def do(self, *commands):
         for command in commands:
-            self._commands.sendall(f"{command}\n".encode())
-            if self._answers.readline() != "done\n":
+            if self.ask(command) != "done\n":
                 raise AssertionError(command)
 
     def end(self):
@@ -197,7 +201,7 @@ class Case(unittest.TestCase):
 def run_side_by_side():
     """Runs each test in a thread of its own, since most of their time is waits. Answers whether all have passed."""
     loader = unittest.defaultTestLoader
-    modules = [importlib.import_module(name) for name in ("follow", "tree", "servers", "short")]
+    modules = [importlib.import_module(name) for name in ("follow", "tree", "servers", "short", "recipes")]
     tests = [test for module in modules for suite in loader.loadTestsFromModule(module) for test in suite]
     with concurrent.futures.ThreadPoolExecutor(AT_ONCE) as pool:
         results = list(pool.map(lambda test: test.run(), tests))

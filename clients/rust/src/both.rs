@@ -235,6 +235,25 @@ macro_rules! calls {
             $this.call(Request::sync(path))
         }
 
+        /// Makes a node without data, and those above it, as far as they are not there. What is lost with a connection is asked again.
+        ///
+        /// # Errors
+        ///
+        /// As [`call`](Self::call): those that were made before that stay.
+        pub fn ensure_path($($receiver)+, path: &str) -> Result<(), Error> {
+            paths::ensure($asks, path)
+        }
+
+        /// Deletes a node and all that are below it, from below: how many. There may be none. Others may make nodes there meanwhile; they are
+        /// deleted too. What is lost with a connection is asked again.
+        ///
+        /// # Errors
+        ///
+        /// As [`call`](Self::call): those that were deleted before that are gone.
+        pub fn delete_recursive($($receiver)+, path: &str) -> Result<usize, Error> {
+            paths::delete_all($asks, path)
+        }
+
         /// Deletes a node that has this version and no children; [`ANY_VERSION`](crate::ANY_VERSION) is that of each node.
         ///
         /// # Errors
@@ -308,6 +327,11 @@ macro_rules! look_ups {
         /// The greatest zxid seen, not below 0.
         pub fn last_zxid(&self) -> i64 {
             self.view(|view| view.last_zxid())
+        }
+
+        /// What the session has counted since it was opened, and what it holds now.
+        pub fn stats(&self) -> Stats {
+            self.inner().look(Engine::stats)
         }
 
         /// The timeout of the session: the one that a server granted last, or the one to ask for.

@@ -6,6 +6,7 @@ use crate::raw::RawCall;
 use crate::ticket::{Ending, Slot};
 use crate::told::Outcome;
 use std::collections::HashMap;
+use std::hash::{BuildHasherDefault, Hasher};
 use std::mem;
 use std::sync::Arc;
 
@@ -16,11 +17,31 @@ struct Waiting {
     raw: Option<RawCall>,
 }
 
+/// A hash of a ticket, which nobody else chooses.
+#[derive(Default)]
+struct OfTicket(u64);
+
+impl Hasher for OfTicket {
+    fn finish(&self) -> u64 {
+        self.0
+    }
+
+    fn write(&mut self, bytes: &[u8]) {
+        for byte in bytes {
+            self.0 = self.0.rotate_left(8) ^ u64::from(*byte);
+        }
+    }
+
+    fn write_u64(&mut self, ticket: u64) {
+        self.0 = ticket.wrapping_mul(0x9e37_79b9_7f4a_7c15); // the highest bits count too
+    }
+}
+
 /// The calls of a session, which wait in its machine, and the answers that were not handed out yet.
 #[derive(Default)]
 pub(crate) struct Calls {
     last_ticket: u64,
-    waiting: HashMap<u64, Waiting>,
+    waiting: HashMap<u64, Waiting, BuildHasherDefault<OfTicket>>,
     search: Option<Search>,
     answers: Vec<(Arc<Slot>, Ending)>,
 }

@@ -105,6 +105,11 @@ impl Deletions {
             .for_each(|deletion| deletion.asked = None);
     }
 
+    /// Whether nothing is to be deleted.
+    pub(crate) fn is_empty(&self) -> bool {
+        self.waiting.is_empty()
+    }
+
     /// Whether something is to be asked now.
     pub(crate) fn is_due(&self, now: Moment) -> bool {
         self.waiting.iter().any(|deletion| deletion.is_due(now))

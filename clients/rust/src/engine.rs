@@ -22,6 +22,7 @@ use crate::machine::Machine;
 use crate::moment::{Clock, Moment};
 use crate::outbox::Outbox;
 use crate::saved::SavedSession;
+use crate::stats::{ConnectionEnd, Observation, Stats, Tally};
 use crate::ticket::{Ending, Slot};
 use crate::told::{Event, Told};
 use std::collections::BTreeMap;
@@ -95,6 +96,8 @@ pub(crate) struct Beginning {
 /// A machine, its connection, and the calls that wait.
 pub(crate) struct Engine {
     machine: Machine,
+    /// When something is due, as the machine had it after its last step.
+    deadline: Moment,
     asked_timeout: Duration,
     renews: bool,
     limit: Option<Duration>,
@@ -123,6 +126,9 @@ pub(crate) struct Engine {
     inbox: Vec<u8>,
     credentials: Credentials,
     deletions: Deletions,
+    tally: Tally,
+    /// Why the connection is over that is closed next, where it is known.
+    ending: Option<ConnectionEnd>,
     /// The call that is to end the session, where one was asked.
     closing: Option<u64>,
     course: Course,
@@ -138,6 +144,7 @@ impl Engine {
         };
         let chroot = beginning.hosts.root().clone();
         let mut engine = Engine {
+            deadline: machine.deadline().unwrap_or(NEVER),
             machine,
             asked_timeout: timeout,
             renews: beginning.renews,
@@ -161,6 +168,8 @@ impl Engine {
             inbox: Vec::new(),
             credentials: Credentials::of(beginning.credentials),
             deletions: Deletions::default(),
+            tally: Tally::default(),
+            ending: None,
             closing: None,
             course: Course::GoesOn,
         };
@@ -182,6 +191,7 @@ impl Engine {
         self.hang_up();
         self.calls.end_all(&NoReply::ConnectionLoss.into());
         self.machine = renewed;
+        self.note_deadline();
         self.places.begin_again();
         self.deletions.begin_again();
         self.trees.values_mut().for_each(Growing::begin_again);
@@ -209,6 +219,7 @@ impl Engine {
     /// Forgets all stale answers.
     pub(crate) fn forget_stale(&mut self) {
         self.machine.forget_stale();
+        self.note_deadline();
     }
 
     /// Other hosts, from the next attempt to connect on. Hosts with another chroot are handed back.
@@ -250,6 +261,7 @@ impl Engine {
     }
 
     fn let_go(&mut self, course: Course) {
+        self.ending = Some(ConnectionEnd::Dropped);
         let reason = match course {
             _ if self.machine.state() == State::Connected => NoReply::ConnectionLoss.into(),
             Course::Panicked => Fault::Panicked.into(),
@@ -370,7 +382,36 @@ impl Engine {
 
     /// The answers that are to be handed out.
     pub(crate) fn take_answers(&mut self) -> Vec<(Arc<Slot>, Ending)> {
-        self.calls.take_answers()
+        let answers = self.calls.take_answers();
+        for (slot, ending) in &answers {
+            let (kind, outcome, took) = slot.came(ending);
+            self.tally.stats.note_answer(kind, outcome, took);
+            if self.tally.is_observed {
+                self.tally.tell(slot.observed(ending));
+            }
+        }
+        answers
+    }
+
+    /// What the observer is to be told.
+    pub(crate) fn take_seen(&mut self) -> Vec<Observation> {
+        self.tally.take_seen()
+    }
+
+    /// There is an observer.
+    pub(crate) fn is_observed(&mut self) {
+        self.tally.is_observed = true;
+    }
+
+    /// What was counted, and what the session holds.
+    pub(crate) fn stats(&self) -> Stats {
+        let mut stats = self.tally.stats.clone();
+        let trees = self.trees.values().filter_map(Growing::latest);
+        stats.age = self.age();
+        stats.trees = self.trees.len();
+        (stats.nodes, stats.kept_bytes) = self.followed_bytes();
+        stats.kept_bytes += trees.map(|tree| tree.bytes()).sum::<usize>();
+        stats
     }
 
     /// What was copied of trees, to be shown.
@@ -380,7 +421,12 @@ impl Engine {
 
     /// The first moment at which something is due, as the machine has it.
     fn deadline(&self) -> Moment {
-        self.machine.deadline().unwrap_or(NEVER)
+        self.deadline
+    }
+
+    /// The machine has made a step, or is another one.
+    fn note_deadline(&mut self) {
+        self.deadline = self.machine.deadline().unwrap_or(NEVER);
     }
 
     /// The first moment at which something is due, also of what the machine does not know.
@@ -493,6 +539,7 @@ mod tests {
     use crate::jute::Writer;
     use crate::node::ANY_VERSION;
     use crate::request::Request;
+    use crate::stats::CallKind;
     use crate::stream::Outgoing;
     use crate::told::{Shows, TreeNews};
     use std::io;
@@ -564,7 +611,10 @@ mod tests {
         assert_eq!(settled, Err(fault.clone()));
         assert!(engine.is_over());
         assert_eq!(engine.halt(), Err(fault.clone()));
-        engine.ask(Request::get("/a").asked, Slot::new(Some("/a")));
+        engine.ask(
+            Request::get("/a").asked,
+            Slot::new(Some("/a"), CallKind::Get),
+        );
         let (_, ending) = engine.take_answers().remove(0);
         assert_eq!(ending.unwrap_err().kind(), &fault.into());
     }
@@ -572,7 +622,7 @@ mod tests {
     #[test]
     fn a_session_that_has_halted_goes_on_where_it_is_renewed() {
         let mut engine = connected();
-        let slot = Slot::new(Some("/a"));
+        let slot = Slot::new(Some("/a"), CallKind::Get);
         engine.ask(Request::get("/a").asked, Arc::clone(&slot));
         let settled = engine.settle(NEVER, Err(Fault::Halted));
         assert_eq!(settled, Err(Fault::Halted));
@@ -629,7 +679,7 @@ mod tests {
     fn why_a_connection_is_left_is_told() {
         let mut engine = connected();
         let asked = Request::set_acls("/", &[], ANY_VERSION).asked;
-        engine.ask(asked, Slot::new(Some("/")));
+        engine.ask(asked, Slot::new(Some("/"), CallKind::Close));
         let begun = engine.clock.now();
         let after = |millis| begun.saturating_add(Duration::from_millis(millis));
         let mut notice = Writer::default();
@@ -646,7 +696,7 @@ mod tests {
         let lost = ErrorKind::NoReply(NoReply::ConnectionLoss);
         assert_eq!(ending.unwrap_err().kind(), &lost);
         let late = Request::get("/a").within(Duration::ZERO);
-        engine.ask(late.asked, Slot::new(Some("/a")));
+        engine.ask(late.asked, Slot::new(Some("/a"), CallKind::Get));
         sleep(Duration::from_millis(2));
         engine.tick().unwrap();
         let (_, ending) = engine.take_answers().remove(0);

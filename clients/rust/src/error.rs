@@ -43,6 +43,13 @@ pub enum ErrorKind {
         /// The name of that place.
         place: String,
     },
+    /// The node of a [`Counter`](crate::Counter) holds no whole number of 64 bits, or would hold none.
+    NotNumber,
+    /// The node of a [`Semaphore`](crate::Semaphore) says that another number hold it at most.
+    OtherNumber {
+        /// The number of the node.
+        number: i64,
+    },
     /// A transaction has not happened: the server refuses the operation at this place, from 0 on.
     RolledBack {
         /// The place of the operation.
@@ -78,9 +85,11 @@ impl ErrorKind {
             | ErrorKind::QueueFull
             | ErrorKind::NotWhole
             | ErrorKind::LockTimeout => true,
-            ErrorKind::Fault(_) | ErrorKind::MixedNames { .. } | ErrorKind::RolledBack { .. } => {
-                false
-            }
+            ErrorKind::Fault(_)
+            | ErrorKind::MixedNames { .. }
+            | ErrorKind::NotNumber
+            | ErrorKind::OtherNumber { .. }
+            | ErrorKind::RolledBack { .. } => false,
         }
     }
 
@@ -93,7 +102,8 @@ impl ErrorKind {
             ErrorKind::TimedOut => "it may still happen",
             ErrorKind::QueueFull => "call again when some of it was",
             ErrorKind::NotWhole => "it is read on",
-            ErrorKind::LockTimeout => "",
+            ErrorKind::LockTimeout | ErrorKind::NotNumber => "",
+            ErrorKind::OtherNumber { .. } => "take the same number everywhere",
             ErrorKind::MixedNames { .. } => "use one kind of names for all contenders",
         }
     }
@@ -116,6 +126,10 @@ impl fmt::Display for ErrorKind {
                 Shown(place),
                 names.word()
             ),
+            ErrorKind::NotNumber => f.write_str("it is no whole number of 64 bits"),
+            ErrorKind::OtherNumber { number } => {
+                write!(f, "the node says that it has {number} leases")
+            }
             ErrorKind::RolledBack { index, code, .. } => {
                 write!(
                     f,
@@ -363,6 +377,11 @@ mod tests {
             (
                 ErrorKind::NotWhole,
                 "the tree was not whole in time: /a; it is read on",
+            ),
+            (ErrorKind::NotNumber, "it is no whole number of 64 bits: /a"),
+            (
+                ErrorKind::OtherNumber { number: 3 },
+                "the node says that it has 3 leases: /a; take the same number everywhere",
             ),
         ] {
             assert_eq!(printed(kind), words);

@@ -172,6 +172,11 @@ fn kind_of(reason: Refusal) -> Option<ErrorKind> {
 }
 
 impl Growing {
+    /// The newest snapshot, where there is one.
+    pub(crate) fn latest(&self) -> Option<TreeSnapshot> {
+        self.shown.upgrade()?.latest()
+    }
+
     pub(crate) fn new(shown: Weak<Shown>, ticket: u64, root: String, most: usize) -> Growing {
         Growing {
             shown,

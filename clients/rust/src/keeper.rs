@@ -7,6 +7,7 @@ use crate::moment::Moment;
 use crate::outbox::{Outbox, Writer, Written};
 use crate::request::Request;
 use crate::signal::Signal;
+use crate::stats::{CallKind, Observer};
 use crate::stream::{self, Connection, Dial, Incoming, Server};
 use crate::ticket::{KeepsTime, Limit, Slot, Ticket};
 use crate::told::Event;
@@ -49,6 +50,7 @@ pub(crate) struct Shared {
     engine: Mutex<Engine>,
     changed: Signal,
     wakers: Mutex<Wakers>,
+    observer: Option<Observer>,
     /// Which thread writes what there is no room for at once: a helper, or the one that keeps the session.
     writer: Writer,
     own: Weak<Shared>,
@@ -56,8 +58,16 @@ pub(crate) struct Shared {
 
 /// How it begins, and what is done under its lock.
 impl Shared {
-    pub(crate) fn new(engine: Engine, writer: Writer) -> Arc<Shared> {
+    pub(crate) fn new(
+        mut engine: Engine,
+        writer: Writer,
+        observer: Option<Observer>,
+    ) -> Arc<Shared> {
+        if observer.is_some() {
+            engine.is_observed();
+        }
         Arc::new_cyclic(|own| Shared {
+            observer,
             engine: Mutex::new(engine),
             changed: Signal::default(),
             wakers: Mutex::default(),
@@ -83,8 +93,13 @@ impl Shared {
     fn hand_out(&self, mut engine: MutexGuard<'_, Engine>) {
         let answers = engine.take_answers();
         let (outboxes, looks) = (engine.take_outboxes(), engine.take_looks());
-        let is_news = engine.has_event();
+        let (is_news, seen) = (engine.has_event(), engine.take_seen());
         drop(engine);
+        if let Some(observer) = &self.observer {
+            for seen in &seen {
+                observer(seen);
+            }
+        }
         for outbox in outboxes {
             self.write(&outbox, self.writer, Duration::ZERO);
         }
@@ -281,7 +296,7 @@ impl KeepsTime for Shared {
 /// Asks a request of a session: the ticket for its answer.
 pub(crate) fn ask<T>(shared: &Arc<Shared>, request: Request<T>) -> Ticket<T> {
     let Request { asked, read } = request;
-    let slot = Slot::new(asked.node());
+    let slot = Slot::new(asked.node(), CallKind::of(&asked.call));
     let (wait, clock) = shared.with(|engine| {
         let wait = engine.ask(asked, Arc::clone(&slot));
         (wait, engine.clock())
@@ -394,7 +409,7 @@ impl Keeper {
 
     /// Hands in what the connection brings next. Where something was due before, it catches up.
     fn listen(&mut self, until: Moment) -> Result<(), Fault> {
-        let now = self.shared.with(|engine| engine.clock().now());
+        let now = self.shared.look(Engine::clock).now();
         let mut wait = until.saturating_duration_since(now).min(LONGEST_WAIT);
         if self.shared.writes_on() {
             wait = wait.min(WAIT_FOR_ROOM);
@@ -428,7 +443,7 @@ impl Keeper {
 
     /// Catches up where something is due already.
     pub(crate) fn catch_up_if_late(&mut self) -> Result<(), Fault> {
-        if self.shared.with(|engine| engine.is_late()) {
+        if self.shared.look(Engine::is_late) {
             self.catch_up()?;
         }
         Ok(())

@@ -12,9 +12,12 @@ use crate::kept::{Children, DataAnswer, Kept, Mark};
 use crate::multi_read::{Read, ReadAnswer};
 use crate::node::{Mode, Node, Stat};
 use crate::options::{OpenError, SessionOptions};
+use crate::paths;
 use crate::request::Request;
+use crate::retry::{Retry, Tries};
 use crate::saved::SavedSession;
 use crate::snapshot::Snapshot;
+use crate::stats::Stats;
 use crate::told::Event;
 use crate::tree::{LocalTree, MOST_NODES};
 use crate::tree_snapshot::TreeSnapshot;
@@ -48,6 +51,9 @@ use std::time::{Duration, Instant};
 /// ```
 pub struct LocalSession {
     keeper: Keeper,
+    retry: Retry,
+    limit: Option<Duration>,
+    renews: bool,
 }
 
 /// How a session begins and ends.
@@ -66,8 +72,18 @@ impl LocalSession {
         SessionOptions::new(timeout).open_local(hosts)
     }
 
-    pub(crate) fn kept_by(keeper: Keeper) -> LocalSession {
-        LocalSession { keeper }
+    pub(crate) fn kept_by(
+        keeper: Keeper,
+        retry: Retry,
+        limit: Option<Duration>,
+        renews: bool,
+    ) -> LocalSession {
+        LocalSession {
+            keeper,
+            retry,
+            limit,
+            renews,
+        }
     }
 
     /// Goes on with a new machine, as [`Session::renew`](crate::Session::renew) does.
@@ -98,12 +114,25 @@ impl LocalSession {
 impl LocalSession {
     calls! { self: [&mut self] self }
 
-    /// Asks a request, and waits for its answer.
+    /// Asks a request, waits for its answer, and asks again where the session's [`Retry`] says so.
     ///
     /// # Errors
     ///
     /// As [`Session::call`](crate::Session::call).
-    pub fn call<T>(&mut self, request: Request<T>) -> Result<T, Error> {
+    pub fn call<T>(&mut self, mut request: Request<T>) -> Result<T, Error> {
+        let tries = Tries::of(self.renews, request.asked.limit.or(self.limit));
+        for pause in self.retry.pauses() {
+            request.asked.limit = tries.left();
+            match self.call_once(request.clone()) {
+                Err(error) if tries.goes_on(&request, &error, pause) => self.pass(pause)?,
+                answer => return answer,
+            }
+        }
+        request.asked.limit = tries.left();
+        self.call_once(request)
+    }
+
+    fn call_once<T>(&mut self, request: Request<T>) -> Result<T, Error> {
         self.keeper.catch_up_if_late()?;
         let ticket = ask(self.keeper.shared(), request);
         while !ticket.is_answered() {

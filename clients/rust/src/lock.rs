@@ -244,18 +244,50 @@ impl<'d> LockOptions<'d> {
 
 /// A place in the line for a lock: the session deletes it where it is dropped.
 #[derive(Debug)]
-struct Claim<'a> {
-    session: &'a Session,
+pub(crate) struct Claim<'a> {
+    pub(crate) session: &'a Session,
     /// None where there is nothing to be deleted.
     place: Option<Place>,
 }
 
-impl Claim<'_> {
+impl<'a> Claim<'a> {
+    /// One of nothing yet.
+    pub(crate) fn none(session: &'a Session) -> Claim<'a> {
+        let place = None;
+        Claim { session, place }
+    }
+
+    pub(crate) fn is_something(&self) -> bool {
+        self.place.is_some()
+    }
+
+    pub(crate) fn is_nothing(&mut self) {
+        self.place = None;
+    }
+
+    pub(crate) fn is_of(&mut self, place: Place) {
+        self.place = Some(place);
+    }
+
     /// The session deletes the place: what has become of it is asked by this number.
     fn give_up(&mut self, is_awaited: bool) -> Option<u64> {
         let place = self.place.take()?;
         let session = self.session;
         Some(session.change(|engine| engine.delete(place, is_awaited)))
+    }
+
+    /// Gives it up, and waits until its node, which is this one, is gone: for twice the timeout of the session at most.
+    pub(crate) fn release(&mut self, node: &str) -> Result<(), Error> {
+        let session = self.session;
+        let Some(number) = self.give_up(true) else {
+            return Ok(());
+        };
+        let until = Instant::now().checked_add(session.timeout() * 2);
+        session.wait_while(until, |engine| engine.is_left(number));
+        match session.change(|engine| engine.fault_of_deletion(number)) {
+            Some(kind) => Err(Error::about(Some(node), kind)),
+            None => Ok(()),
+        }
     }
 }
 
@@ -338,16 +370,12 @@ impl<'a> Lock<'a> {
     /// Why the node is left, whose path the error has: [`ErrorKind::TimedOut`] where the servers were not reached, and the session still
     /// deletes it then; or why they refuse it. It goes with the session at the latest.
     pub fn release(mut self) -> Result<(), Error> {
-        let session = self.claim.session;
-        let Some(number) = self.claim.give_up(true) else {
-            return Ok(());
-        };
-        let until = Instant::now().checked_add(session.timeout() * 2);
-        session.wait_while(until, |engine| engine.is_left(number));
-        match session.change(|engine| engine.fault_of_deletion(number)) {
-            Some(kind) => Err(Error::about(Some(&self.node), kind)),
-            None => Ok(()),
-        }
+        self.claim.release(&self.node)
+    }
+
+    /// The path of its place.
+    pub(crate) fn node(&self) -> &str {
+        &self.node
     }
 }
 
@@ -363,10 +391,7 @@ struct Line<'a> {
 impl Line<'_> {
     /// Waits until the lock is held.
     fn hold(self, session: &Session) -> Result<Lock<'_>, Error> {
-        let mut claim = Claim {
-            session,
-            place: None,
-        };
+        let mut claim = Claim::none(session);
         let node = self.take_place(&mut claim)?;
         let name = &node[node.rfind('/').map_or(0, |slash| slash + 1)..];
         loop {
@@ -424,7 +449,7 @@ impl Line<'_> {
         let tag = names.new_tag(sharing);
         let place = child_of(self.path, &tag);
         loop {
-            claim.place = Some(Place::Tagged {
+            claim.is_of(Place::Tagged {
                 directory: String::from(self.path),
                 tag: tag.clone(),
             });
@@ -433,13 +458,13 @@ impl Line<'_> {
                 Ok(node) => Some(node),
                 Err(error) if error.may_have_happened() => self.find_place(&tag)?,
                 Err(error) => {
-                    claim.place = None;
+                    claim.is_nothing();
                     self.begin_again(error)?;
                     None
                 }
             };
             if let Some(node) = made {
-                claim.place = Some(Place::Node(node.clone()));
+                claim.is_of(Place::Node(node.clone()));
                 return Ok(node);
             }
             self.check_limit()?;
@@ -449,7 +474,10 @@ impl Line<'_> {
     /// A create has not happened. It fails where it is of no use to ask again.
     fn begin_again(&self, error: Error) -> Result<(), Error> {
         match error.code() {
-            Some(Code::NO_NODE) => make(self.session, self.path),
+            Some(Code::NO_NODE) => match self.session.ensure_path(self.path) {
+                Err(error) if error.is_passing() => Ok(()),
+                made => made,
+            },
             _ if error.is_passing() => Ok(()),
             _ => Err(error),
         }
@@ -512,20 +540,6 @@ impl Line<'_> {
         });
         Ok(())
     }
-}
-
-/// Makes a node, and those above it that are not there.
-fn make(session: &Session, path: &str) -> Result<(), Error> {
-    let ends = path.match_indices('/').map(|(end, _)| end).skip(1);
-    for end in ends.chain([path.len()]) {
-        match session.create(&path[..end], b"", Mode::Persistent) {
-            Ok(_) => {}
-            Err(error) if error.code() == Some(Code::NODE_EXISTS) => {}
-            Err(error) if error.is_passing() => {}
-            Err(error) => return Err(error),
-        }
-    }
-    Ok(())
 }
 
 /// An election: each candidate leads once those before it have resigned or are gone. All candidates of a path use one kind of names,

@@ -11,11 +11,13 @@ use crate::outbox::Writer;
 use crate::retry::Retry;
 use crate::saved::SavedSession;
 use crate::session::Session;
+use crate::stats::{Observation, Observer};
 use crate::stream::{Dial, Tcp};
 use std::convert::Infallible;
 use std::error;
 use std::fmt;
 use std::io;
+use std::sync::Arc;
 use std::time::Duration;
 
 /// Why a session was not opened. Its `Debug` has the words that it prints, for a `main` that returns it.
@@ -110,6 +112,7 @@ pub struct SessionOptions {
     saved: Option<SavedSession>,
     credentials: Vec<Credential>,
     dial: Box<dyn Dial>,
+    observer: Option<Observer>,
     opens_within: Duration,
 }
 
@@ -128,6 +131,7 @@ impl SessionOptions {
             saved: None,
             credentials: Vec::new(),
             dial: Box::new(Tcp),
+            observer: None,
             opens_within: OPENS_WITHIN,
         }
     }
@@ -186,6 +190,31 @@ impl SessionOptions {
         self
     }
 
+    /// What is told what is observed of the session, for metrics and traces: [`Observation`]. Several threads may call it at once, so it is to be
+    /// short; it may look at the session, and is not to wait for it. [`Session::stats`] counts without it.
+    ///
+    /// ```no_run
+    /// use dirwolleu::{Observation, SessionOptions};
+    /// use std::time::Duration;
+    ///
+    /// # fn main() -> Result<(), Box<dyn std::error::Error>> {
+    /// let options = SessionOptions::new(Duration::from_secs(10)).observe(|seen| {
+    ///     if let Observation::Answered { path, took, .. } = seen {
+    ///         eprintln!("{path:?}: {took:?}");
+    ///     }
+    /// });
+    /// let session = options.open("127.0.0.1:2181")?;
+    /// # Ok(())
+    /// # }
+    /// ```
+    pub fn observe(
+        mut self,
+        observer: impl Fn(&Observation) + Send + Sync + 'static,
+    ) -> SessionOptions {
+        self.observer = Some(Arc::new(observer));
+        self
+    }
+
     /// How long [`open`](SessionOptions::open) waits at most for a server that accepts the session: 15 seconds, unless this says otherwise.
     pub fn opens_within(mut self, limit: Duration) -> SessionOptions {
         self.opens_within = limit;
@@ -225,7 +254,7 @@ impl SessionOptions {
         Session::kept_by(keeper, retry, limit, renews).map_err(OpenError::Thread)
     }
 
-    /// Opens a session without a thread, for a loop of the program's own. It dials at the first call. It has no retries.
+    /// Opens a session without a thread, for a loop of the program's own. It dials at the first call.
     ///
     /// # Errors
     ///
@@ -235,8 +264,9 @@ impl SessionOptions {
         H: TryInto<Hosts>,
         OpenError: From<H::Error>,
     {
+        let (retry, limit, renews) = (self.retry, self.limit, self.renews);
         let keeper = self.keeper(hosts.try_into()?, Writer::Alone)?;
-        Ok(LocalSession::kept_by(keeper))
+        Ok(LocalSession::kept_by(keeper, retry, limit, renews))
     }
 
     fn keeper(self, hosts: Hosts, writer: Writer) -> Result<Keeper, Fault> {
@@ -249,7 +279,7 @@ impl SessionOptions {
             limit: self.limit,
             credentials: self.credentials,
         })?;
-        let shared = Shared::new(engine, writer);
+        let shared = Shared::new(engine, writer, self.observer);
         Ok(Keeper::new(shared, self.dial, self.order))
     }
 }

@@ -1,7 +1,10 @@
 //! How often a call is asked again.
 
+use crate::error::Error;
+use crate::fault::NoReply;
 use crate::hosts::chance;
-use std::time::Duration;
+use crate::request::Request;
+use std::time::{Duration, Instant};
 
 /// The longest pause before a call is asked again for the first time. It is twice as long before each further time.
 const FIRST_PAUSE: Duration = Duration::from_millis(100);
@@ -48,6 +51,39 @@ impl Retry {
     pub(crate) fn pauses(self) -> impl Iterator<Item = Duration> {
         let longest = |time: u32| FIRST_PAUSE.saturating_mul(1 << time.min(8));
         (0..self.times).map(move |time| spread(longest(time).min(LONGEST_PAUSE), chance()))
+    }
+}
+
+/// Whether a call was not sent, since the session has expired.
+pub(crate) fn is_expired(error: &Error) -> bool {
+    error.no_reply() == Some(NoReply::SessionExpired)
+}
+
+/// All times that a call is asked, within its limit.
+#[derive(Clone, Copy)]
+pub(crate) struct Tries {
+    renews: bool,
+    until: Option<Instant>,
+}
+
+impl Tries {
+    /// Of a session that renews itself, or does not.
+    pub(crate) fn of(renews: bool, limit: Option<Duration>) -> Tries {
+        let until = limit.and_then(|limit| Instant::now().checked_add(limit));
+        Tries { renews, until }
+    }
+
+    /// What is left of the limit, where there is one.
+    pub(crate) fn left(self) -> Option<Duration> {
+        let left = |until: Instant| until.saturating_duration_since(Instant::now());
+        self.until.map(left)
+    }
+
+    /// Whether a call is to be asked again after this error and this pause. After an expiry nothing was sent.
+    pub(crate) fn goes_on<T>(self, request: &Request<T>, error: &Error, pause: Duration) -> bool {
+        let is_over = self.left().is_some_and(|left| left <= pause);
+        let is_safe = request.may_be_repeated(error) || self.renews && is_expired(error);
+        is_safe && !is_over
     }
 }
 

@@ -6,7 +6,7 @@ use crate::client::State;
 use crate::engine::Engine;
 use crate::error::Error;
 use crate::events::Events;
-use crate::fault::{Code, Fault, NoReply};
+use crate::fault::{Code, Fault};
 use crate::follow::Follow;
 use crate::hosts::Hosts;
 use crate::keeper::{ask, Keeper, Poller, Shared};
@@ -14,10 +14,12 @@ use crate::kept::{Children, DataAnswer, Kept, Mark};
 use crate::multi_read::{Read, ReadAnswer};
 use crate::node::{Mode, Node, Stat};
 use crate::options::{OpenError, SessionOptions};
+use crate::paths;
 use crate::request::Request;
-use crate::retry::Retry;
+use crate::retry::{is_expired, Retry, Tries};
 use crate::saved::SavedSession;
 use crate::snapshot::Snapshot;
+use crate::stats::Stats;
 use crate::ticket::Ticket;
 use crate::told::Event;
 use crate::transaction::Transaction;
@@ -175,31 +177,26 @@ impl Session {
     ///
     /// [`ErrorKind::Server`](crate::ErrorKind::Server) where the server refuses it, [`ErrorKind::NoReply`](crate::ErrorKind::NoReply) with why
     /// there is no reply, [`ErrorKind::TimedOut`](crate::ErrorKind::TimedOut) where its limit has come after it was sent, so that a write
-    /// may have happened, or may yet; where it was not sent, and never is, [`NotConnected`](NoReply::NotConnected), or
-    /// [`TooManyPending`](NoReply::TooManyPending) with a connection; and
+    /// may have happened, or may yet; where it was not sent, and never is, [`NotConnected`](crate::NoReply::NotConnected), or
+    /// [`TooManyPending`](crate::NoReply::TooManyPending) with a connection; and
     /// [`ErrorKind::Fault`](crate::ErrorKind::Fault) of [`Fault::NotPath`], [`Fault::NoMemory`], [`Fault::Halted`],
     /// [`Fault::UnknownNumber`] or [`Fault::Panicked`]. [`QueueFull`](crate::ErrorKind::QueueFull) where too much waits to be written.
     pub fn call<T>(&self, mut request: Request<T>) -> Result<T, Error> {
-        let limit = request.asked.limit.or(self.limit);
-        let until = limit.and_then(|limit| Instant::now().checked_add(limit));
-        let left = || until.map(|until| until.saturating_duration_since(Instant::now()));
+        let tries = Tries::of(self.renews, request.asked.limit.or(self.limit));
         for pause in self.retry.pauses() {
-            request.asked.limit = left();
-            let answer = self.ask(request.clone()).wait();
-            let is_over = left().is_some_and(|left| left <= pause);
-            match answer {
-                Err(error) if self.repeats(&request, &error) && !is_over => thread::sleep(pause),
+            request.asked.limit = tries.left();
+            match self.ask(request.clone()).wait() {
+                Err(error) if tries.goes_on(&request, &error, pause) => thread::sleep(pause),
                 answer => return answer,
             }
         }
-        request.asked.limit = left();
+        request.asked.limit = tries.left();
         self.ask(request).wait()
     }
 
-    /// Whether a call is to be asked again after this error. After an expiry nothing was sent.
-    fn repeats<T>(&self, request: &Request<T>, error: &Error) -> bool {
-        let is_expired = error.no_reply() == Some(NoReply::SessionExpired);
-        request.may_be_repeated(error) || self.renews && is_expired
+    /// Whether another session goes on after this error.
+    pub(crate) fn lives_through(&self, error: &Error) -> bool {
+        self.renews && is_expired(error)
     }
 
     /// Begins a transaction: operations that happen together or not at all.

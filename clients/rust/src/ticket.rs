@@ -3,6 +3,7 @@
 use crate::error::{Error, ErrorKind, Search};
 use crate::moment::{Clock, Moment};
 use crate::signal::Signal;
+use crate::stats::{CallKind, CallOutcome, Observation};
 use crate::told::{Found, Outcome};
 use std::fmt;
 use std::future::Future;
@@ -30,6 +31,7 @@ pub(crate) type Ending = Result<Found, Error>;
 #[derive(Debug)]
 pub(crate) struct Slot {
     node: Option<String>,
+    kind: CallKind,
     asked_at: Instant,
     stage: Mutex<Stage>,
     is_told: Signal,
@@ -37,9 +39,10 @@ pub(crate) struct Slot {
 
 impl Slot {
     /// Of a call that is asked now, about this node.
-    pub(crate) fn new(node: Option<&str>) -> Arc<Slot> {
+    pub(crate) fn new(node: Option<&str>, kind: CallKind) -> Arc<Slot> {
         Arc::new(Slot {
             node: node.map(String::from),
+            kind,
             asked_at: Instant::now(),
             stage: Mutex::new(Stage::Waits(None)),
             is_told: Signal::default(),
@@ -61,6 +64,25 @@ impl Slot {
         })
     }
 
+    /// What the call was about, what has come of it where it ends so, and the time since it was asked.
+    pub(crate) fn came(&self, ending: &Ending) -> (CallKind, CallOutcome, Duration) {
+        let outcome = CallOutcome::of(ending.as_ref().err().map(Error::kind));
+        (self.kind, outcome, self.asked_at.elapsed())
+    }
+
+    /// What is observed of the call where it ends so.
+    pub(crate) fn observed(&self, ending: &Ending) -> Observation {
+        let (kind, outcome, took) = self.came(ending);
+        Observation::Answered {
+            kind,
+            path: self.node.clone(),
+            outcome,
+            code: ending.as_ref().err().and_then(Error::code),
+            zxid: ending.as_ref().map_or(0, |found| found.zxid),
+            took,
+        }
+    }
+
     /// Puts the answer there, and wakes who waits for it.
     pub(crate) fn tell(&self, ending: Ending) {
         let before = mem::replace(&mut *self.stage(), Stage::Told(ending));
@@ -68,6 +90,11 @@ impl Slot {
         if let Stage::Waits(Some(waker)) = before {
             waker.wake();
         }
+    }
+
+    /// When the call was asked.
+    pub(crate) fn asked_at(&self) -> Instant {
+        self.asked_at
     }
 
     pub(crate) fn is_told(&self) -> bool {
@@ -203,6 +230,9 @@ impl<T> Ticket<T> {
     /// How the call ends, or that it has not by this instant.
     fn ending(&self, until: Option<Instant>) -> Ending {
         loop {
+            if let Some(ending) = take(&mut self.slot.stage()) {
+                return ending; // without a look at the clock
+            }
             let next = self.limit.next().into_iter().chain(until).min();
             if let Some(ending) = self.slot.wait(next) {
                 return ending;

@@ -10,6 +10,7 @@ use crate::looking::Spelled;
 use crate::multi_read::ReadAnswer;
 use crate::node::{NodeEvent, Side, Stat};
 use crate::output::{Brought, Cause, GivenUp, Reply};
+use crate::stats::ConnectionEnd;
 use crate::transaction::Change;
 use std::collections::VecDeque;
 use std::mem;
@@ -137,6 +138,8 @@ pub(crate) struct News {
     pub(crate) is_expired: bool,
     /// Whether the connection is to be closed, or the attempt given up.
     pub(crate) hangs_up: bool,
+    /// Why the machine gives the connection up, where it says so.
+    pub(crate) cause: Option<ConnectionEnd>,
     /// Whether that is of an accepted session, without a word why: an answer does not come, or a server says that the session is elsewhere.
     pub(crate) is_left: bool,
     /// The place of the host that is to be dialled, and within which time.
@@ -149,6 +152,18 @@ pub(crate) struct News {
     pub(crate) shown: Vec<(u64, Shows)>,
     /// What is told of trees, by their tickets, before all of that.
     pub(crate) trees: Vec<(u64, TreeNews)>,
+}
+
+impl News {
+    /// Why a connection is over that ends now, where the machine says so.
+    pub(crate) fn end(&self) -> Option<ConnectionEnd> {
+        match self.state {
+            _ if self.is_expired => Some(ConnectionEnd::Expired),
+            Some(State::Closed) => Some(ConnectionEnd::Closed),
+            _ if self.is_left => self.cause.or(Some(ConnectionEnd::Silent)),
+            _ => self.cause,
+        }
+    }
 }
 
 impl Found {
@@ -227,7 +242,10 @@ impl Told {
                 self.tell_report(String::from(path), side, event);
             }
             Action::State(state) => self.tell_state(state),
-            Action::Drop(given_up) => self.tell(dropped(&given_up)),
+            Action::Drop(given_up) => {
+                self.news.cause = Some(ConnectionEnd::of(&given_up.cause));
+                self.tell(dropped(&given_up));
+            }
             Action::Dial { place, within } => self.news.dial = Some((place, within)),
             Action::HangUp => self.hang_up(),
             Action::Renewed => {}

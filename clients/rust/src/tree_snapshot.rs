@@ -52,6 +52,12 @@ pub(crate) fn is_below(path: &str, above: &str) -> bool {
 }
 
 impl TreeSnapshot {
+    /// The bytes of its paths and data.
+    pub(crate) fn bytes(&self) -> usize {
+        let of = |node: &SubtreeNode| node.path.len() + node.data.as_ref().map_or(0, Vec::len);
+        self.subtree.nodes.iter().map(of).sum()
+    }
+
     /// The nodes at and below this root, in any order.
     pub(crate) fn new(root: &str, mut subtree: Subtree) -> TreeSnapshot {
         subtree

@@ -30,7 +30,7 @@ pub(crate) struct Wait {
 impl Engine {
     /// Asks. The answer comes to the slot.
     pub(crate) fn ask(&mut self, asked: Asked, slot: Arc<Slot>) -> Wait {
-        let until = self.limit_of(&asked);
+        let until = self.limit_of(&asked, slot.asked_at());
         let wait = Wait {
             until,
             is_to_wake: self.line.is_none(),
@@ -56,13 +56,13 @@ impl Engine {
 
     /// To which moment a call waits: by its own limit, else by that of the session, else for as long as the timeout. A close waits for no longer
     /// than a second where no server has accepted the session.
-    fn limit_of(&self, asked: &Asked) -> Moment {
+    fn limit_of(&self, asked: &Asked, now: Instant) -> Moment {
         let patience = self.machine.timeout().max(SHORTEST_PATIENCE);
         let mut limit = asked.limit.or(self.limit).unwrap_or(patience);
         if matches!(asked.call, Call::Core(CoreCall::Close)) && !self.is_connected() {
             limit = limit.min(LONGEST_CLOSE);
         }
-        let until = Instant::now().checked_add(limit);
+        let until = now.checked_add(limit);
         until.map_or(NEVER, |until| self.clock.moment_of(until))
     }
 

@@ -31,6 +31,9 @@ impl Engine {
 
     /// Asks for what is due, where a server has accepted the session.
     pub(super) fn ask_deletions(&mut self) {
+        if self.deletions.is_empty() {
+            return;
+        }
         let now = self.clock.now();
         while self.deletions.is_due(now) && self.is_connected() && !self.is_closing() {
             let ticket = self.calls.next_ticket();

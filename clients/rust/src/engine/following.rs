@@ -39,6 +39,20 @@ impl Engine {
         }
     }
 
+    /// How many nodes are followed, and how many bytes of their paths and data are kept.
+    pub(super) fn followed_bytes(&self) -> (usize, usize) {
+        let followed = self.followed.all();
+        let bytes = followed.iter().map(|(_, path)| {
+            let kept = self.machine.peek_data(path).ok().flatten();
+            let data = match kept.map(|kept| kept.answer) {
+                Some(DataAnswer::Full { data, .. }) => data.map_or(0, |data| data.len()),
+                _ => 0,
+            };
+            self.chroot.inner(path.clone()).len() + data
+        });
+        (followed.len(), bytes.sum())
+    }
+
     /// Another machine follows what the one before has followed.
     pub(super) fn follow_again(&mut self) {
         for (ticket, path) in self.followed.all() {

@@ -7,6 +7,7 @@ use crate::fault::{Code, Fault, NoReply};
 use crate::hosts::chance;
 use crate::machine::Machine;
 use crate::moment::Moment;
+use crate::stats::ConnectionEnd;
 use crate::told::{Event, Found};
 
 impl Engine {
@@ -58,6 +59,7 @@ impl Engine {
         if self.is_over() {
             return;
         }
+        self.ending = Some(ConnectionEnd::CredentialsRefused);
         self.hang_up();
         self.course = Course::Barred;
         self.credentials.clear();
@@ -67,6 +69,7 @@ impl Engine {
         let other = saved.and_then(|saved| Machine::resume(timeout, count, chance(), &saved));
         if let Ok(other) = other {
             self.machine = other; // the one before is freed, with what it knows of the session
+            self.note_deadline();
         }
         self.told.tell(Event::CredentialsRefused);
     }

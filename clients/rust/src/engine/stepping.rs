@@ -8,6 +8,7 @@ use crate::growing::Growing;
 use crate::machine::Machine;
 use crate::moment::Moment;
 use crate::outbox::Outbox;
+use crate::stats::{ConnectionEnd, Observation};
 use crate::stream::Outgoing;
 use crate::told::News;
 use std::borrow::Cow;
@@ -35,13 +36,16 @@ impl Engine {
     {
         let actions = step(&mut self.machine, now);
         let taken = actions.and_then(|actions| self.told.take(actions));
+        self.note_deadline();
         self.settle(now, taken)
     }
 
     /// Does what the machine has said at a step, in its order. The connection is over where the machine says so or has no use any more.
     pub(super) fn settle(&mut self, now: Moment, taken: Result<(), Fault>) -> Result<(), Fault> {
         let mut news = mem::take(&mut self.told.news);
+        self.ending = news.end().or(self.ending);
         if let Some(fault) = taken.as_ref().err().filter(|fault| fault.is_final()) {
+            self.ending = Some(ConnectionEnd::Dropped);
             self.end_course(Course::Halted(fault.clone()));
         }
         if news.is_left {
@@ -54,6 +58,7 @@ impl Engine {
         self.note(now, &news);
         self.send();
         if self.end_answered() {
+            self.ending = Some(ConnectionEnd::Unreadable);
             self.end()?;
         }
         for (place, code) in news.credentials {
@@ -84,8 +89,10 @@ impl Engine {
     fn note(&mut self, now: Moment, news: &News) {
         if news.state == Some(State::Connected) {
             self.forget_attempts();
+            self.note_admission();
         }
         if news.is_expired {
+            self.tally.note(Observation::SessionLost);
             self.deletions.clear();
             self.trees.values_mut().for_each(Growing::is_past);
             if !self.renews {
@@ -140,6 +147,7 @@ impl Engine {
     pub(super) fn write(&mut self, frames: &[u8]) {
         if let Some(line) = self.line.as_ref().filter(|_| !frames.is_empty()) {
             line.put(frames);
+            self.tally.note(Observation::BytesOut(frames.len()));
             self.outboxes.push(Arc::clone(line));
         }
     }
@@ -176,6 +184,8 @@ impl Engine {
     /// The attempt of this number has failed.
     pub(crate) fn has_failed(&mut self, number: u64, fault: &io::Error) -> Result<(), Fault> {
         self.note_attempt(fault.to_string());
+        let why = fault.to_string();
+        self.tally.note(Observation::AttemptFailed { why });
         if self.takes_attempt(number) {
             self.step(self.clock.now(), Machine::failed)?;
         }
@@ -206,6 +216,9 @@ impl Engine {
     /// Hands in what came from the server, and before it what there was no memory for.
     pub(crate) fn hand_in(&mut self, bytes: &[u8]) -> Result<(), Fault> {
         let now = self.now();
+        if !bytes.is_empty() {
+            self.tally.note(Observation::BytesIn(bytes.len()));
+        }
         let kept = mem::take(&mut self.inbox);
         let came = if kept.is_empty() {
             Cow::Borrowed(bytes)
@@ -214,12 +227,23 @@ impl Engine {
         };
         let actions = self.machine.bytes(now, &came);
         let taken = actions.and_then(|actions| self.told.take(actions));
+        self.note_deadline();
         // Nothing is due at this moment: what the machine leaves a connection for has come.
         self.told.news.is_left = false;
         if taken.is_err() {
             self.inbox = came.into_owned();
         }
         self.settle(now, taken)
+    }
+
+    /// Notes that a server has accepted the session.
+    fn note_admission(&mut self) {
+        let server = self.address.map_or_else(String::new, |it| it.to_string());
+        let session = match self.machine.saved() {
+            Ok(saved) if self.tally.is_observed => saved.id().unwrap_or_default(),
+            _ => 0,
+        };
+        self.tally.note(Observation::Connected { server, session });
     }
 
     /// Notes why a connection is given up whose session was accepted.
@@ -247,7 +271,10 @@ impl Engine {
         self.dialling = None;
         self.inbox.clear();
         self.told.frames.clear();
+        let ending = self.ending.take();
         if let Some(line) = self.line.take() {
+            let end = ending.unwrap_or(ConnectionEnd::Ended);
+            self.tally.note(Observation::ConnectionEnded(end));
             line.end();
             self.outboxes.push(line);
         }

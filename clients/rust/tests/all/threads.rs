@@ -225,18 +225,32 @@ fn a_write_that_may_have_happened_is_not_asked_again() {
     assert_eq!(count.load(Ordering::SeqCst), 1);
 }
 
-#[test]
-fn a_write_that_was_refused_for_a_while_is_asked_again() {
+/// A server that refuses the first two writes for a while.
+fn throttling() -> Partner {
     let mut refusals = 2;
-    let partner = Partner::answering(move |line, request| {
+    Partner::answering(move |line, request| {
         if request.kind == SET_DATA && refusals > 0 {
             refusals -= 1;
             line.refuse(request.xid, Code::THROTTLED.0);
         } else {
             line.tell_stat(request.xid);
         }
-    });
+    })
+}
+
+#[test]
+fn a_write_that_was_refused_for_a_while_is_asked_again() {
+    let partner = throttling();
     assert!(retrying(&partner).set("/a", b"one", ANY_VERSION).is_ok());
+    let partner = throttling();
+    let options = SessionOptions::new(millis(10_000)).retry(Retry::times(2));
+    let mut local = options.open_local(partner.address).unwrap();
+    assert!(local.set("/a", b"one", ANY_VERSION).is_ok());
+    let partner = throttling();
+    let options = SessionOptions::new(millis(10_000)).retry(Retry::times(1));
+    let mut local = options.open_local(partner.address).unwrap();
+    let refused = local.set("/a", b"one", ANY_VERSION);
+    assert_eq!(kind_of(refused), Code::THROTTLED.into());
 }
 
 #[test]

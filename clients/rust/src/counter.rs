@@ -1,0 +1,130 @@
+//! A number that clients change together. Tested, and not proved.
+
+use crate::error::{Error, ErrorKind};
+use crate::fault::Code;
+use crate::request::Request;
+use crate::session::Session;
+
+/// A whole number that is changed by compare and set, by the node of kazoo's `Counter`, which is made where it is not there.
+///
+/// Each change happens once, whoever else changes the number. Where the answer to one is lost it is looked for: if it has not happened, it
+/// is asked again; where that can not be told, the error [may have happened](Error::may_have_happened).
+///
+/// ```no_run
+/// use dirwolleu::{Counter, Session};
+/// use std::time::Duration;
+///
+/// # fn main() -> Result<(), Box<dyn std::error::Error>> {
+/// let session = Session::open("127.0.0.1:2181", Duration::from_secs(10))?;
+/// let counter = Counter::new(&session, "/jobs");
+/// let before = counter.get()?;
+/// println!("{} jobs, and {} more", before, counter.add(5)? - before);
+/// counter.change(|jobs| jobs * 2)?;
+/// # Ok(())
+/// # }
+/// ```
+#[derive(Clone, Debug)]
+pub struct Counter<'a> {
+    session: &'a Session,
+    path: String,
+}
+
+impl<'a> Counter<'a> {
+    /// The counter at this node.
+    #[must_use]
+    pub fn new(session: &'a Session, path: &str) -> Counter<'a> {
+        Counter {
+            session,
+            path: String::from(path),
+        }
+    }
+
+    /// The number: 0 where the node has no data, or is not there.
+    ///
+    /// # Errors
+    ///
+    /// Those of a read, and [`ErrorKind::NotNumber`].
+    pub fn get(&self) -> Result<i64, Error> {
+        Ok(self.read()?.0)
+    }
+
+    /// Adds a number: what it comes to.
+    ///
+    /// # Errors
+    ///
+    /// As [`change`](Counter::change); [`ErrorKind::NotNumber`] too where the sum does not fit, and then nothing is changed.
+    pub fn add(&self, number: i64) -> Result<i64, Error> {
+        self.change_to(|before| before.checked_add(number))
+    }
+
+    /// Sets the number to what a function makes of it, and gives that. The function is called again where another client was first.
+    ///
+    /// # Errors
+    ///
+    /// Those of calls, and [`ErrorKind::NotNumber`].
+    pub fn change(&self, change: impl Fn(i64) -> i64) -> Result<i64, Error> {
+        self.change_to(|before| Some(change(before)))
+    }
+
+    fn not_number(&self) -> Error {
+        Error::about(Some(&self.path), ErrorKind::NotNumber)
+    }
+
+    /// The number, and the version of the node, which is made where there is none.
+    fn read(&self) -> Result<(i64, i32), Error> {
+        loop {
+            let node = match self.session.get(&self.path) {
+                Err(error) if error.code() == Some(Code::NO_NODE) => {
+                    self.session.ensure_path(&self.path)?;
+                    continue;
+                }
+                node => node?,
+            };
+            let data = node.data.unwrap_or_default();
+            let text = std::str::from_utf8(&data).ok();
+            let number = match text {
+                Some("") => Some(0),
+                text => text.and_then(|text| text.parse().ok()),
+            };
+            return Ok((number.ok_or_else(|| self.not_number())?, node.stat.version));
+        }
+    }
+
+    fn change_to(&self, change: impl Fn(i64) -> Option<i64>) -> Result<i64, Error> {
+        loop {
+            let (before, version) = self.read()?;
+            let after = change(before).ok_or_else(|| self.not_number())?;
+            if self.is_set(&after.to_string(), version)? {
+                return Ok(after);
+            }
+        }
+    }
+
+    /// Whether the data of this version were changed.
+    fn is_set(&self, data: &str, version: i32) -> Result<bool, Error> {
+        let set = Request::set(&self.path, data.as_bytes(), version);
+        match self.session.call(set) {
+            Ok(_) => Ok(true),
+            Err(error) if matches!(error.code(), Some(Code::BAD_VERSION | Code::NO_NODE)) => {
+                Ok(false)
+            }
+            Err(lost) if lost.may_have_happened() => match self.is_open(data, version) {
+                Ok(false) => Ok(false),
+                Ok(true) | Err(_) => Err(lost),
+            },
+            Err(error) => Err(error),
+        }
+    }
+
+    /// Whether a set may have happened whose answer was lost. After a `sync` it can't happen any more.
+    fn is_open(&self, data: &str, version: i32) -> Result<bool, Error> {
+        self.session.sync(&self.path)?;
+        let found = match self.session.get(&self.path) {
+            Err(error) if error.code() == Some(Code::NO_NODE) => return Ok(true),
+            found => found?,
+        };
+        let is_of_another = found.stat.version == version.wrapping_add(1)
+            && found.data.as_deref() != Some(data.as_bytes());
+        Ok(found.stat.version != version && !is_of_another)
+    }
+}

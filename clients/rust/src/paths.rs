@@ -1,0 +1,91 @@
+//! Nodes with all that are above them, or below.
+
+use crate::both::Asks;
+use crate::deletions::child_of;
+use crate::error::Error;
+use crate::fault::{Code, NoReply};
+use crate::node::{Mode, ANY_VERSION};
+use crate::request::Request;
+
+/// How often a request is asked again whose answer was lost: to make, or to delete, what is so already does no harm.
+const MOST_LOSSES: usize = 8;
+
+/// Asks, and again where the answer is lost.
+fn surely<T>(session: &mut impl Asks, request: &Request<T>) -> Result<T, Error> {
+    for _ in 0..MOST_LOSSES {
+        match session.answer(request.clone()) {
+            Err(error) if error.no_reply() == Some(NoReply::ConnectionLoss) => {}
+            answer => return answer,
+        }
+    }
+    session.answer(request.clone())
+}
+
+/// The node above this one. The root has none.
+pub(crate) fn parent_of(path: &str) -> Option<&str> {
+    match path.rfind('/')? {
+        0 if path.len() == 1 => None,
+        0 => Some("/"),
+        end => Some(&path[..end]),
+    }
+}
+
+/// Makes a node without data, and those above it, as far as they are not there.
+pub(crate) fn ensure(session: &mut impl Asks, path: &str) -> Result<(), Error> {
+    let mut missing = Vec::new();
+    let mut next = Some(path);
+    while let Some(path) = next {
+        if session.answer(Request::exists(path))?.is_some() {
+            break;
+        }
+        missing.push(path);
+        next = parent_of(path);
+    }
+    while let Some(path) = missing.pop() {
+        match surely(session, &Request::create(path, b"", Mode::Persistent)) {
+            Ok(_) => {}
+            Err(error) if error.code() == Some(Code::NODE_EXISTS) => {}
+            Err(error) if error.code() == Some(Code::NO_NODE) => {
+                let above = parent_of(path).ok_or(error)?; // it was there, and is gone
+                missing.extend([path, above]);
+            }
+            Err(error) => return Err(error),
+        }
+    }
+    Ok(())
+}
+
+/// Deletes a node and all that are below it, from below: how many.
+pub(crate) fn delete_all(session: &mut impl Asks, path: &str) -> Result<usize, Error> {
+    let mut left = vec![String::from(path)];
+    let mut count = 0;
+    while let Some(path) = left.pop() {
+        match surely(session, &Request::delete(&path, ANY_VERSION)) {
+            Ok(()) => count += 1,
+            Err(error) if error.code() == Some(Code::NO_NODE) => {}
+            Err(error) if error.code() == Some(Code::NOT_EMPTY) => {
+                let names = match session.answer(Request::children(&path)) {
+                    Err(error) if error.code() == Some(Code::NO_NODE) => Vec::new(),
+                    listed => listed?.0,
+                };
+                let below: Vec<_> = names.iter().map(|name| child_of(&path, name)).collect();
+                left.push(path);
+                left.extend(below);
+            }
+            Err(error) => return Err(error),
+        }
+    }
+    Ok(count)
+}
+
+#[cfg(test)]
+mod tests {
+    use super::parent_of;
+
+    #[test]
+    fn the_root_has_nothing_above_it() {
+        for (path, above) in [("/", None), ("/a", Some("/")), ("/a/b", Some("/a"))] {
+            assert_eq!(parent_of(path), above);
+        }
+    }
+}

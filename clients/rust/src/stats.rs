@@ -1,0 +1,534 @@
+//! What is observed of a session, and counted. Tested, and not proved.
+
+use crate::error::ErrorKind;
+use crate::fault::{Code, NoReply};
+use crate::output::Cause;
+use crate::raw::RawCall;
+use crate::request::{Call, CoreCall};
+use std::fmt::{self, Write as _};
+use std::mem;
+use std::sync::Arc;
+use std::time::Duration;
+
+/// Names of the variants of an enum, as metrics have them, in their order.
+macro_rules! named {
+    ($(#[$doc:meta])* $type:ident: $($(#[$of:meta])* $variant:ident $name:literal,)*) => {
+        $(#[$doc])*
+        #[derive(Clone, Copy, Debug, PartialEq, Eq, Hash)]
+        #[non_exhaustive]
+        pub enum $type {
+            $($(#[$of])* $variant,)*
+        }
+
+        impl $type {
+            const ALL: &'static [$type] = &[$($type::$variant),*];
+
+            /// The name that metrics have for it, in each language of this library.
+            #[must_use]
+            pub const fn name(self) -> &'static str {
+                match self {
+                    $($type::$variant => $name,)*
+                }
+            }
+        }
+    };
+}
+
+named! {
+    /// Why a connection was over.
+    ConnectionEnd:
+    /// The server or the network ended it.
+    Ended "ended",
+    /// Nothing came in time, or not the answer.
+    Silent "silent",
+    /// What came does not read.
+    Unreadable "unreadable",
+    /// The server is behind what was seen.
+    Behind "server_behind",
+    /// The server refused to set the watches again.
+    WatchesRefused "watches_refused",
+    /// The session has expired.
+    Expired "expired",
+    /// The session was closed.
+    Closed "closed",
+    /// The server does not take the credentials of the session.
+    CredentialsRefused "credentials_refused",
+    /// It was given up for another reason, as where memory ran out or the session was let go.
+    Dropped "dropped",
+}
+
+named! {
+    /// What a call was about.
+    CallKind:
+    /// Whether a node is there.
+    Exists "exists",
+    /// The data of a node.
+    Get "get",
+    /// The names of children.
+    Children "children",
+    /// Data that are set.
+    Set "set",
+    /// A node that is made.
+    Create "create",
+    /// A node that is deleted.
+    Delete "delete",
+    /// A transaction.
+    Transaction "transaction",
+    /// A sync.
+    Sync "sync",
+    /// An ACL, which is read or set.
+    Acl "acl",
+    /// Another one.
+    Other "other",
+    /// The end of the session.
+    Close "close",
+}
+
+named! {
+    /// What has come of a call.
+    CallOutcome:
+    /// Its reply.
+    Ok "ok",
+    /// The server's code.
+    Refused "refused",
+    /// It was lost with its connection: it may have happened.
+    Lost "lost",
+    /// The session has expired.
+    Expired "expired",
+    /// The session is closed.
+    Closed "closed",
+    /// Its limit came before it was sent.
+    NotConnected "not_connected",
+    /// Its limit came after it was sent.
+    Late "late",
+    /// It was refused before it was sent, as of a text that is no path.
+    NotAsked "not_asked",
+}
+
+impl CallKind {
+    pub(crate) fn of(call: &Call) -> CallKind {
+        match call {
+            Call::Core(CoreCall::Exists(_)) => CallKind::Exists,
+            Call::Core(CoreCall::Data(_)) => CallKind::Get,
+            Call::Core(CoreCall::Children(_)) => CallKind::Children,
+            Call::Core(CoreCall::Set { .. }) => CallKind::Set,
+            Call::Core(CoreCall::Create { .. }) | Call::Raw(RawCall::Create { .. }) => {
+                CallKind::Create
+            }
+            Call::Core(CoreCall::Delete { .. }) => CallKind::Delete,
+            Call::Core(CoreCall::Close) => CallKind::Close,
+            Call::Raw(RawCall::Transaction(_)) => CallKind::Transaction,
+            Call::Raw(RawCall::Sync) => CallKind::Sync,
+            Call::Raw(RawCall::Acls | RawCall::SetAcls { .. }) => CallKind::Acl,
+            Call::Raw(_) | Call::Auth(_) => CallKind::Other,
+        }
+    }
+}
+
+impl CallOutcome {
+    pub(crate) fn of(kind: Option<&ErrorKind>) -> CallOutcome {
+        match kind {
+            None => CallOutcome::Ok,
+            Some(ErrorKind::Server(_) | ErrorKind::RolledBack { .. }) => CallOutcome::Refused,
+            Some(ErrorKind::TimedOut) => CallOutcome::Late,
+            Some(ErrorKind::NoReply(reason)) => match reason {
+                NoReply::ConnectionLoss => CallOutcome::Lost,
+                NoReply::SessionExpired => CallOutcome::Expired,
+                NoReply::SessionClosed => CallOutcome::Closed,
+                NoReply::NotConnected | NoReply::TooManyPending => CallOutcome::NotConnected,
+                _ => CallOutcome::NotAsked,
+            },
+            Some(_) => CallOutcome::NotAsked,
+        }
+    }
+}
+
+impl ConnectionEnd {
+    /// By what the machine has said of a connection that it gives up.
+    pub(crate) fn of(cause: &Cause) -> ConnectionEnd {
+        match cause {
+            Cause::Frame | Cause::Payload => ConnectionEnd::Unreadable,
+            Cause::Silence => ConnectionEnd::Silent,
+            Cause::Behind { .. } => ConnectionEnd::Behind,
+            Cause::WatchesRefused { .. } => ConnectionEnd::WatchesRefused,
+        }
+    }
+}
+
+/// What is observed of a session, of [`SessionOptions::observe`](crate::SessionOptions::observe): for metrics and traces.
+#[derive(Clone, Debug, PartialEq, Eq)]
+#[non_exhaustive]
+pub enum Observation {
+    /// An attempt to connect has failed.
+    AttemptFailed {
+        /// Why, with the address.
+        why: String,
+    },
+    /// A server has accepted the session.
+    Connected {
+        /// Its address.
+        server: String,
+        /// The number of the session.
+        session: i64,
+    },
+    /// A connection is over.
+    ConnectionEnded(ConnectionEnd),
+    /// The session has expired.
+    SessionLost,
+    /// A call has its answer, or will have none.
+    Answered {
+        /// What it was about.
+        kind: CallKind,
+        /// The node that it was about.
+        path: Option<String>,
+        /// What has come of it.
+        outcome: CallOutcome,
+        /// The server's code, where it was refused.
+        code: Option<Code>,
+        /// The zxid of its reply: 0 where there is none.
+        zxid: i64,
+        /// The time since it was asked.
+        took: Duration,
+    },
+    /// This many bytes came from the server.
+    BytesIn(usize),
+    /// This many bytes were handed to the connection.
+    BytesOut(usize),
+}
+
+/// What is told what is observed.
+pub(crate) type Observer = Arc<dyn Fn(&Observation) + Send + Sync>;
+
+/// Bounds of how long calls take, with their names.
+const BOUNDS: [(Duration, &str); 13] = [
+    (Duration::from_millis(1), "0.001"),
+    (Duration::from_millis(2), "0.002"),
+    (Duration::from_millis(5), "0.005"),
+    (Duration::from_millis(10), "0.01"),
+    (Duration::from_millis(20), "0.02"),
+    (Duration::from_millis(50), "0.05"),
+    (Duration::from_millis(100), "0.1"),
+    (Duration::from_millis(200), "0.2"),
+    (Duration::from_millis(500), "0.5"),
+    (Duration::from_secs(1), "1"),
+    (Duration::from_secs(2), "2"),
+    (Duration::from_secs(5), "5"),
+    (Duration::from_secs(10), "10"),
+];
+
+/// How long calls took.
+#[derive(Clone, Copy, Debug, Default, PartialEq, Eq)]
+pub struct Histogram {
+    /// Those within each bound, and above the one before; the last has no bound.
+    within: [u64; BOUNDS.len() + 1],
+    sum: Duration,
+}
+
+impl Histogram {
+    fn note(&mut self, took: Duration) {
+        let place = BOUNDS.iter().position(|(bound, _)| took <= *bound);
+        self.within[place.unwrap_or(BOUNDS.len())] += 1;
+        self.sum += took;
+    }
+
+    /// How many calls there were.
+    #[must_use]
+    pub fn count(&self) -> u64 {
+        self.within.iter().sum()
+    }
+
+    /// How long all of them took.
+    #[must_use]
+    pub fn sum(&self) -> Duration {
+        self.sum
+    }
+
+    /// The bounds, from 1 millisecond to 10 seconds, and how many calls took no longer than each.
+    pub fn within(&self) -> impl Iterator<Item = (Duration, u64)> + '_ {
+        let mut sum = 0;
+        BOUNDS.iter().zip(self.within).map(move |((bound, _), of)| {
+            sum += of;
+            (*bound, sum)
+        })
+    }
+}
+
+/// What a session has counted since it was opened, and what it holds: of [`Session::stats`](crate::Session::stats).
+///
+/// ```no_run
+/// use dirwolleu::{CallKind, CallOutcome, Session};
+/// use std::time::Duration;
+///
+/// # fn main() -> Result<(), Box<dyn std::error::Error>> {
+/// let session = Session::open("127.0.0.1:2181", Duration::from_secs(10))?;
+/// session.exists("/config")?;
+/// let stats = session.stats();
+/// println!("{} connections, {} reads lost", stats.connections, stats.calls(CallKind::Get, CallOutcome::Lost));
+/// println!("{}", stats.prometheus());
+/// # Ok(())
+/// # }
+/// ```
+#[derive(Clone, Debug, Default, PartialEq, Eq)]
+#[non_exhaustive]
+pub struct Stats {
+    /// How often a server has accepted the session.
+    pub connections: u64,
+    /// Attempts of which no connection came.
+    pub attempts_failed: u64,
+    /// Sessions that have expired.
+    pub sessions_lost: u64,
+    /// Bytes that came from servers.
+    pub bytes_in: u64,
+    /// Bytes that were handed to connections.
+    pub bytes_out: u64,
+    /// How long ago a server was heard: how old what is followed, and good, may be. None before the first word.
+    pub age: Option<Duration>,
+    /// The nodes that are followed.
+    pub nodes: usize,
+    /// The trees that are followed.
+    pub trees: usize,
+    /// The bytes of paths and data that are kept of what is followed.
+    pub kept_bytes: usize,
+    ends: [u64; ConnectionEnd::ALL.len()],
+    calls: [[u64; CallOutcome::ALL.len()]; CallKind::ALL.len()],
+    times: [Histogram; CallKind::ALL.len()],
+}
+
+impl Stats {
+    /// Connections that were over for this reason.
+    #[must_use]
+    pub fn ends(&self, end: ConnectionEnd) -> u64 {
+        self.ends[end as usize]
+    }
+
+    /// Calls of this kind of which this has come.
+    #[must_use]
+    pub fn calls(&self, kind: CallKind, outcome: CallOutcome) -> u64 {
+        self.calls[kind as usize][outcome as usize]
+    }
+
+    /// How long calls of this kind took, from the question to the answer.
+    #[must_use]
+    pub fn times(&self, kind: CallKind) -> &Histogram {
+        &self.times[kind as usize]
+    }
+
+    fn note(&mut self, seen: &Observation) {
+        match seen {
+            Observation::AttemptFailed { .. } => self.attempts_failed += 1,
+            Observation::Connected { .. } => self.connections += 1,
+            Observation::ConnectionEnded(end) => self.ends[*end as usize] += 1,
+            Observation::SessionLost => self.sessions_lost += 1,
+            Observation::Answered {
+                kind,
+                outcome,
+                took,
+                ..
+            } => self.note_answer(*kind, *outcome, *took),
+            Observation::BytesIn(count) => self.bytes_in += *count as u64,
+            Observation::BytesOut(count) => self.bytes_out += *count as u64,
+        }
+    }
+
+    pub(crate) fn note_answer(&mut self, kind: CallKind, outcome: CallOutcome, took: Duration) {
+        self.calls[kind as usize][outcome as usize] += 1;
+        if outcome != CallOutcome::NotAsked {
+            self.times[kind as usize].note(took);
+        }
+    }
+
+    /// The text format of Prometheus, with the names that each language of this library has.
+    #[must_use]
+    pub fn prometheus(&self) -> String {
+        let mut page = String::new();
+        // A String takes whatever is written.
+        let _ = self.write_counters(&mut page);
+        let _ = self.write_times(&mut page);
+        let _ = self.write_rest(&mut page);
+        page
+    }
+
+    fn write_counters(&self, page: &mut String) -> fmt::Result {
+        number(page, "connections_total", CONNECTIONS, self.connections)?;
+        number(
+            page,
+            "attempts_failed_total",
+            ATTEMPTS_FAILED,
+            self.attempts_failed,
+        )?;
+        series(page, "connection_ends_total", "counter", CONNECTION_ENDS)?;
+        for end in ConnectionEnd::ALL {
+            let (name, count) = (end.name(), self.ends(*end));
+            if count > 0 {
+                writeln!(
+                    page,
+                    "dirwolleu_connection_ends_total{{reason=\"{name}\"}} {count}"
+                )?;
+            }
+        }
+        number(
+            page,
+            "sessions_lost_total",
+            SESSIONS_LOST,
+            self.sessions_lost,
+        )?;
+        series(page, "calls_total", "counter", CALLS)?;
+        for kind in CallKind::ALL {
+            for outcome in CallOutcome::ALL {
+                let (name, of, count) = (kind.name(), outcome.name(), self.calls(*kind, *outcome));
+                if count > 0 {
+                    writeln!(
+                        page,
+                        "dirwolleu_calls_total{{kind=\"{name}\",outcome=\"{of}\"}} {count}"
+                    )?;
+                }
+            }
+        }
+        Ok(())
+    }
+
+    fn write_times(&self, page: &mut String) -> fmt::Result {
+        series(page, "call_seconds", "histogram", TIMES)?;
+        for kind in CallKind::ALL {
+            let (times, kind) = (self.times(*kind), kind.name());
+            let count = times.count();
+            if count == 0 {
+                continue;
+            }
+            let bounds = BOUNDS.iter().map(|(_, name)| *name);
+            let within = times.within().map(|(_, within)| within);
+            for (bound, within) in bounds.zip(within).chain([("+Inf", count)]) {
+                writeln!(
+                    page,
+                    "dirwolleu_call_seconds_bucket{{kind=\"{kind}\",le=\"{bound}\"}} {within}"
+                )?;
+            }
+            let sum = times.sum().as_secs_f64();
+            writeln!(
+                page,
+                "dirwolleu_call_seconds_sum{{kind=\"{kind}\"}} {sum:.6}"
+            )?;
+            writeln!(
+                page,
+                "dirwolleu_call_seconds_count{{kind=\"{kind}\"}} {count}"
+            )?;
+        }
+        Ok(())
+    }
+
+    fn write_rest(&self, page: &mut String) -> fmt::Result {
+        series(page, "bytes_total", "counter", BYTES)?;
+        for (direction, count) in [("in", self.bytes_in), ("out", self.bytes_out)] {
+            writeln!(
+                page,
+                "dirwolleu_bytes_total{{direction=\"{direction}\"}} {count}"
+            )?;
+        }
+        if let Some(age) = self.age {
+            series(page, "age_seconds", "gauge", AGE)?;
+            writeln!(page, "dirwolleu_age_seconds {:.3}", age.as_secs_f64())?;
+        }
+        series(page, "followed", "gauge", FOLLOWED)?;
+        for (kind, count) in [("node", self.nodes), ("children", 0), ("tree", self.trees)] {
+            writeln!(page, "dirwolleu_followed{{kind=\"{kind}\"}} {count}")?;
+        }
+        series(page, "kept_bytes", "gauge", KEPT)?;
+        writeln!(page, "dirwolleu_kept_bytes {}", self.kept_bytes)
+    }
+}
+
+const CONNECTIONS: &str = "Servers have accepted the session so often.";
+const ATTEMPTS_FAILED: &str = "Attempts to connect of which no connection came.";
+const CONNECTION_ENDS: &str = "Connections that are over.";
+const SESSIONS_LOST: &str = "Sessions that have expired.";
+const CALLS: &str = "Calls that were answered, or will not be.";
+const TIMES: &str = "From the question to the answer.";
+const BYTES: &str = "Bytes of connections.";
+const AGE: &str = "Since a server was heard.";
+const FOLLOWED: &str = "What is followed.";
+const KEPT: &str = "Bytes that are kept of what is followed.";
+
+fn series(page: &mut String, name: &str, of: &str, help: &str) -> fmt::Result {
+    writeln!(
+        page,
+        "# HELP dirwolleu_{name} {help}\n# TYPE dirwolleu_{name} {of}"
+    )
+}
+
+fn number(page: &mut String, name: &str, help: &str, number: u64) -> fmt::Result {
+    series(page, name, "counter", help)?;
+    writeln!(page, "dirwolleu_{name} {number}")
+}
+
+/// The stats of a session, and what is to be told its observer when its lock is open.
+#[derive(Debug, Default)]
+pub(crate) struct Tally {
+    pub(crate) stats: Stats,
+    pub(crate) is_observed: bool,
+    seen: Vec<Observation>,
+}
+
+impl Tally {
+    pub(crate) fn note(&mut self, seen: Observation) {
+        self.stats.note(&seen);
+        if self.is_observed {
+            self.tell(seen);
+        }
+    }
+
+    /// The observer is to be told.
+    pub(crate) fn tell(&mut self, seen: Observation) {
+        self.seen.push(seen);
+    }
+
+    /// What the observer is to be told.
+    pub(crate) fn take_seen(&mut self) -> Vec<Observation> {
+        mem::take(&mut self.seen)
+    }
+}
+
+#[cfg(test)]
+mod tests {
+    use super::{CallKind, CallOutcome, Histogram, Observation, Stats};
+    use std::time::Duration;
+
+    #[test]
+    fn a_call_is_within_its_bound_and_all_above() {
+        let mut times = Histogram::default();
+        for micros in [1_000, 1_001, 11_000_000] {
+            times.note(Duration::from_micros(micros));
+        }
+        let within: Vec<_> = times.within().map(|(_, within)| within).collect();
+        assert_eq!(within, [1, 2, 2, 2, 2, 2, 2, 2, 2, 2, 2, 2, 2]);
+        assert_eq!(
+            (times.count(), times.sum()),
+            (3, Duration::from_micros(11_002_001))
+        );
+    }
+
+    #[test]
+    fn a_page_has_the_lines_of_prometheus() {
+        let mut stats = Stats::default();
+        stats.note(&Observation::Answered {
+            kind: CallKind::Get,
+            path: None,
+            outcome: CallOutcome::Ok,
+            code: None,
+            zxid: 5,
+            took: Duration::from_millis(3),
+        });
+        let page = stats.prometheus();
+        for line in [
+            "# TYPE dirwolleu_call_seconds histogram",
+            "dirwolleu_connections_total 0",
+            "dirwolleu_calls_total{kind=\"get\",outcome=\"ok\"} 1",
+            "dirwolleu_call_seconds_bucket{kind=\"get\",le=\"0.002\"} 0",
+            "dirwolleu_call_seconds_bucket{kind=\"get\",le=\"0.005\"} 1",
+            "dirwolleu_call_seconds_bucket{kind=\"get\",le=\"+Inf\"} 1",
+            "dirwolleu_call_seconds_sum{kind=\"get\"} 0.003000",
+            "dirwolleu_followed{kind=\"tree\"} 0",
+        ] {
+            assert!(page.lines().any(|found| found == line), "{line}\n{page}");
+        }
+    }
+}

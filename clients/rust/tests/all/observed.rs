@@ -1,0 +1,157 @@
+//! What is counted of a session, and told its observer, at the server in memory. Where there is no python3, each test says so and passes.
+
+use crate::{started, PATIENCE};
+use dirwolleu::{
+    CallKind, CallOutcome, Code, ConnectionEnd, Observation, Request, Session, SessionOptions,
+    SharedSession,
+};
+use std::mem;
+use std::sync::{Arc, Mutex, OnceLock};
+use std::thread::sleep;
+use std::time::{Duration, Instant};
+
+/// A timeout of which no ping comes within a test.
+const LONG: Duration = Duration::from_secs(600);
+
+fn wait_until(what: &str, is_so: impl Fn() -> bool) {
+    let until = Instant::now() + PATIENCE;
+    while !is_so() {
+        assert!(Instant::now() < until, "{what}");
+        sleep(Duration::from_millis(5));
+    }
+}
+
+/// By the protocol a ConnectRequest has 49 bytes, its answer 40 where the server has no read-only mode; a request without a body 12, a path and a
+/// watch 4 + 2 + 1 more; a header of a reply 20 bytes, a Stat 68, data 4 more than they have.
+#[test]
+fn bytes_and_calls_are_counted() {
+    let Some(mut server) = started() else { return };
+    server.tell("create /a one");
+    let session = Session::open(server.address, LONG).unwrap();
+    session.get("/a").unwrap();
+    assert_eq!(session.exists("/b"), Ok(None));
+    session.get("a").unwrap_err();
+    let stats = session.stats();
+    assert_eq!((stats.connections, stats.sessions_lost), (1, 0));
+    assert_eq!(
+        (stats.bytes_out, stats.bytes_in),
+        (49 + 19 + 19, 40 + 20 + 7 + 68 + 20)
+    );
+    assert_eq!(stats.calls(CallKind::Get, CallOutcome::Ok), 1);
+    assert_eq!(stats.calls(CallKind::Get, CallOutcome::NotAsked), 1);
+    assert_eq!(stats.calls(CallKind::Exists, CallOutcome::Refused), 1);
+    assert_eq!(stats.times(CallKind::Get).count(), 1);
+    let page = stats.prometheus();
+    for line in [
+        "dirwolleu_bytes_total{direction=\"out\"} 87",
+        "dirwolleu_call_seconds_count{kind=\"get\"} 1",
+    ] {
+        assert!(page.lines().any(|found| found == line), "{line}\n{page}");
+    }
+}
+
+#[test]
+fn ends_of_connections_and_what_is_kept_are_counted() {
+    let Some(mut server) = started() else { return };
+    server.tell("create /a one");
+    server.tell("create /t two");
+    server.tell("create /t/u three");
+    let session = SessionOptions::new(LONG)
+        .renews(true)
+        .open(server.address)
+        .unwrap();
+    let mut node = session.follow("/a");
+    assert!(node.next().unwrap().unwrap().is_some());
+    let tree = session.tree("/t").unwrap();
+    tree.wait_for(PATIENCE).unwrap();
+    let stats = session.stats();
+    assert_eq!((stats.nodes, stats.trees), (1, 1));
+    assert_eq!(stats.kept_bytes, (2 + 3) + (2 + 3) + (4 + 5)); // each path and its data
+    assert!(stats.age < Some(PATIENCE));
+    server.tell("drop");
+    wait_until("another connection", || session.stats().connections == 2);
+    server.tell("expire");
+    wait_until("another session", || {
+        session.stats().connections == 4 || session.stats().sessions_lost == 1
+    });
+    wait_until("it is connected", || session.exists("/a").is_ok());
+    let stats = session.stats();
+    assert_eq!(stats.sessions_lost, 1);
+    assert_eq!(stats.ends(ConnectionEnd::Expired), 1);
+    assert_eq!(stats.ends(ConnectionEnd::Ended), 2);
+    assert_eq!(stats.connections, 3);
+}
+
+#[test]
+fn an_observer_is_told_in_order_and_may_look() {
+    let Some(server) = started() else { return };
+    let told: Arc<Mutex<Vec<Observation>>> = Arc::default();
+    let looked: Arc<OnceLock<SharedSession>> = Arc::default();
+    let (heard, look) = (Arc::clone(&told), Arc::clone(&looked));
+    let options = SessionOptions::new(LONG).observe(move |seen| {
+        heard.lock().unwrap().push(seen.clone());
+        let _ = look.get().map(|session| session.stats());
+    });
+    let session = options.open(server.address).unwrap().shared();
+    looked.set(session.clone()).unwrap();
+    let id = session.id().unwrap();
+    session.set("/none", b"", 3).unwrap_err();
+    session.call(Request::sync("/")).unwrap();
+    session.close().unwrap();
+    let told = mem::take(&mut *told.lock().unwrap());
+    let is_bytes =
+        |seen: &&Observation| matches!(seen, Observation::BytesIn(_) | Observation::BytesOut(_));
+    let told: Vec<_> = told.iter().filter(|seen| !is_bytes(seen)).collect();
+    assert_eq!(
+        told[0],
+        &Observation::Connected {
+            server: server.address.to_string(),
+            session: id
+        }
+    );
+    let [set, sync, rest @ ..] = &told[1..] else {
+        panic!("{told:?}")
+    };
+    assert!(
+        matches!(set, Observation::Answered { kind: CallKind::Set, path: Some(path), outcome: CallOutcome::Refused, code: Some(Code::NO_NODE), .. } if path == "/none"),
+        "{set:?}"
+    );
+    assert!(
+        matches!(
+            sync,
+            Observation::Answered {
+                kind: CallKind::Sync,
+                outcome: CallOutcome::Ok,
+                ..
+            }
+        ),
+        "{sync:?}"
+    );
+    assert!(
+        rest.contains(&&Observation::ConnectionEnded(ConnectionEnd::Closed)),
+        "{rest:?}"
+    );
+    let is_close = |seen: &&&Observation| {
+        matches!(
+            seen,
+            Observation::Answered {
+                kind: CallKind::Close,
+                outcome: CallOutcome::Ok,
+                ..
+            }
+        )
+    };
+    assert_eq!(rest.iter().filter(is_close).count(), 1, "{rest:?}");
+}
+
+#[test]
+fn attempts_that_fail_are_counted() {
+    let session = SessionOptions::new(LONG)
+        .open_lazily("127.0.0.1:1")
+        .unwrap();
+    wait_until("an attempt has failed", || {
+        session.stats().attempts_failed > 0
+    });
+    assert_eq!(session.stats().connections, 0);
+    assert_eq!(session.stats().age, None);
+}
