@@ -98,7 +98,7 @@ static inline dws_call *dws_create2(dws_session *s, dws_request *request, const 
 static inline dws_call *dws_create_with_acl(dws_session *s, dws_request *request, const char *path, const char *bytes, size_t length, int mode,
                                             const dws_acl *acls, size_t count);
 
-/* Makes a container: a node that the servers delete once it has had children and has none any more (ZooKeeper 3.6). It answers as dws_create2. */
+/* Makes a container: a node that the servers delete once it has had children and has none any more (ZooKeeper 3.5.3). It answers as dws_create2. */
 static inline dws_call *dws_create_container(dws_session *s, dws_request *request, const char *path, const char *bytes, size_t length,
                                              const dws_acl *acls, size_t count);
 

@@ -1540,7 +1540,7 @@ static inline void dws_take_hang_up(dws_session *s)
     if (s->is_connecting || s->is_dial_due) {
         s->is_dial_due = false;
         dws_hang_up(s);
-        dws_tell_missed(s, strerror(ETIMEDOUT));
+        dws_tell_missed(s, "connection timed out");
     } else if (s->wire.socket >= 0) {
         s->cause = s->is_moment ? (int32_t)DW_CAUSE_SILENT : 0;
         dws_hang_up(s);

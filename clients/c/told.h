@@ -29,10 +29,10 @@ static inline void print_quoted(const char *bytes, size_t length)
     putchar('"');
 }
 
-/* Writes what was printed. A program that nobody can read ends. */
+/* Writes what was printed. A program that nobody can read ends. With musl a line end writes too, and where that fails fflush has nothing left. */
 static inline void flush_output(const char *program)
 {
-    if (fflush(stdout) != 0) {
+    if (fflush(stdout) != 0 || ferror(stdout)) {
         fprintf(stderr, "%s: standard output: %s\n", program, strerror(errno));
         exit(EXIT_FAILURE);
     }
