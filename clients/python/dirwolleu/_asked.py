@@ -68,5 +68,5 @@ class Asked:
             return self.fail(NotConnectedError(no_server))
         fate = "it may still happen" if self.is_sent else "it was not sent, and is not sent any more"
         error = CallTimeoutError("no answer has come in time", fate)
-        error.may_have_happened = self.is_sent
+        error.may_have_happened = error.was_sent = self.is_sent
         self.fail(error)

@@ -9,12 +9,16 @@ import logging
 import os
 import ssl
 import weakref
-from typing import Any, Callable, Optional, Protocol, Union, cast
+from typing import TYPE_CHECKING, Any, Callable, Optional, Protocol, Union, cast
 
 from dirwolleu._clock import moment as moment
 from dirwolleu._engine import Engine
 from dirwolleu._hosts import Hosts, Place, Servers
+from dirwolleu._login import Failed, Login, Refused
 from dirwolleu.types import State
+
+if TYPE_CHECKING:
+    from dirwolleu.sasl import Sasl
 
 logger = logging.getLogger("dirwolleu.connection")
 
@@ -151,8 +155,12 @@ class Driver:
     It is made of the loop's callbacks, and not of a task: whoever cancels all tasks of a loop does not end it.
     """
 
-    def __init__(self, servers: Servers, engine: Engine, tls: Optional[ssl.SSLContext] = None) -> None:
-        self._servers, self._tls = servers, tls
+    def __init__(
+        self, servers: Servers, engine: Engine, tls: Optional[ssl.SSLContext] = None, sasl: Optional[Sasl] = None
+    ) -> None:
+        self._servers, self._tls, self._sasl = servers, tls, sasl
+        self._login: Optional[Login] = None
+        """What logs in on the connection, until that is over."""
         self.serving: Optional[Serving] = None
         """What reads connections that are not of TLS, where the event loop has that."""
         self._place: Optional[Place] = None
@@ -189,6 +197,7 @@ class Driver:
     def begin(self) -> None:
         """A connection stands."""
         logger.debug("asks %s for a session", self._place)
+        self._login = None if self._sasl is None else Login(self._sasl)
         self._engine.opened(moment())
         self.act()
 
@@ -196,8 +205,29 @@ class Driver:
         """Bytes came. The engine takes them before others are read into their place."""
         self._has_brought = True
         now = self._noticed()
-        self._engine.received(now, data)
+        if self._login is not None:
+            data = self._log_in(self._login, bytes(data))
+        if data:
+            self._engine.received(now, data)
         self.act(now)
+
+    def _log_in(self, login: Login, data: bytes) -> bytes:
+        """Goes on with the log-in of the connection, and gives what came for the session: nothing before the end of it."""
+        try:
+            frames, passed = login.take(data)
+        except Failed as error:
+            self._login, words = None, f"the log-in by SASL has failed: {error}"
+            if isinstance(error, Refused):
+                self._engine.refuse(words, may_have_happened=False)
+            else:
+                self._engine.drop(moment(), words)
+            return b""
+        if frames and self._link is not None and self._link.transport is not None:
+            self._link.transport.write(frames)
+        if passed is None:
+            return b""
+        self._login = None
+        return passed
 
     def act_soon(self) -> None:
         """Acts at once where nothing waits for an answer, and else once after all that is asked in this turn of the event loop."""
@@ -224,7 +254,7 @@ class Driver:
         if hangs_up:
             self._hang_up()
         if frames and self._link is not None and self._link.transport is not None:
-            self._link.transport.write(frames)
+            self._link.transport.write(frames if self._login is None else self._login.hold(frames))
         if not engine.is_running:
             return self._end()
         if dial is not None:
@@ -291,6 +321,7 @@ class Driver:
         self._engine.trouble = f"{self._where()}{_words_of(error)}"
         is_ours = isinstance(error, ssl.SSLError) or isinstance(error, OSError) and error.errno in _NO_DESCRIPTOR
         logger.log(logging.WARNING if is_ours else logging.INFO, "no connection to %s", self._engine.trouble)
+        self._engine.attempt_failed()
 
     def _where(self) -> str:
         return f"{self._place}: " if self._place is not None else ""

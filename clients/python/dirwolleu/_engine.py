@@ -13,7 +13,7 @@ import itertools
 import logging
 import os
 from collections.abc import Iterable, Iterator
-from typing import Any, Callable, NamedTuple, Optional, Protocol, Union
+from typing import Any, Callable, Optional, Union
 
 from dirwolleu import _library as library
 from dirwolleu._asked import Asked, Waiter
@@ -23,10 +23,12 @@ from dirwolleu._followed import Followed
 from dirwolleu._growing import Growing, TreeNews
 from dirwolleu._handle import made
 from dirwolleu._jute import Malformed
-from dirwolleu._keeping import Keeping
 from dirwolleu._library import Answer, Closed, Drop, NoMemory, Report, Send, StateChange
 from dirwolleu._line import Line
 from dirwolleu._listening import Listeners
+from dirwolleu._observing import DROPPED, ELSEWHERE, LATE, Observed, holdings_of, reason_of
+from dirwolleu._orders import NO_ORDERS, Orders
+from dirwolleu._orders import News as News
 from dirwolleu._process import this_process
 from dirwolleu._registry import Watchers
 from dirwolleu._requests import Request, refusal_of
@@ -72,8 +74,6 @@ _EVENTS = {
 }
 # end of what is made
 _CONNECTED = State.CONNECTED  # a class of an enum takes its time
-_LATE = "an answer has taken more than two thirds of the timeout"
-_ELSEWHERE = "the server has said that the session is over or elsewhere"
 _ENDING = (SessionExpiredError.code, SessionMovedError.code)
 _REFUSALS: dict[int, type[ZookeeperError]] = {
     library.READ_TOO_MANY_WATCHES: TooManyWatchesError,
@@ -86,25 +86,7 @@ MOST_HANDED = 256
 """How many calls the core has at once, at most. The others wait in the host's line, where one that is cancelled is taken out and never sent."""
 
 
-class News(Protocol):
-    """What is set where there is news: an event."""
-
-    def set(self) -> None: ...
-    def clear(self) -> None: ...
-
-
-class Orders(NamedTuple):
-    """What is to be done about the connection, in this order: to close it, to dial, and to write to it."""
-
-    hangs_up: bool
-    dial: Optional[Dial]
-    frames: bytes
-
-
-_NO_ORDERS = Orders(False, None, b"")
-
-
-class Engine(Keeping):
+class Engine(Observed):
     """A session with its callers.
 
     The steps, those of `take_handed` too, are for one thread, or for another one once that has ended. What only looks,
@@ -136,8 +118,6 @@ class Engine(Keeping):
         """Which servers are looked for, as the program has named them."""
         self.trouble = ""
         """What became of the last attempt to find a server, in words; nothing once one has accepted the session."""
-        self.place = ""
-        """Where the connection leads, in words."""
         self.refused = ""
         """That a server has refused credentials of the client, in words, where that has ended it: until it is begun again."""
         self._process: Optional[int] = None
@@ -164,8 +144,8 @@ class Engine(Keeping):
         """Makes what holds what is to be done about the connection, and what came over it."""
         self._frames, self._pings = list[bytes](), Pings()
         self._dial: Optional[Dial] = None
-        self._hangs_up, self._why, self._fault = False, "", ""
-        self._is_admitted, self._is_recast = False, True
+        self._hangs_up, self._why, self._fault, self._cause = False, "", "", 0
+        self._is_open, self._is_admitted, self._is_recast = False, False, True
         self._now = self._number = 0
         self._due: Optional[int] = None
 
@@ -227,7 +207,7 @@ class Engine(Keeping):
 
     def opened(self, now: int) -> None:
         """The connection that was asked for is there."""
-        self._is_recast = True
+        self._is_open = self._is_recast = True
         self._introductions.begin_connection()
         self._step(now, Session.opened)
 
@@ -245,11 +225,11 @@ class Engine(Keeping):
     def drop(self, now: int, why: str) -> None:
         """Has the connection closed, for a reason of the host."""
         self._why = why
-        self._hangs_up = True
+        self._hangs_up, self._cause = True, self._cause or DROPPED
         self.cut(now)
 
     def tick(self, now: int) -> None:
-        self._why = _LATE  # where the session leaves a connection, and says no more
+        self._why = LATE  # where the session leaves a connection, and says no more
         self._step(now, Session.moment)
         self._why = ""
         for asked in self._line.late(now, self.state is State.CONNECTED):
@@ -261,6 +241,8 @@ class Engine(Keeping):
 
     def received(self, now: int, data: Union[bytes, memoryview]) -> None:
         """Bytes came, maybe in memory that other bytes are read into after this."""
+        if self.observers is not None:
+            self.observers.transfer("in", len(data))
         try:
             self._step(now, Session.received, data)
         except NoMemory:
@@ -287,8 +269,10 @@ class Engine(Keeping):
     def take_orders(self) -> Orders:
         """What is to be done about the connection."""
         if not self._frames and not self._hangs_up and self._dial is None:
-            return _NO_ORDERS
+            return NO_ORDERS
         orders = made(Orders, (self._hangs_up, self._dial, b"".join(self._frames)))
+        if self.observers is not None:
+            self.observers.transfer("out", len(orders.frames))
         self._frames.clear()
         self._hangs_up, self._dial = False, None
         return orders
@@ -345,6 +329,8 @@ class Engine(Keeping):
         The caller's timeout, in seconds, bounds the whole wait. Without one it is that of the session.
         """
         self.check_process()
+        if self.observers is not None:
+            waiter = self.observers.watching(request, waiter)
         ends_at = None if timeout is None else now + int(min(max(timeout, 0) * 1000, _LONGEST_TIMEOUT_MS))
         if not self.is_running or not self._is_handed_in(
             Asked(request, waiter, now + self._timeout_ms, ends_at, self._root)
@@ -412,6 +398,11 @@ class Engine(Keeping):
             in_flight=sent - held,
             round_trip=None if contact.round_trip is None else contact.round_trip / 1000,
         )
+
+    def holdings(self) -> tuple[dict[str, int], int]:
+        """How much is followed, by kind, and the bytes that are kept of it."""
+        subjects, trees = list(self._subjects.values()), list(self._trees)
+        return holdings_of(self, subjects, [tree.latest for tree in trees])
 
     # Subjects and trees, which the core keeps good.
 
@@ -494,7 +485,6 @@ class Engine(Keeping):
             self._listening.remove(path, key)
 
     def tell_news(self) -> None:
-        """Wakes all who wait for news."""
         self._wake(None)
 
     # Steps.
@@ -519,6 +509,7 @@ class Engine(Keeping):
             raise
         fault, self._fault = self._fault, ""
         if fault:
+            self._cause = library.BAD_PAYLOAD
             self.drop(now, fault)
 
     def _take_frame(self, send: Send) -> None:
@@ -527,7 +518,7 @@ class Engine(Keeping):
             self._pings.sent(self._now)
 
     def _take_reason(self, drop: Drop) -> None:
-        self._why = f"{drop.fault} {drop.words}"
+        self._why, self._cause = f"{drop.fault} {drop.words}", drop.cause
 
     def _take_dial(self, dial: Dial) -> None:
         self._dial = dial
@@ -536,7 +527,7 @@ class Engine(Keeping):
 
     def _take_sign(self, sign: Sign) -> None:
         if sign is Sign.HANG_UP:
-            self._why = self._why or _ELSEWHERE
+            self._why = self._why or ELSEWHERE
             self._hangs_up, self._dial = True, None
             self._leave_connection()
 
@@ -555,11 +546,13 @@ class Engine(Keeping):
 
     def _leave_connection(self) -> None:
         """Forgets what was of one connection."""
-        if self._is_admitted or self._why not in ("", _LATE):
+        if self._is_admitted or self._why not in ("", LATE):
             level = logging.DEBUG if not self._is_admitted else logging.WARNING if self.is_running else logging.INFO
             where, reason = self.place or "the server", self._why or "it was closed"
-            logger.log(level, "the connection to %s is over: %s", where, reason)
-        self._why = ""
+            logger.log(level, "the connection to %s is over: %s", where, reason, extra=self._fields())
+        if self._is_open:
+            self._observe("over", reason_of(self._cause, self._why, bool(self.refused), self.is_running), self._why)
+        self._why, self._cause, self._is_open = "", 0, False
         self._frames.clear()
         self._pings = Pings()
         self._is_admitted, self._is_recast = False, True
@@ -613,17 +606,21 @@ class Engine(Keeping):
         self._wake(None)
 
     def _bar(self, place: int) -> None:
-        """A server refuses the credential at this place: the session is over, and no server is dialled any more."""
+        """A server refuses the credential at this place. What was sent after it may have happened."""
         scheme, asked_for_it = self._introductions.scheme(place), self._introductions.leave(place)
-        self.refused = self.trouble = self._why = f"the server refuses the credentials of the scheme {scheme}"
-        logger.error("%s", self.refused)
-        self._enter(State.LOST)  # who listens knows before those who follow find that it does not run
-        self.is_running = False
-        error = AuthFailedError(self.refused)
-        error.may_have_happened = True  # what was sent after the credentials
-        self._begin_anew(error)
+        self.refuse(f"the server refuses the credentials of the scheme {scheme}", may_have_happened=True)
         for asked in asked_for_it:
             asked.fail(AuthFailedError())
+
+    def refuse(self, words: str, may_have_happened: bool) -> None:
+        """A server does not take who the client is: the session is over, and no server is dialled any more."""
+        self.refused = self.trouble = self._why = words
+        logger.error("%s", words)
+        self._enter(State.LOST)  # who listens knows before those who follow find that it does not run
+        self.is_running = False
+        error = AuthFailedError(words)
+        error.may_have_happened = may_have_happened
+        self._begin_anew(error)
 
     def _count_loss(self, asked: Asked, error: ZookeeperError) -> None:
         self.contact.losses += 1
@@ -696,7 +693,8 @@ class Engine(Keeping):
             self._admit()
         elif change.state == library.EXPIRED:
             self.contact.expiries += 1
-            logger.warning("the session %#x has expired: a new one begins", self._number)
+            logger.warning("the session %#x has expired: a new one begins", self._number, extra=self._fields())
+            self._observe("expired")
             self._forget_callers(SessionExpiredError(), State.LOST)
         elif change.state == library.SESSION_CLOSED:
             logger.info("the session %#x is closed", self._number)
@@ -712,10 +710,9 @@ class Engine(Keeping):
         self.contact.heard_at = self._now
         self.contact.admissions += 1
         self._number = self.session_id() & _SESSION
-        logger.info(
-            "connected to %s: session %#x with a timeout of %s seconds",
-            self.place or "a server", self._number, self.timeout(),
-        )  # fmt: skip
+        where, words = self.place or "a server", "connected to %s: session %#x with a timeout of %s seconds"
+        logger.info(words, where, self._number, self.timeout(), extra=self._fields())
+        self._observe("connected")
         self._enter(State.CONNECTED)
 
     def _begin_anew(self, error: ZookeeperError) -> None:
@@ -746,8 +743,7 @@ class Engine(Keeping):
         self._hangs_up, self._dial = True, None
 
     def _forget_callers(self, error: ZookeeperError, state: State) -> None:
-        """Fails all that waits for an answer, ends all watches, and enters a state. The error says whether what was sent may have happened.
-        """
+        """Fails all that waits for an answer, ends all watches, and enters a state. The error says whether what was sent may be done."""
         self._refuse_handed(error)
         for tree in list(self._trees):
             tree.end_current()

@@ -393,6 +393,7 @@ class Drop(NamedTuple):
 
     fault: str
     words: str
+    cause: int = 0
 
 
 Output = Union[Send, Answer, Report, StateChange, Drop]

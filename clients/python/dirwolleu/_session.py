@@ -323,7 +323,7 @@ class Session(LookUps):
         if kind == library.STATE:
             return StateChange(known("state", detail, _STATES))
         if kind == library.DROP:
-            return Drop(told[:length].decode(), told[length:].decode(errors="replace"))
+            return Drop(told[:length].decode(), told[length:].decode(errors="replace"), detail)
         if kind == library.DIAL:
             return Dial(place, ticket)
         if kind == library.TIMED_OUT:

@@ -15,6 +15,7 @@ from dirwolleu._engine import Engine, Listener, News, Tell
 from dirwolleu._hosts import Servers
 from dirwolleu._retry import Retry
 from dirwolleu._steps import Result, Steps
+from dirwolleu.metrics import Observation
 from dirwolleu.types import Kept, KeptChildren, Mark, Snapshot, State, Stats
 
 AuthData = Iterable[tuple[str, Union[str, bytes]]]
@@ -153,6 +154,13 @@ class Shown:
     def remove_listener(self, listener: Listener) -> None:
         """Stops calling the listener. Raises `ValueError` where it was not added."""
         self._engine.remove_listener(listener)
+
+    def observe(self, function: Callable[[Observation], object]) -> None:
+        """Has a function called with each `CallEvent`, `ConnectionEvent` and `Transfer` from now on: see `dirwolleu.metrics`.
+
+        It is called within the client's own steps, in their order: it is to be quick, and calls nothing of the client that waits.
+        """
+        self._engine.observe(checked_function("what observes", function))
 
     def stats(self) -> Stats:
         """What the client has counted since it was made: dials, connections, calls, the time that answers take.

@@ -63,6 +63,8 @@ __all__ = [
 if TYPE_CHECKING:
     from typing_extensions import Concatenate, ParamSpec
 
+    from dirwolleu.sasl import Sasl
+
     Given = ParamSpec("Given")
 
 Returned = TypeVar("Returned")
@@ -124,11 +126,12 @@ class Client(Shown):
         *,
         auth_data: AuthData = (),
         ssl: Optional[_ssl.SSLContext] = None,
+        sasl: Optional[Sasl] = None,
         retry: Optional[Retry] = None,
         randomize_hosts: bool = True,
     ) -> None:
         super().__init__(*parts_of(hosts, timeout, saved, auth_data, randomize_hosts, self._tell), retry)
-        self._tls = ssl
+        self._tls, self._sasl = ssl, sasl
         self._driver: Optional[Driver] = None
         self._callbacks: set[asyncio.Future[Any]] = set()
 
@@ -155,7 +158,7 @@ class Client(Shown):
             await self.stop()  # where the session has ended by itself, its driver is there still
         self._engine.begin()
         if self._driver is None:
-            self._driver = Driver(self._servers, self._engine, self._tls)
+            self._driver = Driver(self._servers, self._engine, self._tls, self._sasl)
             self._driver.start()
         try:
             await asyncio.wait_for(self._wait_until_connected(), timeout)

@@ -41,6 +41,7 @@ if TYPE_CHECKING:
 
     from dirwolleu._driver import Driver
     from dirwolleu._threads import Threads
+    from dirwolleu.sasl import Sasl
 
     Given = ParamSpec("Given")
 
@@ -88,8 +89,8 @@ class Client(Shown):
 
     `auth_data` are credentials, each a scheme and its text, which are sent first on each connection, and so are those of
     `add_auth`. If a server refuses one of them, the session is over: the state is `LOST`, nothing is kept, and no server is
-    dialled until the client is started again. With `ssl` the connections are
-    TLS: see `dirwolleu.tls_context`. By `retry`, a policy, each call is asked again where that is safe; without it none
+    dialled until the client is started again. With `sasl` the client logs in before them: see `dirwolleu.sasl`. With `ssl` the
+    connections are TLS: see `dirwolleu.tls_context`. By `retry`, a policy, each call is asked again where that is safe; without it none
     is.
 
     A call waits for a server and for its answer within a bound: its own `timeout` in seconds, which counts all tries,
@@ -130,11 +131,12 @@ class Client(Shown):
         *,
         auth_data: AuthData = (),
         ssl: Optional[_ssl.SSLContext] = None,
+        sasl: Optional[Sasl] = None,
         retry: Optional[Retry] = None,
         randomize_hosts: bool = True,
     ) -> None:
         super().__init__(*parts_of(hosts, timeout, saved, auth_data, randomize_hosts, self._tell), retry)
-        self._tls = ssl
+        self._tls, self._sasl = ssl, sasl
         self._hold_threads()
 
     def _hold_threads(self) -> None:
@@ -517,7 +519,7 @@ class Client(Shown):
         """What keeps the client connected, once it is started."""
         from dirwolleu._driver import Driver
 
-        return Driver(self._servers, self._engine, self._tls)
+        return Driver(self._servers, self._engine, self._tls, self._sasl)
 
     def _stop(self, threads: Optional[Threads]) -> None:
         """Ends the session that these threads keep, and them. Another thread may call it too, while it runs."""

@@ -92,6 +92,9 @@ class CallTimeoutError(ZookeeperError, TimeoutError):
 
     _reason = "no answer has come in time"
 
+    was_sent = False
+    """Whether the request was sent to a server."""
+
 
 class UnimplementedError(ZookeeperError):
     """The server does not know this request."""

@@ -52,6 +52,9 @@ class ACL(NamedTuple):
     perms: int
     id: Id
 
+    def __repr__(self) -> str:
+        return f"ACL(perms={self.perms}, acl_list={self.acl_list}, id={self.id})"
+
     @property
     def acl_list(self) -> list[str]:
         """The names of what is permitted: `["ALL"]`, or some of READ, WRITE, CREATE, DELETE and ADMIN."""

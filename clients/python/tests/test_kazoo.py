@@ -6,7 +6,10 @@ import contextlib
 import doctest
 import inspect
 import logging
+import os
 import queue
+import resource
+import socket
 import struct
 import subprocess
 import sys
@@ -21,7 +24,7 @@ from support import CLIENTS, GET_DATA, TIMEOUT, WAIT, Partner, PartnerCase, Peer
 
 from dirwolleu.kazoo import client, exceptions, security
 from dirwolleu.kazoo import retry as retries
-from dirwolleu.kazoo._session import Ask
+from dirwolleu.kazoo._asking import Ask
 from dirwolleu.kazoo.client import KazooClient, KazooState, KeeperState, WatchedEvent
 from dirwolleu.kazoo.exceptions import (
     BadArgumentsError,
@@ -30,17 +33,21 @@ from dirwolleu.kazoo.exceptions import (
     ConnectionClosedError,
     ConnectionLoss,
     KazooException,
+    NoAuthError,
     NodeExistsError,
     NoNodeError,
     NotEmptyError,
+    ReconfigInProcessError,
     RolledBackError,
     RuntimeInconsistency,
     SessionExpiredError,
 )
 from dirwolleu.kazoo.handlers import threading as threads
+from dirwolleu.kazoo.handlers import utils
 from dirwolleu.kazoo.handlers.threading import AsyncResult, KazooTimeoutError, SequentialThreadingHandler
 from dirwolleu.kazoo.hosts import collect_hosts
 from dirwolleu.kazoo.protocol import paths, serialization, states
+from dirwolleu.kazoo.protocol.connection import _CONNECTION_DROP, _SESSION_EXPIRED
 from dirwolleu.kazoo.recipe import election, lock, party, watchers
 from dirwolleu.kazoo.recipe.watchers import DataWatch
 from dirwolleu.kazoo.retry import ForceRetryError, InterruptedError, KazooRetry, RetryFailedError
@@ -394,24 +401,87 @@ class KeywordsTest(KazooCase):
         keywords: list[tuple[type[Exception], dict[str, Any]]] = [
             (ConfigurationError, {"sasl_options": {"mechanism": "GSSAPI"}}),
             (ConfigurationError, {"read_only": True}),
-            (ConfigurationError, {"auth_data": [("sasl", "a:b")]}),
+            (ConfigurationError, {"sasl_options": {"mechanism": "DIGEST-MD5", "username": "a"}}),
             (ConfigurationError, {"handler": SequentialThreadingHandler}),
             (ConfigurationError, {"connection_retry": 7}),
             (ConfigurationError, {"command_retry": KazooRetry(sleep_func=lambda _: None)}),
-            (TypeError, {"max_retries": 3}),
-            (TypeError, {"retry_delay": 3}),
+            (TypeError, {"retry_sometimes": 3}),
         ]
         for kind, named in keywords:
             with self.subTest(named), self.assertRaisesRegex(kind, next(iter(named))):
                 self.unstarted(**named)
         zk = self.client(read_only=False)
-        for name in ("NonBlockingLease", "Semaphore", "SetPartitioner"):
-            with self.assertRaisesRegex(AttributeError, f"no {name}"):
-                getattr(zk, name)
-        with self.assertRaisesRegex(NotImplementedError, "reconfig"):
-            zk.reconfig("", "", "")
         with self.assertRaisesRegex(TypeError, "ignore_missing_node"):
             DataWatch(zk, "/", ignore_missing_node=True)
+
+    def test_old_keywords_of_a_policy(self) -> None:
+        zk = self.unstarted(max_retries=3, retry_delay=0.5)
+        for policy in (zk._retry, zk._conn_retry):
+            self.assertEqual((policy.max_tries, policy.delay, policy.sleep_func), (3, 0.5, zk.handler.sleep_func))
+        self.assertEqual(self.unstarted(max_retries=3, command_retry={"max_tries": 5})._retry.max_tries, 5)
+
+    def test_a_chroot_that_is_set(self) -> None:
+        zk = self.unstarted()
+        zk.chroot = "app"
+        self.assertEqual((zk.chroot, zk.unchroot("/app/b"), zk.unchroot("/app"), zk.unchroot("/b")), ("/app", "/b", "/", "/b"))
+        with self.assertWarnsRegex(UserWarning, "chroot"):
+            zk.start(WAIT)
+        with self.assertRaisesRegex(ConfigurationError, "chroot"):
+            zk.chroot = ""
+
+    def test_reconfig_is_asked_over_a_session_of_its_own(self) -> None:
+        asked: list[Any] = []
+        stat = struct.pack(">qqqqiiiqiiq", 1, 2, 3, 4, 5, 6, 7, 8, 9, 10, 11)
+
+        def serve(peer: Peer) -> None:
+            peer.admit()
+            while True:
+                one = peer.take()
+                asked.append((one.kind, one.body))
+                code = {100: 0, -11: 0, 3: -101}.get(one.kind, outcome[0])
+                body = struct.pack(">i", 3) + b"new" + stat if one.kind == 16 and not code else b""
+                peer.send(reply(one, body, code))
+
+        outcome = [0]
+        zk = KazooClient(self.raw_server(serve).host, TIMEOUT, auth_data=[("digest", "super:x")])
+        self.addCleanup(zk.stop)
+        zk.start(WAIT)
+        self.assertEqual(zk.reconfig("server.4=a:1:2;3", None, None, 256), (b"new", states.ZnodeStat(*range(1, 12))))
+        joining = struct.pack(">i", 16) + b"server.4=a:1:2;3"
+        request = (16, joining + struct.pack(">iiq", -1, -1, 256))
+        within(lambda: asked[-1][0] == -11)
+        self.assertEqual(asked[-3:-1], [(100, struct.pack(">ii", 0, 6) + b"digest" + struct.pack(">i", 7) + b"super:x"), request])
+        for outcome[0], kind in ((-102, NoAuthError), (-8, BadArgumentsError), (-103, BadVersionError), (-14, ReconfigInProcessError)):
+            with self.assertRaises(kind):
+                zk.reconfig(None, "4", None)
+        bad: Any = 7
+        with self.assertRaises(TypeError):
+            zk.reconfig(bad, None, None)
+        zk.stop()
+        with self.assertRaises(ConnectionLoss):
+            zk.reconfig(None, "4", None)
+
+    def test_what_harnesses_ask_for(self) -> None:
+        zk = self.client()
+        told: list[str] = []
+        zk.add_listener(told.append)
+        zk._call(_CONNECTION_DROP, None)  # type: ignore[arg-type]
+        within(lambda: told == ["SUSPENDED", "CONNECTED"])
+
+    def test_a_harness_ends_a_session_at_its_server(self) -> None:
+        taken = []
+
+        def serve(peer: Peer) -> None:
+            connected = peer.admit()
+            one = peer.take()
+            taken.append((connected.session, one.xid, one.kind))
+            peer.finish()
+
+        zk = KazooClient(self.raw_server(serve).host, TIMEOUT)
+        self.addCleanup(zk.stop)
+        zk.start(WAIT)
+        zk._call(_SESSION_EXPIRED, None)  # type: ignore[arg-type]
+        within(lambda: (7, 0, -11) in taken)
 
     def test_tls_by_files(self) -> None:
         with mock.patch("dirwolleu.kazoo.client.tls_context") as context:
@@ -457,6 +527,45 @@ class KeywordsTest(KazooCase):
         answers.update({b"envi": b"", b"srvr": b""})
         with self.assertRaises(KazooException):
             zk.server_version(retries=0)
+
+
+class HandlersTest(PartnerCase):
+    """What handlers share with programs."""
+
+    def test_more_descriptors_than_select_takes(self) -> None:
+        handler = SequentialThreadingHandler()
+        reads, writes = handler.create_socket_pair()
+        self.addCleanup(reads.close)
+        self.addCleanup(writes.close)
+        self.assertEqual(handler.select([reads], [writes], [], 0), ([], [writes], []))
+        writes.sendall(b"x")
+        self.assertEqual(handler.select([reads.fileno()], [], [], WAIT), ([reads.fileno()], [], []))
+        limits = resource.getrlimit(resource.RLIMIT_NOFILE)
+        high = 1500
+        if limits[1] != resource.RLIM_INFINITY and limits[1] <= high:
+            self.skipTest("a process may have no descriptor above 1,024")
+        resource.setrlimit(resource.RLIMIT_NOFILE, (max(limits[0], high + 1), limits[1]))
+        self.addCleanup(resource.setrlimit, resource.RLIMIT_NOFILE, limits)
+        os.dup2(reads.fileno(), high)
+        self.addCleanup(os.close, high)
+        self.assertEqual(handler.select([high], [], [], WAIT), ([high], [], []))
+
+    def test_connections(self) -> None:
+        listener = socket.create_server(("127.0.0.1", 0))
+        self.addCleanup(listener.close)
+        with utils.create_tcp_connection(socket, listener.getsockname(), WAIT) as connection:
+            self.assertTrue(connection.getsockopt(socket.IPPROTO_TCP, socket.TCP_NODELAY))
+        for timeout in (0, -1):
+            with self.assertRaisesRegex(OSError, f"within {timeout} seconds"):
+                utils.create_tcp_connection(socket, listener.getsockname(), timeout)
+
+    def test_results_of_functions(self) -> None:
+        handler = SequentialThreadingHandler()
+        returned, raised = handler.async_result(), handler.async_result()
+        self.assertEqual(utils.wrap(returned)(len)("seventh"), 7)
+        self.assertEqual(returned.get(), 7)
+        self.assertIsNone(utils.wrap(raised)(lambda: 1 // 0)())
+        self.assertRaises(ZeroDivisionError, raised.get)
 
 
 class InternalsTest(KazooCase):
@@ -668,6 +777,44 @@ class WatchesTest(KazooCase):
         self.assertEqual(self.zk.state_listeners, set())
 
 
+class LostCreatesTest(PartnerCase):
+    """The answer to each create is lost, once it has happened."""
+
+    def setUp(self) -> None:
+        self.made: list[str] = []
+
+        def serve(peer: Peer) -> None:
+            peer.admit()
+            while True:
+                one = peer.take()
+                if one.kind in (1, 15):
+                    length = int.from_bytes(one.body[:4], "big")
+                    self.made.append(f"{one.body[4:4 + length].decode()}{len(self.made):010}")
+                    return
+                names = b"".join(struct.pack(">i", len(name) - 1) + name[1:].encode() for name in self.made)
+                bodies = {9: one.body, 12: struct.pack(">i", len(self.made)) + names + bytes(68)}
+                peer.send(reply(one, bodies.get(one.kind, b"")))
+
+        self.zk = KazooClient(self.raw_server(serve).host, TIMEOUT)
+        self.addCleanup(self.zk.stop)
+        self.zk.start(WAIT)
+
+    def test_a_policy_makes_one_sequential_node_and_not_two(self) -> None:
+        keywords: list[dict[str, bool]] = [{}, {"ephemeral": True}, {"makepath": True}, {"include_data": True}]
+        for named in keywords:
+            self.made.clear()
+            with self.subTest(named), self.assertRaises(ConnectionLoss):
+                self.zk.retry(self.zk.create, "/a-", sequence=True, **named)
+            self.assertEqual(self.made, ["/a-0000000000"])
+
+    def test_a_node_with_a_tag_is_found_again(self) -> None:
+        made = self.zk.create("/a-", b"", sequence=True, protect=True)
+        self.assertEqual([made], self.made)
+        self.assertRegex(made, r"^/_c_[0-9a-f-]{36}-a-0000000000$")
+        with self.assertRaises(ConfigurationError):
+            self.zk.create("/b/a-", makepath=True, protect=True)
+
+
 class RetryTest(KazooCase):
     def setUp(self) -> None: ...
 
@@ -748,11 +895,11 @@ class InstallTest(KazooCase):
     def test_a_program_runs_unchanged(self) -> None:
         lines = (
             "import sys, kazoo.client, kazoo.recipe.lock\nfrom kazoo.protocol import paths\n"
-            "try:\n    import kazoo.recipe.partitioner\nexcept ImportError as error:\n    print(error)\n"
+            "try:\n    import kazoo.interfaces\nexcept ImportError as error:\n    print(error)\n"
             "print(__name__, sys.argv[1:], kazoo.client.KazooClient.__module__, paths.join('a', 'b'))\n"
         )
         printed = self.run_program(lines)
-        absent = "No module named 'kazoo.recipe.partitioner'"
+        absent = "No module named 'kazoo.interfaces'"
         self.assertEqual(printed, f"{absent}\n__main__ ['word'] dirwolleu.kazoo.client a/b\n")
 
     def test_after_an_import_of_kazoo(self) -> None:

@@ -2,6 +2,8 @@
 
 from __future__ import annotations
 
+import datetime
+import json
 import threading
 import unittest
 from typing import Any, Callable
@@ -11,12 +13,20 @@ from support import WAIT, within
 from test_kazoo import KazooCase
 
 from dirwolleu._handle import Standing
-from dirwolleu.kazoo.exceptions import CancelledError, ConnectionClosedError, ConnectionLoss, LockTimeout, NoNodeError
+from dirwolleu.kazoo.exceptions import (
+    CancelledError,
+    ConnectionClosedError,
+    ConnectionLoss,
+    KazooException,
+    LockTimeout,
+    NoNodeError,
+)
 from dirwolleu.kazoo.recipe import election, lock, party
+from dirwolleu.kazoo.recipe.cache import TreeCache, TreeEvent
 from dirwolleu.kazoo.recipe.watchers import PatientChildrenWatch
 
 
-class RecipesTest(KazooCase):
+class RecipesCase(KazooCase):
     def setUp(self) -> None:
         super().setUp()
         self.one, self.other = self.client(), self.client()
@@ -34,6 +44,8 @@ class RecipesTest(KazooCase):
         threading.Thread(target=run, daemon=True).start()
         return outcome
 
+
+class RecipesTest(RecipesCase):
     def test_a_lock(self) -> None:
         first, second = self.one.Lock("/lock", "one"), self.other.Lock("/lock", "other")
         self.assertTrue(first.acquire())
@@ -257,6 +269,160 @@ class RecipesTest(KazooCase):
             self.assertGreater(changed.get(timeout=WAIT), 0)
             with self.assertRaises(NoNodeError):
                 PatientChildrenWatch(self.one, "/none").start().get(timeout=WAIT)
+
+
+class SharesTest(RecipesCase):
+    """What several have parts of, and what is kept of a tree."""
+
+    def test_a_semaphore(self) -> None:
+        first, second = self.one.Semaphore("/some", "one", 2), self.other.Semaphore("/some", "other", max_leases=2)
+        third = self.one.Semaphore("/some", "third", max_leases=2)
+        self.assertTrue(first.acquire() and first.acquire() and second.acquire())
+        self.assertEqual((self.one.get("/some")[0], sorted(third.lease_holders())), (b"2", ["one", "other"]))
+        self.assertFalse(third.acquire(blocking=False))
+        with self.assertRaises(LockTimeout):
+            third.acquire(timeout=0.1)
+        waits = self.in_thread(third.acquire)
+        within(lambda: self.one.get_children("/some-__lock__"))
+        self.assertTrue(second.release())
+        self.assertFalse(second.release())
+        within(lambda: waits == [True])
+        waits = self.in_thread(second.acquire)
+        within(lambda: self.one.get_children("/some-__lock__"))
+        second.cancel()
+        within(lambda: waits)
+        self.assertIsInstance(waits[0], CancelledError)
+        self.assertEqual(sorted(first.lease_holders()), ["one", "third"])
+        with self.assertRaisesRegex(ValueError, "^/some has 2 leases at most, and not 3$"):
+            self.other.Semaphore("/some", max_leases=3).acquire()
+        first.release()
+        with second:
+            self.assertTrue(second.is_acquired)
+        self.assertFalse(second.is_acquired)
+
+    def test_a_lease_is_lost_with_its_session(self) -> None:
+        semaphore = self.other.Semaphore("/some", max_leases=1)
+        semaphore.acquire()
+        self.other.stop()
+        self.other.start(WAIT)
+        self.assertEqual((semaphore.is_acquired, self.one.Semaphore("/some").lease_holders()), (False, []))
+
+    def test_no_lease_is_made_by_one_that_has_lost_the_lock(self) -> None:
+        semaphore = self.one.Semaphore("/some", "one")
+        take, taken = semaphore._make, list[str]()
+
+        def overtaken() -> None:
+            if not taken:
+                taken.append(semaphore._lock.node)
+                self.other.delete("/some-__lock__/" + taken[0])
+            take()
+
+        with mock.patch.object(semaphore, "_make", overtaken):
+            self.assertTrue(semaphore.acquire())
+        self.assertEqual(len(self.one.get_children("/some")), 1)
+
+    def test_leases_by_the_clock(self) -> None:
+        now = datetime.datetime(2026, 1, 2, 3, 4, 5)
+        hour = datetime.timedelta(hours=1)
+        self.assertTrue(self.one.NonBlockingLease("/lease", hour, "one", lambda: now))
+        data, _ = self.other.get("/lease/lease_holder")
+        self.assertEqual(json.loads(data or b""), {"version": 1, "holder": "one", "end": "2026-01-02T04:04:05"})
+        other = self.other.NonBlockingLease("/lease", hour, "other", lambda: now + hour / 2)
+        self.assertFalse(other or other.obtained)
+        self.assertTrue(self.other.NonBlockingLease("/lease", hour, "one", lambda: now + hour / 2))
+        self.assertTrue(self.other.NonBlockingLease("/lease", hour, "other", lambda: now + 2 * hour))
+        self.one.set("/lease/lease_holder", b'{"version": 2}')
+        self.assertFalse(self.other.NonBlockingLease("/lease", hour, "other", lambda: now + 9 * hour))
+        leases = [self.one.MultiNonBlockingLease(2, "/leases", hour, name, lambda: now) for name in ("a", "b", "c", "a")]
+        self.assertEqual([lease.obtained for lease in leases], [True, True, False, True])
+
+    def shares(self, client: Any, name: str, **named: Any) -> Any:
+        return client.SetPartitioner("/shares", set=("c", "a", "b"), identifier=name, time_boundary=0.05, **named)
+
+    def test_a_set_is_shared_out(self) -> None:
+        first = self.shares(self.one, "one")
+        first.wait_for_acquire(WAIT)
+        self.assertEqual((first.state, list(first)), ("ACQUIRED", ["a", "b", "c"]))
+        second = self.shares(self.other, "other")
+        within(lambda: first.release)
+        self.assertEqual((list(first), list(second)), ([], []))
+        first.release_set()
+        for one in (first, second):
+            one.wait_for_acquire(WAIT)
+        self.assertEqual((list(first), list(second)), (["a", "c"], ["b"]))
+        self.assertEqual(sorted(self.one.get_children("/shares/locks")), ["a", "b", "c"])
+        second.finish()
+        self.assertTrue(second.failed)
+        within(lambda: first.release)
+        first.release_set()
+        first.wait_for_acquire(WAIT)
+        self.assertEqual(list(first), ["a", "b", "c"])
+        first.finish()
+        self.assertEqual((first.state, list(first), self.one.get_children("/shares/party")), ("FAILURE", [], []))
+
+    def test_a_part_is_lost_with_the_session(self) -> None:
+        shares = self.shares(self.one, "one", partition_func=lambda name, members, whole: [(name, *members, *whole)])
+        shares.wait_for_acquire(WAIT)
+        self.assertEqual(list(shares), [("one", "one", "c", "a", "b")])
+        self.server.do("expire")
+        within(lambda: shares.failed)
+
+    def test_a_tree(self) -> None:
+        cache, told, faults = TreeCache(self.one, "/tree"), list[TreeEvent](), list[Exception]()
+        cache.listen(told.append)
+        cache.listen_fault(faults.append)
+        cache.start()
+        within(lambda: len(told) == 2)
+        transaction = self.other.transaction()
+        for path in ("/tree/a", "/tree/a/b"):
+            transaction.create(path, path.encode())
+        transaction.commit()
+        within(lambda: len(told) == 4)
+        self.assertEqual((cache.get_children("/tree/a"), cache.get_data("/tree/a/b").data), (frozenset("b"), b"/tree/a/b"))
+        self.assertEqual((cache.get_data("/tree/x", 7), cache.get_children("/tree/x", 8)), (7, 8))
+        self.other.set("/tree/a", b"new")
+        within(lambda: len(told) == 5)
+        known: Any = self.other.exists("/tree/a")
+        self.assertEqual(cache.get_data("/tree/a").stat, known._replace(cversion=None, aversion=None))
+        self.other.delete("/tree/a", recursive=True)
+        within(lambda: len(told) >= 7)
+        added, updated, removed, whole = TreeEvent.NODE_ADDED, TreeEvent.NODE_UPDATED, TreeEvent.NODE_REMOVED, TreeEvent.INITIALIZED
+        found = [(event.event_type, event.event_data and event.event_data.path) for event in told]
+        of_a, of_b = "/tree/a", "/tree/a/b"
+        wanted: list[Any] = [(added, "/tree"), (whole, None), (added, of_a), (added, of_b), (updated, of_a)]
+        self.assertEqual(found[:5], wanted)
+        self.assertEqual([path for kind, path in found if kind == removed], [of_b, of_a])
+        for bad in ("/trees", "/"):
+            with self.assertRaises(ValueError):
+                cache.get_data(bad)
+        with self.assertRaises(KazooException):
+            cache.start()
+        cache.close()
+        self.assertIsNone(cache.get_data("/tree"))
+        self.assertEqual(faults, [])
+
+    def test_a_tree_lives_through_sessions(self) -> None:
+        cache, told = TreeCache(self.one, "/tree"), list[int]()
+        cache.listen(lambda event: told.append(event.event_type))
+        cache.start()
+        within(lambda: TreeEvent.INITIALIZED in told)
+        self.one.stop()
+        self.other.create("/tree/new")
+        self.one.start(WAIT)
+        within(lambda: told.count(TreeEvent.INITIALIZED) == 2)
+        lost, again = told.index(TreeEvent.CONNECTION_LOST), told.index(TreeEvent.CONNECTION_RECONNECTED)
+        self.assertLess(lost, again)
+        self.assertIn(TreeEvent.NODE_ADDED, told[again:])
+        cache.close()
+
+    def test_a_listener_of_a_tree_that_fails(self) -> None:
+        cache, faults = TreeCache(self.one, "/tree"), list[Exception]()
+        cache.listen(lambda _: 1 // 0)
+        cache.listen_fault(faults.append)
+        cache.start()
+        within(lambda: len(faults) == 2)
+        self.assertIsInstance(faults[0], ZeroDivisionError)
+        cache.close()
 
 
 if __name__ == "__main__":

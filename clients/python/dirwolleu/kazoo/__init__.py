@@ -14,6 +14,10 @@ from dirwolleu.kazoo.version import __version__
 __all__ = ["__version__", "install"]
 
 
+_BY_NEED = {f"{__name__}.handlers.gevent", f"{__name__}.handlers.eventlet"}
+"""What wants another package: it is found below this one when it is imported."""
+
+
 def install() -> None:
     """Has `import kazoo` and its modules give this package, in this process, from now on.
 
@@ -30,7 +34,7 @@ def install() -> None:
         raise ImportError("kazoo was imported before dirwolleu.kazoo.install() was called")
     sys.modules["kazoo"] = package
     for module in pkgutil.walk_packages(package.__path__, f"{__name__}."):
-        if module.name.rpartition(".")[2].startswith("_"):
+        if module.name.rpartition(".")[2].startswith("_") or module.name in _BY_NEED:
             continue
         short = module.name.partition(".")[2]
         sys.modules[short] = importlib.import_module(module.name)

@@ -3,9 +3,11 @@
 from __future__ import annotations
 
 import inspect
-from collections.abc import Sequence
+import warnings
+from collections.abc import Iterable, Sequence
 from typing import Any, Optional, Union
 
+from dirwolleu import _jute as jute
 from dirwolleu._hosts import Hosts, hosts_of
 from dirwolleu._library import Answer
 from dirwolleu._records import Created
@@ -17,6 +19,7 @@ from dirwolleu.kazoo.protocol.paths import normpath
 from dirwolleu.kazoo.protocol.states import ZnodeStat
 from dirwolleu.kazoo.retry import KazooRetry
 from dirwolleu.kazoo.security import ACL
+from dirwolleu.sasl import Sasl, digest_md5
 from dirwolleu.types import Stat
 
 HostList = Union[str, Sequence[str]]
@@ -54,6 +57,12 @@ class Children(Request[Any]):
         return names, stat(answer.stat)
 
 
+def reconfig(joining: Optional[str], leaving: Optional[str], new_members: Optional[str], from_config: int) -> bytes:
+    """A ReconfigRequest of zookeeper.jute."""
+    texts = (jute.buffer(None if text is None else text.encode()) for text in (joining, leaving, new_members))
+    return b"".join(texts) + jute.long(from_config)
+
+
 def hosts(hosts: HostList) -> Hosts:
     """What a text or a list of hosts says, with the chroot in kazoo's form. Raises `ValueError`."""
     if not isinstance(hosts, str):
@@ -70,7 +79,8 @@ def policy(name: str, policy: object, handler: SequentialThreadingHandler) -> Ka
     if policy is None:
         return KazooRetry(max_tries=None, sleep_func=handler.sleep_func)
     if isinstance(policy, dict):
-        policy = KazooRetry(**policy)
+        words: dict[str, Any] = {"sleep_func": handler.sleep_func, **policy}
+        policy = KazooRetry(**words)
     if not isinstance(policy, KazooRetry):
         raise ConfigurationError(f"{name} is a KazooRetry or a dict of its words, and not {policy!r}")
     if policy.sleep_func != handler.sleep_func:
@@ -78,12 +88,36 @@ def policy(name: str, policy: object, handler: SequentialThreadingHandler) -> Ka
     return policy
 
 
-def refuse(sasl_options: object, read_only: object, handler: object, others: dict[str, Any]) -> None:
+_OLD = {"max_retries": "max_tries", "retry_delay": "delay", "retry_backoff": "backoff", "retry_jitter": "max_jitter", "retry_max_delay": "max_delay"}
+
+
+def old_policy(others: dict[str, Any]) -> Optional[dict[str, Any]]:
+    """Takes the old keywords of a policy out, which hold for both: the words of a `KazooRetry`, or None where there is none."""
+    found = {new: others.pop(old) for old, new in _OLD.items() if old in others}
+    return {"max_tries": None, **found} if found else None
+
+
+def sasl(options: Optional[dict[str, Any]], auth_data: Iterable[tuple[str, str]]) -> Optional[Sasl]:
+    """What logs in by `sasl_options`, or by a pair of `auth_data` as long ago. Raises `ConfigurationError` where it is not known here."""
+    for scheme, credential in auth_data:
+        if scheme == "sasl" and options is None:
+            warnings.warn("Passing SASL configuration as part of the auth_data is deprecated, use sasl_options", DeprecationWarning)
+            username, _, password = credential.partition(":")
+            options = {"mechanism": "DIGEST-MD5", "username": username, "password": password}
+    if options is None:
+        return None
+    if options.get("mechanism") != "DIGEST-MD5":
+        raise ConfigurationError("sasl_options: dirwolleu.kazoo does DIGEST-MD5 alone; dirwolleu.sasl takes another mechanism as a function")
+    try:
+        return digest_md5(options["username"], options["password"])
+    except KeyError as missing:
+        raise ConfigurationError(f"sasl_options: {missing} is wanted") from None
+
+
+def refuse(read_only: object, handler: object, others: dict[str, Any]) -> None:
     """Raises an error that names the keyword which asks for what is not done."""
     if others:
         raise TypeError(f"__init__() got unexpected keyword arguments: {', '.join(sorted(others))}")
-    if sasl_options:
-        raise ConfigurationError("sasl_options: dirwolleu.kazoo does no SASL")
     if read_only:
         raise ConfigurationError("read_only: dirwolleu.kazoo connects to no server that only reads")
     if inspect.isclass(handler):

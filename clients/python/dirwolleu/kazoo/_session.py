@@ -27,16 +27,17 @@ from dirwolleu._driver import Driver, Link
 from dirwolleu._engine import Engine, Tell
 from dirwolleu._handle import Listing, Standing
 from dirwolleu._hosts import Place, Servers
-from dirwolleu._requests import Request, Watcher
+from dirwolleu._requests import Watcher
 from dirwolleu._root import Root
 from dirwolleu.client import Client
-from dirwolleu.kazoo.exceptions import error_of
+from dirwolleu.kazoo._asking import Ask, told
 from dirwolleu.kazoo.handlers.threading import AsyncResult, SequentialThreadingHandler
 from dirwolleu.kazoo.retry import KazooRetry, RetryFailedError
 from dirwolleu.types import State, WatchedEvent
 
 if TYPE_CHECKING:
     from dirwolleu.kazoo.client import KazooClient
+    from dirwolleu.sasl import Sasl
 
 logger = logging.getLogger("dirwolleu.connection")
 
@@ -45,13 +46,6 @@ PASSWORD_LENGTH = 16
 
 def _count_of_hosts(servers: Servers) -> int:
     return len(servers.hosts.servers)
-
-
-class Ask(NamedTuple):
-    """A request, and the form that kazoo gives to its result."""
-
-    request: Request[Any]
-    form: Callable[[Any], Any]
 
 
 class Identity(NamedTuple):
@@ -77,8 +71,8 @@ def identity_of(saved: bytes) -> Identity:
 class Answered:
     """What waits for the answer to a request, and hands it to an async result in kazoo's form."""
 
-    def __init__(self, outcome: AsyncResult, form: Callable[[Any], Any]) -> None:
-        self._outcome, self._form = outcome, form
+    def __init__(self, outcome: AsyncResult, ask: Ask) -> None:
+        self._outcome, self._form, self._once = outcome, ask.form, ask.once
         self._is_given_up = False
 
     def begin(self) -> bool:
@@ -94,7 +88,7 @@ class Answered:
         self._outcome.set(self._form(result))
 
     def set_exception(self, error: BaseException) -> None:
-        self._outcome.set_exception(error_of(error))
+        self._outcome.set_exception(told(error, self._once))
 
 
 class _Probe:
@@ -130,9 +124,10 @@ class KazooEngine(Engine):
         root: Root,
         credentials: Iterable[Credential],
         on_refused: Callable[[], object],
+        on_over: Callable[[], object],
     ) -> None:
         self._probed_at: Optional[int] = None
-        self._on_refused = on_refused
+        self._on_refused, self._on_over = on_refused, on_over
         super().__init__(timeout, saved, tell, root, credentials)
 
     def tick(self, now: int) -> None:
@@ -182,9 +177,10 @@ class KazooEngine(Engine):
         self._probed_at = None
         super()._leave_connection()
 
-    def _bar(self, place: int) -> None:
+    def refuse(self, words: str, may_have_happened: bool) -> None:
         self._on_refused()  # before the calls that wait are told
-        super()._bar(place)
+        super().refuse(words, may_have_happened)
+        self._on_over()
 
 
 class KazooPolicy:
@@ -220,10 +216,11 @@ class KazooDriver(Driver):
         servers: Servers,
         engine: Engine,
         tls: Optional[ssl.SSLContext],
+        sasl: Optional[Sasl],
         handler: SequentialThreadingHandler,
         timeout: float,
     ) -> None:
-        super().__init__(servers, engine, tls)
+        super().__init__(servers, engine, tls, sasl)
         self._handler, self._timeout = handler, timeout
         self._is_first = True
 
@@ -272,7 +269,7 @@ async def _dialled(handler: SequentialThreadingHandler, place: Place, timeout: f
         connection: Optional[socket.socket] = None
         failed: Optional[BaseException] = None
         try:
-            found = handler.create_connection(address=(place.address, place.port), timeout=timeout)
+            found = handler._dial((place.address, place.port), timeout)
             found.setblocking(False)
             connection = found
         except Exception as error:
@@ -300,11 +297,12 @@ class Session(Client):
         identity: Optional[Identity],
         credentials: Iterable[Credential],
         tls: Optional[ssl.SSLContext],
+        sasl: Optional[Sasl],
     ) -> None:
         saved = None if identity is None else identity.spelled()
-        engine = KazooEngine(timeout, saved, self._tell, servers.hosts.root, credentials, owner._told_refusal)
+        engine = KazooEngine(timeout, saved, self._tell, servers.hosts.root, credentials, owner._told_refusal, owner._told_over)
         self._servers, self._engine, self._retry = servers, engine, None
-        self._owner, self._tls, self._timeout = owner, tls, timeout
+        self._owner, self._tls, self._sasl, self._timeout = owner, tls, sasl, timeout
         self._tasks = {}
         self._hold_threads()
         self._dials: Optional[KazooDriver] = None
@@ -324,7 +322,7 @@ class Session(Client):
     def send(self, ask: Ask, outcome: AsyncResult) -> None:
         """Asks a server. Raises `ConnectionClosedError` of dirwolleu where it is not started."""
         self._check_process()
-        self._engine.ask(moment(), ask.request, Answered(outcome, ask.form))
+        self._engine.ask(moment(), ask.request, Answered(outcome, ask))
         self.act()
 
     def act(self) -> None:
@@ -387,7 +385,7 @@ class Session(Client):
         return None if self._dials is None else self._dials.place()
 
     def _driver(self) -> Driver:
-        driver = KazooDriver(self._servers, self._engine, self._tls, self._owner.handler, self._timeout)
+        driver = KazooDriver(self._servers, self._engine, self._tls, self._sasl, self._owner.handler, self._timeout)
         driver.use_policy(self._owner._conn_retry, self._owner._told_end)
         self._dials = driver
         return driver

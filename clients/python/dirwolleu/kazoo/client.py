@@ -5,6 +5,7 @@ from __future__ import annotations
 import functools
 import logging
 import re
+import socket
 import ssl
 import threading
 import warnings
@@ -16,7 +17,7 @@ from dirwolleu import _plans as plans
 from dirwolleu import _records as records
 from dirwolleu import _requests as requests
 from dirwolleu import exceptions as own
-from dirwolleu._credentials import Introduction
+from dirwolleu._credentials import Credential, Introduction
 from dirwolleu._handle import Listing, Standing
 from dirwolleu._hosts import Hosts, Servers
 from dirwolleu._plans import Plan
@@ -26,8 +27,10 @@ from dirwolleu._root import Root
 from dirwolleu._shown import credential_of
 from dirwolleu._steps import Steps
 from dirwolleu.kazoo import _forms as forms
+from dirwolleu.kazoo._aside import RECONFIG, all_of, asked_aside
+from dirwolleu.kazoo._asking import Ask, Connection, Kinds, Run, once_of, protected
 from dirwolleu.kazoo._checks import Acls, check, check_acls, check_flags, check_watch, checked_path, own_acls, own_key
-from dirwolleu.kazoo._session import PASSWORD_LENGTH, Ask, Identity, Session, Told
+from dirwolleu.kazoo._session import PASSWORD_LENGTH, Identity, Session, Told
 from dirwolleu.kazoo._transaction import TransactionRequest
 from dirwolleu.kazoo.exceptions import (
     AuthFailedError,
@@ -39,12 +42,16 @@ from dirwolleu.kazoo.exceptions import (
     error_of,
 )
 from dirwolleu.kazoo.handlers.threading import AsyncResult, SequentialThreadingHandler
+from dirwolleu.kazoo.handlers.utils import create_tcp_connection
+from dirwolleu.kazoo.protocol.connection import _CONNECTION_DROP, _SESSION_EXPIRED, _end_elsewhere
 from dirwolleu.kazoo.protocol.paths import own_path
 from dirwolleu.kazoo.protocol.states import Callback, EventType, KazooState, KeeperState, WatchedEvent, ZnodeStat
 from dirwolleu.kazoo.recipe.barrier import Barrier, DoubleBarrier
 from dirwolleu.kazoo.recipe.counter import Counter
 from dirwolleu.kazoo.recipe.election import Election
-from dirwolleu.kazoo.recipe.lock import Lock, ReadLock, WriteLock
+from dirwolleu.kazoo.recipe.lease import MultiNonBlockingLease, NonBlockingLease
+from dirwolleu.kazoo.recipe.lock import Lock, ReadLock, Semaphore, WriteLock
+from dirwolleu.kazoo.recipe.partitioner import SetPartitioner
 from dirwolleu.kazoo.recipe.party import Party, ShallowParty
 from dirwolleu.kazoo.recipe.queue import LockingQueue, Queue
 from dirwolleu.kazoo.recipe.watchers import ChildrenWatch, DataWatch
@@ -71,11 +78,15 @@ __all__ = [
     "KeeperState",
     "Lock",
     "LockingQueue",
+    "MultiNonBlockingLease",
+    "NonBlockingLease",
     "OPEN_ACL_UNSAFE",
     "Party",
     "Queue",
     "ReadLock",
+    "Semaphore",
     "SequentialThreadingHandler",
+    "SetPartitioner",
     "ShallowParty",
     "TransactionRequest",
     "WatchedEvent",
@@ -87,52 +98,17 @@ log = logging.getLogger(__name__)
 
 Watch = Optional[Callable[[WatchedEvent], object]]
 Listener = Callable[[str], object]
+Form = Callable[[Any], Any]
 
-_LEFT_OUT = ("MultiNonBlockingLease", "NonBlockingLease", "Semaphore", "SetPartitioner")
 _VERSION = re.compile(r"zookeeper[. ]version[=:]\s*(\d+(?:\.\d+)+)", re.IGNORECASE)
-_LONGEST_WORDS = 65536
-
-
-class Connection:
-    """What programs reach for in kazoo's `client._connection`."""
-
-    def __init__(self, client: KazooClient) -> None:
-        self._client = client
-
-    def _connect(self, host: str, hostip: str, port: int) -> tuple[float, float]:
-        """Is called for each connection whose session a server has accepted.
-
-        Answers the read timeout and the connect timeout in milliseconds. A program that puts a function in its place
-        may answer a smaller read timeout: then a server that is silent for so long is left.
-        """
-        timeout = self._client._granted_timeout() * 1000
-        return timeout * 2 / 3, timeout / max(len(self._client.hosts), 1)
-
-    @property
-    def _socket(self) -> Connection:
-        return self
-
-    def close(self) -> None:
-        """Closes the connection to the server. The session goes on over the next one."""
-        self._client._drop_connection("the program has closed it")
-
-    def getpeername(self) -> tuple[str, int]:
-        """The address of the server."""
-        return self._client._peer()
-
-    def _read_timeout(self) -> Optional[int]:
-        """The read timeout in milliseconds where the program wants a smaller one than kazoo's own, else None."""
-        address, port = self._client._peer()
-        own_timeout = self._client._granted_timeout() * 1000 * 2 / 3
-        wanted, _ = self._connect(address, address, port)
-        return int(wanted) if wanted < own_timeout else None
+_REFUSED = "not in the whitelist"
 
 
 class KazooClient:
     """A client of ZooKeeper with kazoo's names, errors and behaviour, over the proved core of dirwolleu.
 
-    It has what kazoo's documentation says of these keywords. What it does not do, it refuses by name: `sasl_options`,
-    `read_only`, and the old keywords of the retry. `README.md` of the package says where it differs.
+    It has what kazoo's documentation says of these keywords. What it does not do, it refuses by name: `read_only`, and
+    mechanisms of `sasl_options` other than DIGEST-MD5. `README.md` of the package says where it differs.
 
         from dirwolleu.kazoo.client import KazooClient
 
@@ -152,7 +128,7 @@ class KazooClient:
         handler: Optional[SequentialThreadingHandler] = None,
         default_acl: Acls = None,
         auth_data: Optional[Iterable[tuple[str, str]]] = None,
-        sasl_options: Optional[object] = None,
+        sasl_options: Optional[dict[str, Any]] = None,
         read_only: Optional[bool] = None,
         randomize_hosts: bool = True,
         connection_retry: Union[KazooRetry, dict[str, Any], None] = None,
@@ -166,12 +142,12 @@ class KazooClient:
         verify_certs: bool = True,
         **kwargs: Any,
     ) -> None:
-        forms.refuse(sasl_options, read_only, handler, kwargs)
+        old = forms.old_policy(kwargs)
+        forms.refuse(read_only, handler, kwargs)
         self.logger = logger or log
         self.handler = SequentialThreadingHandler() if handler is None else handler
         self.default_acl, self.auth_data, self.read_only = default_acl, set(auth_data or ()), read_only
-        if any(scheme == "sasl" for scheme, _ in self.auth_data):
-            raise ConfigurationError("auth_data: dirwolleu.kazoo does no SASL")
+        self.sasl_options, self._sasl = sasl_options, forms.sasl(sasl_options, self.auth_data)
         self.use_ssl, self.verify_certs, self.ca = use_ssl, verify_certs, ca
         self.certfile, self.keyfile, self.keyfile_password = certfile, keyfile, keyfile_password
         self._found: Optional[Hosts] = None
@@ -179,8 +155,8 @@ class KazooClient:
         self.set_hosts(hosts)
         self._session_timeout = int(timeout * 1000)
         self._identity = None if client_id is None else Identity(client_id[0], client_id[1])
-        self._conn_retry = forms.policy("connection_retry", connection_retry, self.handler)
-        self._retry = forms.policy("command_retry", command_retry, self.handler)
+        self._conn_retry = forms.policy("connection_retry", connection_retry or old, self.handler)
+        self._retry = forms.policy("command_retry", command_retry or old, self.handler)
         self._begin_states()
         self._begin_recipes()
 
@@ -188,9 +164,11 @@ class KazooClient:
         self._state, self.state = KeeperState.CLOSED, KazooState.LOST
         self.state_listeners: set[Listener] = set()
         self._live, self._stopped = self.handler.event_object(), self.handler.event_object()
+        self._decided = self.handler.event_object()
+        """Set once a server has accepted the session that was begun last, or none is looked for any more."""
         self._stopped.set()
         self._session: Optional[Session] = None
-        self._change = threading.RLock()
+        self._change = self.handler.rlock_object()
         self._connection = Connection(self)
 
     def _begin_recipes(self) -> None:
@@ -202,16 +180,15 @@ class KazooClient:
         self.Election = functools.partial(Election, self)
         self.Lock = functools.partial(Lock, self)
         self.LockingQueue = functools.partial(LockingQueue, self)
+        self.MultiNonBlockingLease = functools.partial(MultiNonBlockingLease, self)
+        self.NonBlockingLease = functools.partial(NonBlockingLease, self)
         self.Party = functools.partial(Party, self)
         self.Queue = functools.partial(Queue, self)
         self.ReadLock = functools.partial(ReadLock, self)
+        self.Semaphore = functools.partial(Semaphore, self)
+        self.SetPartitioner = functools.partial(SetPartitioner, self)
         self.ShallowParty = functools.partial(ShallowParty, self)
         self.WriteLock = functools.partial(WriteLock, self)
-
-    def __getattr__(self, name: str) -> Any:
-        if name in _LEFT_OUT:
-            raise AttributeError(f"dirwolleu.kazoo has no {name}")
-        raise AttributeError(f"{type(self).__name__!r} object has no attribute {name!r}")
 
     # How it stands.
 
@@ -246,8 +223,19 @@ class KazooClient:
 
     @property
     def chroot(self) -> str:
-        """The node of the servers that the program knows as `/`: empty where that is the servers' own."""
+        """The node of the servers that the program knows as `/`: empty where that is the servers' own.
+
+        It can be set while the client is not started. Raises `ConfigurationError` where it is.
+        """
         return "" if self._found is None else self._found.root.path
+
+    @chroot.setter
+    def chroot(self, path: str) -> None:
+        if not self._stopped.is_set():
+            raise ConfigurationError("Changing chroot at runtime is not currently supported")
+        assert self._found is not None
+        servers = self._found.text.partition("/")[0]
+        self._found = forms.hosts(servers + own_path(path))
 
     def set_hosts(self, hosts: forms.HostList, randomize_hosts: Optional[bool] = None) -> None:
         """Has each dial from now on go to one of these hosts. A connection that there is goes on.
@@ -287,7 +275,8 @@ class KazooClient:
         the credentials; then it is stopped.
         """
         with ending.resting(timeout):
-            self.start_async().wait(timeout)
+            self.start_async()
+            self._decided.wait(timeout)
         if not self.connected:
             session, is_refused = self._session, self._state == KeeperState.AUTH_FAILED
             words = "" if session is None else session.no_server(timeout)
@@ -307,6 +296,7 @@ class KazooClient:
                 return self._live
             self._end_session()
             self._stopped.clear()
+            self._decided.clear()
             self.handler.start()
             self._state = KeeperState.CONNECTING
             self._session = self._new_session()
@@ -320,7 +310,7 @@ class KazooClient:
         self._stopped.set()
         with self._change:
             self._end_session()
-            self._identity = None
+            self._identity, self._state = None, KeeperState.CLOSED
 
     def restart(self) -> None:
         """Ends the session and begins another one, which is of no server that is behind what was seen."""
@@ -338,10 +328,12 @@ class KazooClient:
 
     def _new_session(self) -> Session:
         assert self._found is not None
-        credentials = [credential_of(scheme, text) for scheme, text in self.auth_data]
         timeout = self._session_timeout / 1000
         servers = Servers(self._found.text, self.randomize_hosts)
-        return Session(self, servers, timeout, self._identity, credentials, self._tls())
+        return Session(self, servers, timeout, self._identity, self._credentials(), self._tls(), self._sasl)
+
+    def _credentials(self) -> list[Credential]:
+        return [credential_of(scheme, text) for scheme, text in self.auth_data if scheme != "sasl"]
 
     def _tls(self) -> Optional[ssl.SSLContext]:
         if not self.use_ssl:
@@ -358,7 +350,7 @@ class KazooClient:
     def _end_session(self) -> None:
         session = self._session
         if session is not None:
-            session.stop()
+            self.handler._elsewhere(session.stop)
             session.close()
             self._session = None
         self.handler.stop()
@@ -370,23 +362,31 @@ class KazooClient:
             self._use_read_timeout()
             self._state = KeeperState.CONNECTED
             self.logger.info("Zookeeper connection established, state: %s", self._state)
-            self._enter(KazooState.CONNECTED)
-            self._live.set()
+            self._make_state_change(KazooState.CONNECTED)
+            self.handler._soon(self._set_live)
         elif state is State.SUSPENDED:
             self._state = KeeperState.CONNECTING
             self.logger.info("Zookeeper connection lost")
-            self._live.clear()
-            self._enter(KazooState.SUSPENDED)
+            self.handler._soon(self._end_live)
+            self._make_state_change(KazooState.SUSPENDED)
             self._end_watches()
         else:
             self._told_loss()
+
+    def _set_live(self) -> None:
+        self._live.set()
+        self._decided.set()
+
+    def _end_live(self) -> None:
+        self._live.clear()
+        self._decided.clear()
 
     def _told_loss(self) -> None:
         """The session is over. A new one begins, unless the client was stopped or its credentials were refused."""
         self._state = self._state_of_loss()
         self.logger.info("Zookeeper session closed, state: %s", self._state)
-        self._live.clear()
-        self._enter(KazooState.LOST)
+        self.handler._soon(self._end_live)
+        self._make_state_change(KazooState.LOST)
         if self._state == KeeperState.EXPIRED_SESSION:
             self._state = KeeperState.CONNECTING
 
@@ -405,7 +405,12 @@ class KazooClient:
     def _told_end(self) -> None:
         """The policy for connections is used up."""
         self._state = KeeperState.CLOSED
+        self._told_over()
         self.logger.warning("Failed connecting to Zookeeper within the connection retry policy.")
+
+    def _told_over(self) -> None:
+        """No server is looked for any more."""
+        self.handler._soon(self._decided.set)
 
     def _told_watch(self, function: Callable[[Any], object], event: OwnEvent) -> None:
         """A watch has fired, or its session is over."""
@@ -426,15 +431,15 @@ class KazooClient:
     def _dispatch(self, function: Callable[[Any], object], event: WatchedEvent) -> None:
         self.handler.dispatch_callback(Callback("watch", function, (event,)))
 
-    def _enter(self, state: str) -> None:
+    def _make_state_change(self, state: str) -> None:
         if state == self.state:
             return
         self.state = state
         if state == KazooState.CONNECTED:
-            self._live.set()  # before a listener hears of it, in a thread of its own
+            self.handler._soon(self._set_live)  # before a listener hears of it, in a thread of its own
         session = self._session
         if session is not None:
-            session.tell_listeners(self._tell_listeners, (state, list(self.state_listeners)))
+            self.handler._tell_listeners(session, self._tell_listeners, (state, list(self.state_listeners)))
 
     def _tell_listeners(self, told: tuple[str, list[Listener]]) -> None:
         state, listeners = told
@@ -504,11 +509,14 @@ class KazooClient:
 
     # Calls.
 
-    def _call(self, request: Ask, async_object: AsyncResult) -> Optional[bool]:
+    def _call(self, request: Any, async_object: AsyncResult) -> Optional[bool]:
         """Sends a request, whose answer the async result is set to. Each call goes through here.
 
         Where the session is over, the result is set to the error, and this answers False.
         """
+        if not isinstance(request, Ask):
+            self._break(request)
+            return None
         error: Optional[KazooException] = None
         if self._state == KeeperState.AUTH_FAILED:
             error = AuthFailedError("the server does not take the credentials")
@@ -526,13 +534,21 @@ class KazooClient:
         async_object.set_exception(error or ConnectionClosedError("Connection has been closed"))
         return False
 
-    def _send(self, request: Request[Any], form: Callable[[Any], Any] = forms.as_it_is) -> AsyncResult:
+    def _break(self, marker: object) -> None:
+        """What kazoo's harness for tests asks for: the end of the connection, or of the session."""
+        identity = self.client_id
+        if marker is _SESSION_EXPIRED and identity is not None:
+            _end_elsewhere(self._peer(), *identity)
+        elif marker is _CONNECTION_DROP:
+            self._drop_connection("the program wants it lost")
+
+    def _send(self, request: Request[Any], form: Form = forms.as_it_is, once: Kinds = ()) -> AsyncResult:
         outcome = self.handler.async_result()
-        self._call(Ask(request, form), outcome)
+        self._call(Ask(request, form, once), outcome)
         return outcome
 
-    def _run(self, plan: Plan[Any], form: Callable[[Any], Any] = forms.as_it_is) -> AsyncResult:
-        return _Run(self, plan, form).begin()
+    def _run(self, plan: Plan[Any], form: Form = forms.as_it_is, once: Kinds = ()) -> AsyncResult:
+        return Run(self, plan, form, once).begin()
 
     def _drive(self, steps_of: Callable[[Session], Steps[Any]]) -> Any:
         """Does steps of a recipe of dirwolleu in this thread. Raises kazoo's errors."""
@@ -540,7 +556,8 @@ class KazooClient:
         if session is None:
             raise ConnectionClosedError("Connection has been closed")
         try:
-            return session._drive(steps_of(session))
+            steps = steps_of(session)
+            return self.handler._elsewhere(functools.partial(session._drive, steps))
         except own.ZookeeperError as error:
             raise error_of(error) from error
 
@@ -591,12 +608,14 @@ class KazooClient:
         sequence: bool = False,
         makepath: bool = False,
         include_data: bool = False,
+        protect: bool = False,
     ) -> Any:
         """Makes a node, and tells its path; with `include_data` also its `ZnodeStat`.
 
+        With `protect`, which kazoo does not have, its name begins with a tag, and it is looked for where the answer is lost.
         Raises `NodeExistsError`, `NoNodeError`, `NoChildrenForEphemeralsError`, `InvalidACLError`.
         """
-        return self.create_async(path, value, acl, ephemeral, sequence, makepath, include_data).get()
+        return self.create_async(path, value, acl, ephemeral, sequence, makepath, include_data, protect).get()
 
     def create_async(
         self,
@@ -607,6 +626,7 @@ class KazooClient:
         sequence: bool = False,
         makepath: bool = False,
         include_data: bool = False,
+        protect: bool = False,
     ) -> AsyncResult:
         """`create`, which does not wait."""
         acl = acl or self.default_acl
@@ -618,13 +638,19 @@ class KazooClient:
         found, spelled, mode = own_acls(acl), checked_path(path), Mode(ephemeral, sequence)
         if sequence and path.endswith("/") and spelled != "/":
             spelled += "/"
-        request: Request[Any]
+        form, once = forms.created if include_data else forms.as_it_is, once_of(ephemeral, sequence)
+        if protect:
+            return self._protected(spelled, makepath, include_data, lambda tagged: plans.create_request(tagged, value, found, mode))
+        words = spelled, value, found, mode
+        request: Request[Any] = plans.create_request(*words)
         if include_data:
-            request = records.create2(spelled, value, found, mode)
-        else:
-            request = plans.create_request(spelled, value, found, mode)
-        form = forms.created if include_data else forms.as_it_is
-        return self._run(plans.create(request, spelled, found), form) if makepath else self._send(request, form)
+            request = records.create2(*words)
+        return self._run(plans.create(request, spelled, found), form, once) if makepath else self._send(request, form, once)
+
+    def _protected(self, path: str, makepath: bool, include_data: bool, request_of: Callable[[str], Request[str]]) -> AsyncResult:
+        if makepath or include_data:
+            raise ConfigurationError("protect goes with neither makepath nor include_data")
+        return self._run(protected(path, request_of))
 
     def ensure_path(self, path: str, acl: Acls = None) -> bool:
         """Makes a node and those above it, as far as they are not there."""
@@ -711,9 +737,32 @@ class KazooClient:
         """Several changes that happen together or not at all."""
         return TransactionRequest(self)
 
-    def reconfig(self, *args: Any, **kwargs: Any) -> Any:
-        """Is not done here. Raises `NotImplementedError`."""
-        raise NotImplementedError("dirwolleu.kazoo does no reconfig")
+    def reconfig(
+        self, joining: Optional[str], leaving: Optional[str], new_members: Optional[str], from_config: int = -1
+    ) -> tuple[bytes, ZnodeStat]:
+        """Changes who the servers are, and tells what `/zookeeper/config` has then: `joining` and `leaving`, or all by `new_members`.
+
+        It is asked over a session of its own, with the client's credentials. Raises `NoAuthError`, `BadArgumentsError`,
+        `BadVersionError` where the configuration is not the one of `from_config`, and `ConnectionLoss`: then it may have happened.
+        """
+        found: tuple[bytes, ZnodeStat] = self.reconfig_async(joining, leaving, new_members, from_config).get()
+        return found
+
+    def reconfig_async(
+        self, joining: Optional[str], leaving: Optional[str], new_members: Optional[str], from_config: int = -1
+    ) -> AsyncResult:
+        """`reconfig`, which does not wait."""
+        for name, text in (("joining", joining), ("leaving", leaving), ("new_members", new_members)):
+            check(name, text, (str, type(None)), "string")
+        check("from_config", from_config, int, "int")
+        body = forms.reconfig(joining, leaving, new_members, from_config)
+        return self.handler._begin_elsewhere(functools.partial(self._reconfigured, body))
+
+    def _reconfigured(self, body: bytes) -> tuple[bytes, ZnodeStat]:
+        if not self.connected:
+            raise ConnectionLoss("No connection to server")
+        reader = asked_aside(self._connect_to_peer(functools.partial(create_tcp_connection, socket)), self._credentials(), RECONFIG, body)
+        return reader.buffer() or b"", ZnodeStat(*reader.stat())
 
     def command(self, cmd: bytes = b"ruok") -> str:
         """What the server of the connection answers to a word such as `srvr`, over a connection of its own.
@@ -722,7 +771,13 @@ class KazooClient:
         """
         if not self.connected:
             raise ConnectionLoss("No connection to server")
-        connection = self.handler.create_connection(
+        with self._connect_to_peer(self.handler.create_connection) as connection:
+            connection.sendall(cmd)
+            return all_of(connection.recv).decode("utf-8", "replace")
+
+    def _connect_to_peer(self, connect: Callable[..., socket.socket]) -> socket.socket:
+        """Another connection to the server of the session's connection."""
+        return connect(
             address=self._peer(),
             timeout=self._session_timeout / 1000,
             use_ssl=self.use_ssl,
@@ -732,60 +787,16 @@ class KazooClient:
             keyfile_password=self.keyfile_password,
             verify_certs=self.verify_certs,
         )
-        with connection:
-            connection.sendall(cmd)
-            return _all_of(connection.recv).decode("utf-8", "replace")
 
     def server_version(self, retries: int = 3) -> tuple[int, ...]:
         """The version of the server, such as (3, 8, 0).
 
-        It asks by `envi` as kazoo does, and by `srvr`, which a server answers where its settings name no words. Raises
-        `KazooException` where neither tells it in this many tries and one.
+        It asks by `envi` as kazoo does, and by `srvr`, which a server answers where its settings name no words, where it does not
+        answer that one. Raises `KazooException` where neither tells it in this many tries and one.
         """
         for _ in range(1 + max(0, retries)):
-            for word in (b"envi", b"srvr"):
-                found = _VERSION.search(self.command(word))
-                if found is not None:
-                    return tuple(int(number) for number in found[1].split("."))
+            words = self.command(b"envi")
+            found = _VERSION.search(self.command(b"srvr") if _REFUSED in words else words)
+            if found is not None:
+                return tuple(int(number) for number in found[1].split("."))
         raise KazooException(f"Unable to fetch useable server version after trying {1 + max(0, retries)} times")
-
-
-def _all_of(receive: Callable[[int], bytes]) -> bytes:
-    """What comes up to the end of a connection, as far as that is of use."""
-    taken = b""
-    while len(taken) < _LONGEST_WORDS and (piece := receive(8192)):
-        taken += piece
-    return taken
-
-
-class _Run:
-    """A plan of several requests, which are asked one after the other. It waits for nothing."""
-
-    def __init__(self, client: KazooClient, plan: Plan[Any], form: Callable[[Any], Any]) -> None:
-        self._client, self._plan, self._form = client, plan, form
-        self._outcome = client.handler.async_result()
-
-    def begin(self) -> AsyncResult:
-        self._go_on(lambda: next(self._plan))
-        return self._outcome
-
-    def _go_on(self, advance: Callable[[], Request[Any]]) -> None:
-        try:
-            request = advance()
-        except StopIteration as end:
-            self._outcome.set(self._form(end.value))
-            return
-        except Exception as error:
-            self._outcome.set_exception(error_of(error))
-            return
-        step = AsyncResult(self._client.handler)
-        step.relay(self._told)
-        self._client._call(Ask(request, forms.as_it_is), step)
-
-    def _told(self, step: AsyncResult) -> None:
-        error = step.exception
-        if error is None:
-            self._go_on(lambda: self._plan.send(step.value))
-        else:
-            cause = error.__cause__ if isinstance(error.__cause__, own.ZookeeperError) else error
-            self._go_on(lambda: self._plan.throw(cause))

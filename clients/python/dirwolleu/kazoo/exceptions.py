@@ -18,6 +18,9 @@ class ZookeeperError(KazooException):
     code: Optional[int] = None
     """ZooKeeper's number of the error, and None where there is none."""
 
+    is_final = False
+    """Whether a `KazooRetry` does not call again: a sequential node may have been made, and there would be two."""
+
 
 class CancelledError(KazooException):
     """Another thread has cancelled it."""
@@ -87,6 +90,18 @@ class BadArgumentsError(ZookeeperError):
     """The path, the mode or the data are refused."""
 
     code = -8
+
+
+class NewConfigNoQuorumError(ZookeeperError):
+    """The servers of a new configuration are no quorum that follows the leader."""
+
+    code = -13
+
+
+class ReconfigInProcessError(ZookeeperError):
+    """The servers are being changed already."""
+
+    code = -14
 
 
 class APIError(ZookeeperError):

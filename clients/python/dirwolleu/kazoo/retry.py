@@ -37,7 +37,7 @@ class KazooRetry:
     """Calls a function again where its connection or its session went.
 
     It is kazoo's policy, so a change that may have happened is made again too: a create may then raise
-    `NodeExistsError` for a node of its own. `max_tries` is how often it is called again, where -1 and None are no bound;
+    `NodeExistsError` for a node of its own. A sequential create is not: it raises what it has raised. `max_tries` is how often it is called again, where -1 and None are no bound;
     `delay` is the first pause in seconds, each later one is `backoff` times the one before, up to `max_delay`, and up to
     the part `max_jitter` of each is left to chance. With `deadline` no pause begins that would end after this many seconds.
     An expired session counts unless `ignore_expire` is false. A client that is stopped is never asked again.
@@ -67,7 +67,7 @@ class KazooRetry:
     def reset(self) -> None:
         """Begins to count from the first try."""
         self._attempts = 0
-        self._next_delay = self.delay
+        self._cur_delay = self.delay
         self._until: Optional[float] = None
 
     def copy(self) -> KazooRetry:
@@ -96,6 +96,8 @@ class KazooRetry:
             except ConnectionClosedError:
                 raise
             except self.retry_exceptions as error:
+                if getattr(error, "is_final", False):
+                    raise
                 pause = self.next_pause(error)
             self._sleep(pause)
 
@@ -104,10 +106,10 @@ class KazooRetry:
         if self._attempts == self.max_tries:
             raise RetryFailedError("Too many retry attempts") from error
         self._attempts += 1
-        pause = self._next_delay * random.uniform(1.0 - self.max_jitter, 1.0 + self.max_jitter)
+        pause = self._cur_delay * random.uniform(1.0 - self.max_jitter, 1.0 + self.max_jitter)
         if self._until is not None and time.monotonic() + pause >= self._until:
             raise RetryFailedError("Exceeded retry deadline") from error
-        self._next_delay = min(pause * self.backoff, self.max_delay)
+        self._cur_delay = min(pause * self.backoff, self.max_delay)
         return pause
 
     def _sleep(self, pause: float) -> None:

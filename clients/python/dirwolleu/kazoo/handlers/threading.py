@@ -8,12 +8,12 @@ import select
 import socket
 import threading
 import time
+from collections.abc import Iterable
 from typing import Any, Callable, Optional
 
 from dirwolleu import _ending as ending
+from dirwolleu.kazoo.handlers import utils
 from dirwolleu.kazoo.protocol.states import Callback
-from dirwolleu.kazoo._checks import own_key
-from dirwolleu.tls import tls_context
 
 log = logging.getLogger(__name__)
 
@@ -21,7 +21,16 @@ LONGEST_CALLBACK = 5.0
 """How long `stop` waits for a callback that runs, in seconds."""
 
 Function = Callable[[], object]
+Found = tuple[list[Any], list[Any], list[Any]]
 _Socket = socket.socket
+_HAS_EPOLL = hasattr(select, "epoll")
+if _HAS_EPOLL:
+    _WANTED = select.EPOLLIN, select.EPOLLOUT, select.EPOLLPRI
+    _TOLD = select.EPOLLIN | select.EPOLLHUP | select.EPOLLERR, select.EPOLLOUT | select.EPOLLERR, select.EPOLLPRI
+
+
+def _descriptor(one: Any) -> int:
+    return one if isinstance(one, int) else int(one.fileno())
 
 
 class KazooTimeoutError(Exception):
@@ -164,7 +173,7 @@ class SequentialThreadingHandler:
         self._begin_queues()
         self._running = False
         self._state_change = threading.Lock()
-        self._workers: list[_Worker] = []
+        self._workers: list[Any] = []
 
     def _begin_queues(self) -> None:
         self.callback_queue: queue.Queue[Optional[Function]] = self.queue_impl()
@@ -199,43 +208,41 @@ class SequentialThreadingHandler:
                 worker.end()
             self._begin_queues()
 
-    def select(self, *args: Any, **kwargs: Any) -> tuple[list[Any], list[Any], list[Any]]:
-        """`select.select`."""
-        return select.select(*args, **kwargs)
+    def select(
+        self, rlist: Iterable[Any], wlist: Iterable[Any], xlist: Iterable[Any], timeout: Optional[float] = None
+    ) -> Found:
+        """`select.select`, where the system has epoll for descriptors of any number."""
+        return self._epoll_select(rlist, wlist, xlist, timeout) if _HAS_EPOLL else self._select(rlist, wlist, xlist, timeout)
+
+    def _select(self, *args: Any) -> Found:
+        return select.select(*args)
+
+    def _epoll_select(
+        self, rlist: Iterable[Any], wlist: Iterable[Any], xlist: Iterable[Any], timeout: Optional[float] = None
+    ) -> Found:
+        wanted: dict[int, int] = {}
+        lists = [{_descriptor(one): one for one in ones} for ones in (rlist, wlist, xlist)]
+        for ones, event in zip(lists, _WANTED):
+            for descriptor in ones:
+                wanted[descriptor] = wanted.get(descriptor, 0) | event
+        with select.epoll() as waiting:
+            for descriptor, events in wanted.items():
+                waiting.register(descriptor, events)
+            found = dict(waiting.poll(timeout))
+        reads, writes, fails = ([one for at, one in ones.items() if found.get(at, 0) & told] for ones, told in zip(lists, _TOLD))
+        return reads, writes, fails
 
     def socket(self) -> _Socket:
         """A socket for TCP."""
-        return socket.socket(socket.AF_INET, socket.SOCK_STREAM)
+        return utils.create_tcp_socket(socket)
 
-    def create_connection(
-        self,
-        address: tuple[str, int],
-        timeout: Optional[float] = None,
-        use_ssl: bool = False,
-        ca: Optional[str] = None,
-        certfile: Optional[str] = None,
-        keyfile: Optional[str] = None,
-        keyfile_password: Optional[str] = None,
-        verify_certs: bool = True,
-    ) -> _Socket:
-        """A connection to an address, within this many seconds. Raises `OSError`."""
-        connection = socket.create_connection(address, timeout)
-        connection.setsockopt(socket.IPPROTO_TCP, socket.TCP_NODELAY, 1)
-        if not use_ssl:
-            return connection
-        context = tls_context(
-            ca=ca,
-            certfile=certfile,
-            keyfile=own_key(certfile, keyfile),
-            keyfile_password=keyfile_password,
-            verify_certs=verify_certs,
-            check_hostname=False,
-        )
-        return context.wrap_socket(connection)
+    def create_connection(self, *args: Any, **kwargs: Any) -> _Socket:
+        """A connection to an address, as `create_tcp_connection` of `kazoo.handlers.utils`. Raises `OSError`."""
+        return utils.create_tcp_connection(socket, *args, **kwargs)
 
     def create_socket_pair(self) -> tuple[_Socket, _Socket]:
         """`socket.socketpair`."""
-        return socket.socketpair()
+        return utils.create_socket_pair(socket)
 
     def event_object(self) -> threading.Event:
         """An event that threads wait for."""
@@ -258,6 +265,28 @@ class SequentialThreadingHandler:
         thread = threading.Thread(target=func, args=args, kwargs=kwargs, daemon=True)
         thread.start()
         return thread
+
+    def _soon(self, function: Function) -> None:
+        """Calls a function where those go on that wait by this handler, in order: for threads that is anywhere."""
+        function()
+
+    def _elsewhere(self, function: Callable[[], Any]) -> Any:
+        """Calls what holds a thread of the system up until something happens."""
+        return function()
+
+    def _begin_elsewhere(self, function: Callable[[], Any]) -> AsyncResult:
+        """Calls it in a thread of its own, and answers what is set to its result."""
+        outcome = self.async_result()
+        threading.Thread(target=utils.wrap(outcome)(function), daemon=True).start()
+        return outcome
+
+    def _tell_listeners(self, session: Any, function: Callable[[Any], object], argument: Any) -> None:
+        """Has a function called that calls listeners, in order. A session has a thread for that."""
+        session.tell_listeners(function, argument)
+
+    def _dial(self, address: tuple[str, int], timeout: Optional[float]) -> _Socket:
+        """A connection to a server, made in a thread of its own."""
+        return self.create_connection(address=address, timeout=timeout)
 
     def dispatch_callback(self, callback: Callback) -> None:
         """Has the thread of the watches call a function."""

@@ -8,16 +8,16 @@ prefix, after a `sync`.
 from __future__ import annotations
 
 import re
-import threading
 import time
 import uuid
 from collections.abc import Iterable
 from types import TracebackType
 from typing import TYPE_CHECKING, Optional
 
-from dirwolleu.kazoo.exceptions import CancelledError, KazooException, LockTimeout, NoNodeError
+from dirwolleu.kazoo.exceptions import CancelledError, KazooException, LockTimeout, NoNodeError, ZookeeperError
 from dirwolleu.kazoo.protocol.paths import join
 from dirwolleu.kazoo.protocol.states import WatchedEvent
+from dirwolleu.kazoo.recipe.semaphore import Semaphore as Semaphore
 from dirwolleu.kazoo.retry import ForceRetryError, KazooRetry, RetryFailedError
 
 if TYPE_CHECKING:
@@ -60,7 +60,7 @@ class Lock:
         self.prefix = uuid.uuid4().hex + self._NODE_NAME
         self.create_path = join(self.path, self.prefix)
         self.cancelled = False
-        self._lock = threading.Lock()
+        self._lock = client.handler.lock_object()
         self._retry = KazooRetry(max_tries=None, sleep_func=client.handler.sleep_func)
         self._is_tried = self._is_path_there = self._is_held = False
         self._session: Optional[int] = None
@@ -130,7 +130,11 @@ class Lock:
         node = self._find_node() if self._is_tried else None
         self._is_tried = True
         if node is None:
-            made: str = self.client.create(self.create_path, self.data, ephemeral=ephemeral, sequence=True)
+            try:
+                made: str = self.client.create(self.create_path, self.data, ephemeral=ephemeral, sequence=True)
+            except ZookeeperError as error:
+                error.is_final = False  # it is looked for
+                raise
             node = made.rpartition("/")[2]
         return node
 

@@ -9,7 +9,6 @@ from __future__ import annotations
 import functools
 import inspect
 import logging
-import threading
 import time
 from typing import TYPE_CHECKING, Any, Callable, Optional, TypeVar
 
@@ -46,7 +45,7 @@ class _Watch:
         self._client, self._path = client, path
         self._func: Optional[Callable[..., object]] = None
         self._goes_on, self._stopped = goes_on, False
-        self._run_lock = threading.Lock()
+        self._run_lock = client.handler.lock_object()
         self._retry = KazooRetry(max_tries=None, sleep_func=client.handler.sleep_func)
 
     def __call__(self, func: Function) -> Function:
