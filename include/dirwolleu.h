@@ -80,7 +80,8 @@ enum dw_result DW_AS_INT32 {
   DW_TOO_MANY = -10, /* the subtree has more nodes than were asked for */
   DW_NOT_TEXTS = -11, /* the bytes are no texts, each after its length */
   DW_NO_SUCH_OPERATION = -12,
-  DW_CREDENTIAL_TOO_LARGE = -13
+  DW_CREDENTIAL_TOO_LARGE = -13,
+  DW_NO_SUCH_LIMITS = -14
 };
 
 /* A handle: zeros before its first use, which are {0} in C and {} in C++. Its fields are the library's own. */
@@ -158,7 +159,7 @@ enum dw_outcome DW_AS_INT32 {
   DW_OUTCOME_CLOSED = 3, /* it is closed, or a call that closes it waits */
   DW_OUTCOME_NOT_CONNECTED = 4,
   DW_OUTCOME_TOO_MANY_WATCHES = 5, /* 65,536 paths of the side are watched, with the reads that wait */
-  DW_OUTCOME_TOO_LARGE = 6, /* the request has more than 1,048,575 bytes */
+  DW_OUTCOME_TOO_LARGE = 6, /* the request is longer than the session may send */
   DW_OUTCOME_TOO_MANY_PENDING = 7 /* 1,024 calls wait */
 };
 
@@ -502,6 +503,17 @@ enum dw_result dw_session_open(dw_session *handle, int32_t timeout_ms, size_t ad
 enum dw_result dw_session_resume(dw_session *handle, int32_t timeout_ms, size_t addresses, uint64_t seed, const uint8_t *saved,
                                  size_t saved_length);
 
+/* The same as dw_session_open, with limits of its own for the payloads of frames, in bytes: the most that comes, at least 4,194,304, and the most that
+ * is sent, at least 1,048,575, which are those of every other session. Neither may be above 1,073,741,823. Raise them together with the servers'
+ * jute.maxbuffer: a payload that is longer than the first ends the connection, and a request that is longer than the second is DW_OUTCOME_TOO_LARGE.
+ * Also DW_NO_SUCH_LIMITS. */
+enum dw_result dw_session_open_with_limits(dw_session *handle, int32_t timeout_ms, size_t addresses, uint64_t seed,
+                                           size_t incoming, size_t outgoing);
+
+/* That of dw_session_resume. Also DW_NO_SUCH_LIMITS. */
+enum dw_result dw_session_resume_with_limits(dw_session *handle, int32_t timeout_ms, size_t addresses, uint64_t seed,
+                                             size_t incoming, size_t outgoing, const uint8_t *saved, size_t saved_length);
+
 /* Frees the session of a handle, if it has one. It ends no session of the servers: dw_session_close does. */
 void dw_session_free(dw_session *handle);
 
@@ -568,7 +580,7 @@ enum dw_operation DW_AS_INT32 {
 /* Asks for another operation, one of enum dw_operation, with the bytes that stand after the header of its request, as zookeeper.jute spells its
  * record: the library adds the header and reads none of them. The answer is DW_REPLY_RAW, whose text is all that stands after the header of the
  * reply, or DW_REPLY_CODE; a multi that fails brings DW_REPLY_RAW, with its codes in the text. It waits and counts like each call. With its bytes a
- * request has 8 more, and 1,048,575 at most: else it is answered DW_OUTCOME_TOO_LARGE. DW_OK, DW_NO_MEMORY, or DW_NO_SUCH_OPERATION: no step was
+ * request has 8 more, and 1,048,575 at most, or the limit of the session: else it is answered DW_OUTCOME_TOO_LARGE. DW_OK, DW_NO_MEMORY, or DW_NO_SUCH_OPERATION: no step was
  * made. */
 enum dw_result dw_session_raw(dw_session *handle, uint64_t now_ms, uint64_t ticket, uint64_t until_ms, int32_t operation,
                               const uint8_t *bytes, size_t length);
@@ -686,6 +698,7 @@ static inline const char *dw_result_words(enum dw_result result) {
   case DW_NOT_TEXTS: return "the bytes are no texts, each after its length";
   case DW_NO_SUCH_OPERATION: return "the number is none of enum dw_operation";
   case DW_CREDENTIAL_TOO_LARGE: return "the scheme and the secret have more than 1048555 bytes";
+  case DW_NO_SUCH_LIMITS: return "a limit of payloads is below that of every session, or above 1073741823 bytes";
   }
   return "the library answers a number that its header does not have";
 }
@@ -698,7 +711,7 @@ static inline const char *dw_outcome_words(enum dw_outcome outcome) {
   case DW_OUTCOME_CLOSED: return "the session is closed";
   case DW_OUTCOME_NOT_CONNECTED: return "no server has accepted the session";
   case DW_OUTCOME_TOO_MANY_WATCHES: return "65536 paths are watched";
-  case DW_OUTCOME_TOO_LARGE: return "the request has more than 1048575 bytes";
+  case DW_OUTCOME_TOO_LARGE: return "the request is longer than the session may send";
   case DW_OUTCOME_TOO_MANY_PENDING: return "1024 calls wait for their reply";
   }
   return "there is no reply, for a reason that the header does not have";

@@ -62,6 +62,8 @@ enum {
     DWS_PIECE = 65536,       /* the most bytes that are read at once */
     DWS_LARGE_PIECE = 262144, /* the same over a connection that had more at once: a frame in one piece is copied once less */
     DWS_MOST_READ = 4194304, /* the most bytes that are read before the moment is told */
+    DWS_LONGEST_ANSWER = 4194304,  /* the most bytes of a frame that comes, after its length, where options name none */
+    DWS_LONGEST_REQUEST = 1048575, /* and of one that is sent */
     DWS_LONGEST_HOST = 256,  /* the most bytes of a host's name */
     DWS_LONGEST_SAVED = 256, /* the most bytes of a session that is taken up after memory ran out */
     DWS_LONGEST_LINE = 5120, /* the most bytes of a message with a path */
@@ -123,6 +125,8 @@ struct dws_wire {
 typedef struct dws_options {
     int32_t timeout_ms;     /* of the session, as it is asked for: 1 to 2147483647; 0 is 10 seconds */
     int32_t patience_ms;    /* how long a call waits in all; 0 is as long as timeout_ms, and a second at least; below 0 there is no limit */
+    size_t longest_answer;  /* the most bytes of a frame that comes, after its length: 4194304 to 1073741823; 0 is the least */
+    size_t longest_request; /* and of one that is sent: 1048575 to 1073741823; 0 is the least. The servers' jute.maxbuffer has to be as high */
     bool is_in_order;       /* hosts are dialled as they are listed, and not in random order */
     bool is_over_at_expiry; /* no new session begins where one has expired */
     const uint8_t *saved;   /* a session that dws_saved gave, to be taken up; NULL begins one */
@@ -247,7 +251,7 @@ struct dws_tree {
 
 /* Opens a session at these hosts: HOST:PORT,HOST:PORT/CHROOT, of which the port may be left out where it is 2181, and an IPv6 address is in
  * brackets. Names are looked up at each attempt to connect, of which the first is made at the first turn. Options may be NULL. NULL where the
- * text is no such thing, a timeout is out of range, or memory ran out: then `why`, which has `size` bytes and may be NULL with none, says so. */
+ * text is no such thing, a timeout or a limit is out of range, or memory ran out: then `why`, which has `size` bytes and may be NULL with none, says so. */
 static inline dws_session *dws_open(const char *hosts, const dws_options *options, char *why, size_t size);
 
 /* Prints an event on standard error, for `told` of the options: so a program says why it has no session as long as no server can be reached. */
@@ -513,6 +517,7 @@ static inline const char *dws_advice_of_result(enum dw_result result)
     case DW_NOT_TEXTS: return "";
     case DW_NO_SUCH_OPERATION: return "";
     case DW_CREDENTIAL_TOO_LARGE: return "";
+    case DW_NO_SUCH_LIMITS: return "";
     }
     return "take both of one version";
 }
@@ -527,7 +532,7 @@ static inline const char *dws_advice_of_outcome(enum dw_outcome outcome)
     case DW_OUTCOME_CLOSED: return "open another one";
     case DW_OUTCOME_NOT_CONNECTED: return "call again later";
     case DW_OUTCOME_TOO_MANY_WATCHES: return "read without a watch, or in another session";
-    case DW_OUTCOME_TOO_LARGE: return "send less";
+    case DW_OUTCOME_TOO_LARGE: return "send less, or raise longest_request";
     case DW_OUTCOME_TOO_MANY_PENDING: return "call again when one was answered";
     }
     return "take both of one version";
@@ -1664,6 +1669,18 @@ static inline struct dws_line dws_ask_again(dws_session *s, struct dws_line *ask
 
 static inline void dws_free_members(struct dws_members *members);
 
+/* Makes the library's session, of what was saved if that is not NULL. */
+static inline enum dw_result dws_make_machine(dws_session *s, const uint8_t *saved, size_t length)
+{
+    const dws_options *of = &s->options;
+    uint64_t seed = dws_chance(s);
+    if (saved == NULL) {
+        return dw_session_open_with_limits(&s->machine, of->timeout_ms, s->host_count, seed, of->longest_answer, of->longest_request);
+    }
+    return dw_session_resume_with_limits(&s->machine, of->timeout_ms, s->host_count, seed, of->longest_answer, of->longest_request, saved,
+                                         length);
+}
+
 /* Memory ran out within a step, so the library goes no further: another one takes its session up, and follows what was followed. Reads are asked
  * again; whether writes have happened is not known. */
 static inline void dws_resume(dws_session *s)
@@ -1675,7 +1692,7 @@ static inline void dws_resume(dws_session *s)
         result = DW_NO_MEMORY;
     }
     if (result == DW_OK) {
-        result = dw_session_resume(&s->machine, s->options.timeout_ms, s->host_count, dws_chance(s), saved, length);
+        result = dws_make_machine(s, saved, length);
     }
     dws_wipe(saved, sizeof saved);
     if (result != DW_OK) {
@@ -3211,13 +3228,21 @@ static inline bool dws_check_version(char *why, size_t size)
     return found == DW_VERSION_NUMBER;
 }
 
-static inline enum dw_result dws_make_machine(dws_session *s)
+/* Takes the options over, with the usual ones for those that are 0. */
+static inline void dws_take_options(dws_session *s, const dws_options *options)
 {
-    const dws_options *options = &s->options;
-    if (options->saved != NULL) {
-        return dw_session_resume(&s->machine, options->timeout_ms, s->host_count, dws_chance(s), options->saved, options->saved_length);
+    if (options != NULL) {
+        s->options = *options;
     }
-    return dw_session_open(&s->machine, options->timeout_ms, s->host_count, dws_chance(s));
+    if (s->options.timeout_ms == 0) {
+        s->options.timeout_ms = DWS_TIMEOUT_MS;
+    }
+    if (s->options.longest_answer == 0) {
+        s->options.longest_answer = DWS_LONGEST_ANSWER;
+    }
+    if (s->options.longest_request == 0) {
+        s->options.longest_request = DWS_LONGEST_REQUEST;
+    }
 }
 
 static inline void dws_free(dws_session *s)
@@ -3261,18 +3286,13 @@ static inline dws_session *dws_open(const char *hosts, const dws_options *option
         for (int i = 0; i < DWS_LISTS; i++) {
             s->subjects[i].last = &s->subjects[i].first;
         }
-        if (options != NULL) {
-            s->options = *options;
-        }
-        if (s->options.timeout_ms == 0) {
-            s->options.timeout_ms = DWS_TIMEOUT_MS;
-        }
+        dws_take_options(s, options);
         dws_begin_wait(s);
         if (!dws_read_string(s, hosts, why, size)) {
             dws_free(s);
             return NULL;
         }
-        result = dws_make_machine(s);
+        result = dws_make_machine(s, s->options.saved, s->options.saved_length);
     }
     if (result != DW_OK) {
         snprintf(why, size, "%s", dw_result_words(result));

@@ -5,7 +5,8 @@
 
 #include "../requests.h"
 
-enum { LARGEST_BODY = 1048567 }; /* a request has 1,048,575 bytes at most, of which its header has 8 */
+/* The most bytes of frames after their lengths, where options name none and as these tests raise them; and of an answer besides its data. */
+enum { LONGEST_REQUEST = 1048575, LONGEST_ANSWER = 4194304, RAISED = 5000000, OF_HEADER = 8, OF_ANSWER = 16 + 4 + 68 };
 
 static dws_request request;
 
@@ -14,6 +15,18 @@ static void open_below(const char *chroot)
     root = chroot;
     open_session();
     root = "";
+    EXPECT(session != NULL);
+    admit();
+}
+
+/* A session with these limits, of which 0 is the usual one. */
+static void open_within(size_t longest_answer, size_t longest_request)
+{
+    dws_options options;
+    memset(&options, 0, sizeof options);
+    options.longest_answer = longest_answer;
+    options.longest_request = longest_request;
+    open_session_with(options);
     EXPECT(session != NULL);
     admit();
 }
@@ -291,15 +304,15 @@ static void hear_bytes(uint8_t *room, size_t length)
     }
 }
 
-/* A body of each size at the edges is sent as it is, and one that is larger by a byte is not. */
-static void send_edges(void)
+/* A body of each size at the edges is sent as it is, and one that is larger by a byte is not, by the limit that an option says, or by this one. */
+static void send_edges(size_t option, size_t longest)
 {
-    static const size_t sizes[] = {0, 1, LARGEST_BODY - 1, LARGEST_BODY};
-    uint8_t *body = (uint8_t *)malloc(LARGEST_BODY + 1), *room = (uint8_t *)malloc(12 + LARGEST_BODY);
-    for (size_t i = 0; i < LARGEST_BODY + 1; i++) {
+    size_t largest = longest - OF_HEADER, sizes[] = {0, 1, largest - 1, largest};
+    uint8_t *body = (uint8_t *)malloc(largest + 1), *room = (uint8_t *)malloc(12 + largest);
+    for (size_t i = 0; i < largest + 1; i++) {
         body[i] = (uint8_t)(i * 7 + i / 251);
     }
-    open_below("");
+    open_within(0, option);
     for (int32_t i = 0; i < 4; i++) {
         ask_raw(DW_OPERATION_SET_ACL, body, sizes[i]);
         hear_bytes(room, 12 + sizes[i]);
@@ -310,8 +323,8 @@ static void send_edges(void)
         ANSWER(add_stat, 1 + i, 6, &STAT);
         EXPECT(request.call.is_answered && request.call.why == 0 && request.call.stat.pzxid == STAT.pzxid);
     }
-    EXPECT_NUMBER(DW_OUTCOME_TOO_LARGE, dws_wait(session, ask_raw(DW_OPERATION_SET_ACL, body, LARGEST_BODY + 1)));
-    expect_words(&request.call, "the request has more than 1048575 bytes; send less");
+    EXPECT_NUMBER(DW_OUTCOME_TOO_LARGE, dws_wait(session, ask_raw(DW_OPERATION_SET_ACL, body, largest + 1)));
+    expect_words(&request.call, "the request is longer than the session may send; send less, or raise longest_request");
     dws_who_am_i(session, &request);
     hear_request(5, DW_OPERATION_WHO_AM_I, NULL); /* nothing was sent before it */
     free(body);
@@ -325,6 +338,92 @@ static const int32_t OPERATIONS[] = {
     DW_OPERATION_GET_EPHEMERALS, DW_OPERATION_GET_ALL_CHILDREN_NUMBER, DW_OPERATION_WHO_AM_I,
 };
 enum { OPERATION_COUNT = sizeof OPERATIONS / sizeof OPERATIONS[0] };
+
+/* Answers a get by a frame with this many bytes after its length, as far as the session takes it. */
+static void answer_data(int32_t xid, size_t length)
+{
+    enum { PIECE = 65536 };
+    uint8_t *frame = (uint8_t *)calloc(4 + length, 1);
+    put_int(&came, (int32_t)length);
+    put_int(&came, xid);
+    put_long(&came, 6);
+    put_int(&came, 0);
+    put_int(&came, (int32_t)(length - OF_ANSWER));
+    memcpy(frame, came.at, came.length);
+    came.length = 0;
+    for (size_t at = 0, size; at < 4 + length && session->wire.socket >= 0; at += size) {
+        size = (size_t)dws_least(PIECE, 4 + length - at);
+        send_all(frame + at, size);
+    }
+    free(frame);
+}
+
+/* An answer that is as long as it may be, by the limit that an option says, or by this one. */
+static void take_longest(int32_t xid, size_t longest)
+{
+    dws_get(session, &request.call, "/a", false);
+    hear_request(xid, TYPE_GET, NULL);
+    answer_data(xid, longest);
+    wait_for(&request.call);
+    EXPECT_NUMBER(0, request.call.why);
+    EXPECT_NUMBER(longest - OF_ANSWER, request.call.length);
+}
+
+/* A longer one by a byte ends the connection, and the call is asked again. */
+static void take_edges(size_t option, size_t longest)
+{
+    open_within(option, 0);
+    take_longest(1, longest);
+    EXPECT(strchr(events, '0' + DWS_CUT) == NULL);
+    dws_get(session, &request.call, "/a", false);
+    hear_request(2, TYPE_GET, NULL);
+    answer_data(2, longest + 1);
+    EXPECT(strchr(events, '0' + DWS_CUT) != NULL && !request.call.is_answered);
+    end_line();
+    admit();
+    hear_request(3, TYPE_GET, NULL);
+    answer_data(3, OF_ANSWER);
+    wait_for(&request.call);
+    EXPECT_NUMBER(0, request.call.why);
+    close_session();
+}
+
+/* The limits of the options are kept by the session that begins after an expiry, and by one that is taken up since memory ran out. */
+static void keep_limits(void)
+{
+    open_within(RAISED, 0);
+    end_line();
+    accept_line();
+    hear();
+    add_expired(&came);
+    answer_all();
+    end_line();
+    admit();
+    EXPECT(strchr(events, '0' + DWS_EXPIRED) != NULL);
+    take_longest(1, RAISED);
+    dws_resume(session);
+    close(line);
+    admit();
+    take_longest(1, RAISED);
+    close_session();
+}
+
+/* Limits that no session may have are refused in words. */
+static void refuse_limits(void)
+{
+    static const struct {
+        size_t longest_answer, longest_request;
+    } rows[] = {{LONGEST_ANSWER - 1, 0}, {0, LONGEST_REQUEST - 1}, {1, 0}, {1073741824, 0}, {0, 1073741824}, {SIZE_MAX, 0}, {0, SIZE_MAX}};
+    dws_options options;
+    char why[256];
+    memset(&options, 0, sizeof options);
+    for (size_t i = 0; i < sizeof rows / sizeof rows[0]; i++) {
+        options.longest_answer = rows[i].longest_answer;
+        options.longest_request = rows[i].longest_request;
+        EXPECT(dws_open("127.0.0.1:1", &options, why, sizeof why) == NULL);
+        EXPECT(strcmp(why, "a limit of payloads is below that of every session, or above 1073741823 bytes") == 0);
+    }
+}
 
 /* A reply of no bytes is that to none of them: it ends the connection, and the request is answered that it was lost. With a code it is that code. In
  * both cases its zxid counts: the next connection asks for a server that has it. */
@@ -529,7 +628,12 @@ int main(int argc, char **argv)
     read_several(is_quick);
     tell_ephemerals();
     tell_of_servers();
-    send_edges();
+    send_edges(0, LONGEST_REQUEST);
+    send_edges(RAISED, RAISED);
+    take_edges(0, LONGEST_ANSWER);
+    take_edges(RAISED, RAISED);
+    keep_limits();
+    refuse_limits();
     answer_nothing();
     shorten_replies();
     mix_types();

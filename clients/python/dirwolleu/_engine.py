@@ -39,6 +39,7 @@ from dirwolleu._session import (
     CredentialAnswer,
     Dial,
     LetGo,
+    Limits,
     Refused,
     Session,
     Shown,
@@ -101,11 +102,12 @@ class Engine(Observed):
         tell: Tell,
         root: Root = Root(),
         credentials: Iterable[Credential] = (),
+        limits: Limits = Limits(),
     ) -> None:
         super().__init__()
         if not 0.001 <= timeout <= _LONGEST_TIMEOUT_MS / 1000:
             raise ValueError(f"a timeout is 0.001 to {_LONGEST_TIMEOUT_MS / 1000} seconds")
-        self._timeout_ms = int(timeout * 1000)
+        self._timeout_ms, self._limits = int(timeout * 1000), limits
         self._root, self._count, self._tell = root, 0, tell
         self._introductions = Introductions(credentials)
         self._session = self._new_session(saved)
@@ -151,7 +153,7 @@ class Engine(Observed):
 
     def _new_session(self, saved: Optional[bytes], addresses: int = 0) -> Session:
         seed = int.from_bytes(os.urandom(8), "big")
-        session = Session(self._timeout_ms, seed, saved, self._root, addresses)
+        session = Session(self._timeout_ms, seed, saved, self._root, addresses, self._limits)
         self._introductions.begin(session)
         return session
 

@@ -36,6 +36,7 @@ TOO_MANY = -10
 NOT_TEXTS = -11
 NO_SUCH_OPERATION = -12
 CREDENTIAL_TOO_LARGE = -13
+NO_SUCH_LIMITS = -14
 
 SEND = 1
 ANSWER = 2
@@ -212,6 +213,11 @@ _FUNCTIONS: dict[str, tuple[Any, tuple[Any, ...]]] = {
     "dw_version": (c_uint32, ()),
     "dw_session_open": (c_int32, (_HANDLE, c_int32, c_size_t, c_uint64)),
     "dw_session_resume": (c_int32, (_HANDLE, c_int32, c_size_t, c_uint64, c_void_p, c_size_t)),
+    "dw_session_open_with_limits": (c_int32, (_HANDLE, c_int32, c_size_t, c_uint64, c_size_t, c_size_t)),
+    "dw_session_resume_with_limits": (
+        c_int32,
+        (_HANDLE, c_int32, c_size_t, c_uint64, c_size_t, c_size_t, c_void_p, c_size_t),
+    ),
     "dw_session_free": (None, (_HANDLE,)),
     "dw_session_opened": (c_int32, (_HANDLE, c_uint64)),
     "dw_session_failed": (c_int32, (_HANDLE, c_uint64)),
@@ -287,6 +293,7 @@ _RESULT_WORDS = {
     NOT_TEXTS: "the bytes are no texts, each after its length",
     NO_SUCH_OPERATION: "no operation that a caller may spell has the number",
     CREDENTIAL_TOO_LARGE: "the scheme and the secret have more than 1048555 bytes",
+    NO_SUCH_LIMITS: "a limit of payloads is below that of every session, or above 1073741823 bytes",
 }
 # end of what is made
 

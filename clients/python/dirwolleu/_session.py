@@ -23,6 +23,8 @@ from dirwolleu.types import Stat
 
 NO_LIMIT = 2**64 - 1
 """The limit of a call that has none."""
+LONGEST_ANSWER, LONGEST_REQUEST = 4_194_304, 1_048_575
+"""The most bytes of a frame that comes and of one that is sent, each after its length, where a program says no other."""
 MOST_AT_ONCE = 98_304
 """How many bytes of what a step says are taken together, at most. What is longer is taken one output after the other, and copied once."""
 _REFUSALS = frozenset((library.READ_CODE, library.READ_TOO_MANY_WATCHES, library.READ_TOO_LARGE, library.READ_CLOSED))
@@ -115,6 +117,13 @@ class CredentialAnswer(NamedTuple):
     code: int
 
 
+class Limits(NamedTuple):
+    """The most bytes of a frame that comes, and of one that is sent, each after its length."""
+
+    longest_answer: int = LONGEST_ANSWER
+    longest_request: int = LONGEST_REQUEST
+
+
 Action = Union[library.Output, Dial, Sign, TimedOut, Shown, Refused, TakenOn, LetGo, Bounded, Whole, CredentialAnswer]
 
 
@@ -126,19 +135,26 @@ def unbegun(last_zxid: int) -> bytes:
 class Session(LookUps):
     """One session after the other, with the greatest zxid seen in all of them. It holds memory of the library's until `close`.
 
-    `saved` is taken up first. The order of the addresses and the pauses between attempts are random by the seed.
+    `saved` is taken up first. The order of the addresses and the pauses between attempts are random by the seed. Raises `ValueError`
+    where no session may have such limits.
     """
 
     def __init__(
-        self, timeout_ms: int, seed: int, saved: Optional[bytes] = None, root: Root = Root(), addresses: int = 0
+        self,
+        timeout_ms: int,
+        seed: int,
+        saved: Optional[bytes] = None,
+        root: Root = Root(),
+        addresses: int = 0,
+        limits: Limits = Limits(),
     ) -> None:
         super().__init__(root)
         self._output, self._count, self._take_all = library._Output(), c_size_t(), self._calls.outputs
         self._make_room(4096)
         if saved is None:
-            checked(self._calls.open(self._handle, timeout_ms, addresses, seed))
+            checked(self._calls.open_with_limits(self._handle, timeout_ms, addresses, seed, *limits))
         else:
-            checked(self._calls.resume(self._handle, timeout_ms, addresses, seed, saved, len(saved)))
+            checked(self._calls.resume_with_limits(self._handle, timeout_ms, addresses, seed, *limits, saved, len(saved)))
 
     # Steps.
 
@@ -218,7 +234,7 @@ class Session(LookUps):
         spelled = scheme.encode()
         code = self._calls.credential(self._handle, now, spelled, len(spelled), secret, len(secret))
         if code == library.CREDENTIAL_TOO_LARGE:
-            raise TooLargeError
+            raise TooLargeError(library._RESULT_WORDS[code])
         return self._outputs(code)
 
     def close_session(self, now: int, ticket: int, until: int) -> list[Action]:

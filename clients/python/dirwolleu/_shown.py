@@ -8,12 +8,13 @@ from collections.abc import Iterable
 from typing import TYPE_CHECKING, Any, Callable, Optional, TypeVar, Union
 
 from dirwolleu import _watches as watches
-from dirwolleu._checks import checked_function, checked_text
+from dirwolleu._checks import checked_function, checked_int, checked_text
 from dirwolleu._clock import moment
 from dirwolleu._credentials import Credential
 from dirwolleu._engine import Engine, Listener, News, Tell
 from dirwolleu._hosts import Servers
 from dirwolleu._retry import Retry
+from dirwolleu._session import Limits
 from dirwolleu._steps import Result, Steps
 from dirwolleu.metrics import Observation
 from dirwolleu.types import Kept, KeptChildren, Mark, Snapshot, State, Stats
@@ -38,13 +39,21 @@ def _credentials_of(auth_data: AuthData) -> list[Credential]:
 
 
 def parts_of(
-    hosts: str, timeout: float, saved: Optional[bytes], auth_data: AuthData, randomize_hosts: bool, tell: Tell
+    hosts: str,
+    timeout: float,
+    saved: Optional[bytes],
+    auth_data: AuthData,
+    randomize_hosts: bool,
+    limits: Limits,
+    tell: Tell,
 ) -> tuple[Servers, Engine]:
     """What both clients are made of, by their parameters."""
     if saved is not None and not isinstance(saved, bytes):
         raise TypeError(f"a saved session is bytes, and not {type(saved).__name__}")
+    for name, limit in limits._asdict().items():
+        checked_int(name, limit, 64)
     servers = Servers(hosts, randomize_hosts)
-    return servers, Engine(timeout, saved, tell, servers.hosts.root, _credentials_of(auth_data))
+    return servers, Engine(timeout, saved, tell, servers.hosts.root, _credentials_of(auth_data), limits)
 
 
 def _named(one: object) -> str:

@@ -21,6 +21,7 @@ from dirwolleu._engine import News as AnyNews
 from dirwolleu._plans import Plan
 from dirwolleu._requests import Request, Result
 from dirwolleu._retry import Retry
+from dirwolleu._session import LONGEST_ANSWER, LONGEST_REQUEST, Limits
 from dirwolleu._shown import AuthData, Shown, parts_of
 from dirwolleu._steps import Ask, Call, GetNews, Step, Steps, Wait
 from dirwolleu._trees import MOST_NODES, AsyncTree
@@ -129,8 +130,11 @@ class Client(Shown):
         sasl: Optional[Sasl] = None,
         retry: Optional[Retry] = None,
         randomize_hosts: bool = True,
+        longest_answer: int = LONGEST_ANSWER,
+        longest_request: int = LONGEST_REQUEST,
     ) -> None:
-        super().__init__(*parts_of(hosts, timeout, saved, auth_data, randomize_hosts, self._tell), retry)
+        limits = Limits(longest_answer, longest_request)
+        super().__init__(*parts_of(hosts, timeout, saved, auth_data, randomize_hosts, limits, self._tell), retry)
         self._tls, self._sasl = ssl, sasl
         self._driver: Optional[Driver] = None
         self._callbacks: set[asyncio.Future[Any]] = set()

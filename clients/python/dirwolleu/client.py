@@ -25,6 +25,7 @@ from dirwolleu._engine import News as AnyNews
 from dirwolleu._plans import Plan
 from dirwolleu._requests import Request, Result
 from dirwolleu._retry import Retry
+from dirwolleu._session import LONGEST_ANSWER, LONGEST_REQUEST, Limits
 from dirwolleu._shown import AuthData, Shown, parts_of
 from dirwolleu._steps import Ask, Call, GetNews, Step, Steps, Wait
 from dirwolleu._trees import MOST_NODES, Tree
@@ -93,6 +94,10 @@ class Client(Shown):
     connections are TLS: see `dirwolleu.tls_context`. By `retry`, a policy, each call is asked again where that is safe; without it none
     is.
 
+    A frame that comes has at most `longest_answer` bytes after its length, and one that is sent `longest_request`: the least
+    that they may be, unless you say more, and at most 1,073,741,823. A longer answer, as the names of very many children, ends the
+    connection; a longer request raises `TooLargeError`. The servers' `jute.maxbuffer` has to be as high.
+
     A call waits for a server and for its answer within a bound: its own `timeout` in seconds, which counts all tries,
     or that of the session. Where its connection is lost, a read is asked again, and a write is not. By the time that it
     returns or raises, all that came with its answer is taken in, and functions are told of it: `state` and the next
@@ -134,8 +139,11 @@ class Client(Shown):
         sasl: Optional[Sasl] = None,
         retry: Optional[Retry] = None,
         randomize_hosts: bool = True,
+        longest_answer: int = LONGEST_ANSWER,
+        longest_request: int = LONGEST_REQUEST,
     ) -> None:
-        super().__init__(*parts_of(hosts, timeout, saved, auth_data, randomize_hosts, self._tell), retry)
+        limits = Limits(longest_answer, longest_request)
+        super().__init__(*parts_of(hosts, timeout, saved, auth_data, randomize_hosts, limits, self._tell), retry)
         self._tls, self._sasl = ssl, sasl
         self._hold_threads()
 

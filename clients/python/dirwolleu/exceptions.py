@@ -222,10 +222,10 @@ class TransactionFailedError(ZookeeperError):
 
 
 class TooLargeError(ZookeeperError):
-    """The request would have more than 1,048,575 bytes. Nothing was sent."""
+    """The request would have more than 1,048,575 bytes, or than `longest_request` of the client. Nothing was sent."""
 
-    _reason = "the request has more than 1048575 bytes"
-    _advice = "send less"
+    _reason = "the request is longer than the session may send"
+    _advice = "send less, or raise longest_request"
 
 
 # made by scripts/interface from include/interface.toml

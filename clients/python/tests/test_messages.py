@@ -47,7 +47,7 @@ class RefusalTest(MessageCase):
             (lambda: client.create("/a"), "there is a node already: /a"),
             (lambda: client.set("/a", b"", 7), "the node has another version: /a; read it again"),
             (lambda: client.delete("/a"), "the node has children: /a; delete them first"),
-            (lambda: client.set("/a", bytes(1 << 20)), "the request has more than 1048575 bytes: /a; send less"),
+            (lambda: client.set("/a", bytes(1 << 20)), "the request is longer than the session may send: /a; send less, or raise longest_request"),
         ):
             self.assertEqual(self.said(call), wanted)
 

@@ -284,6 +284,8 @@ mod tests {
             timeout_ms: 1_000,
             addresses: 1,
             seed: 1,
+            longest_answer: 4_194_304,
+            longest_request: 1_048_575,
         })
         .unwrap()
     }

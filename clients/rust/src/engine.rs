@@ -18,7 +18,7 @@ use crate::fault::{Code, Fault, NoReply};
 use crate::followed::Followed;
 use crate::growing::{Growing, Look};
 use crate::hosts::{chance, Host, Hosts, Order, Places};
-use crate::machine::Machine;
+use crate::machine::{Limits, Machine};
 use crate::moment::{Clock, Moment};
 use crate::outbox::Outbox;
 use crate::saved::SavedSession;
@@ -85,6 +85,7 @@ pub(crate) struct Attempt {
 /// How a session begins.
 pub(crate) struct Beginning {
     pub(crate) timeout: Duration,
+    pub(crate) limits: Limits,
     pub(crate) hosts: Hosts,
     pub(crate) order: Order,
     pub(crate) saved: Option<SavedSession>,
@@ -99,6 +100,7 @@ pub(crate) struct Engine {
     /// When something is due, as the machine had it after its last step.
     deadline: Moment,
     asked_timeout: Duration,
+    limits: Limits,
     renews: bool,
     limit: Option<Duration>,
     clock: Clock,
@@ -138,15 +140,17 @@ pub(crate) struct Engine {
 impl Engine {
     pub(crate) fn new(beginning: Beginning) -> Result<Engine, Fault> {
         let (timeout, count) = (beginning.timeout, beginning.hosts.len());
+        let (seed, limits) = (chance(), beginning.limits);
         let machine = match &beginning.saved {
-            Some(saved) => Machine::resume(timeout, count, chance(), saved)?,
-            None => Machine::open(timeout, count, chance())?,
+            Some(saved) => Machine::resume_with_limits(timeout, count, seed, saved, limits)?,
+            None => Machine::open_with_limits(timeout, count, seed, limits)?,
         };
         let chroot = beginning.hosts.root().clone();
         let mut engine = Engine {
             deadline: machine.deadline().unwrap_or(NEVER),
             machine,
             asked_timeout: timeout,
+            limits,
             renews: beginning.renews,
             limit: beginning.limit,
             clock: Clock::start(),
@@ -183,9 +187,7 @@ impl Engine {
         if self.course == Course::Panicked {
             return Err(Fault::Panicked);
         }
-        let saved = self.saved_for_renewal()?;
-        let (timeout, count) = (self.asked_timeout, self.hosts.len());
-        let renewed = Machine::resume(timeout, count, chance(), &saved)?;
+        let renewed = self.machine_of(&self.saved_for_renewal()?)?;
         // A machine that has halted answers nothing.
         let _ = self.end();
         self.hang_up();
@@ -202,6 +204,12 @@ impl Engine {
             self.plant_again();
         }
         Ok(())
+    }
+
+    /// Another machine, which takes up this session.
+    fn machine_of(&self, saved: &SavedSession) -> Result<Machine, Fault> {
+        let (timeout, count) = (self.asked_timeout, self.hosts.len());
+        Machine::resume_with_limits(timeout, count, chance(), saved, self.limits)
     }
 
     /// What the next machine is to take up. After a close, or where credentials were refused, it is another session, which begins at the
@@ -537,6 +545,7 @@ mod tests {
     use crate::action::Refusal;
     use crate::client::State;
     use crate::jute::Writer;
+    use crate::machine::Limits;
     use crate::node::ANY_VERSION;
     use crate::request::Request;
     use crate::stats::CallKind;
@@ -566,6 +575,7 @@ mod tests {
     fn engine() -> Engine {
         Engine::new(Beginning {
             timeout: Duration::from_secs(10),
+            limits: Limits::default(),
             hosts: Hosts::from(address()),
             order: Order::Shuffled,
             saved: None,

@@ -90,6 +90,8 @@ pub enum Fault {
     TooManyNodes,
     /// The scheme and the secret of a credential have more than 1,048,555 bytes.
     CredentialTooLarge,
+    /// A limit of payloads is below that of every session, or above 1,073,741,823 bytes.
+    NoSuchLimits,
     /// A node with a time to live cannot go with its session: it is persistent, or persistent and sequential.
     EphemeralWithTtl,
     /// The library that is linked is of another version than this crate.
@@ -135,6 +137,7 @@ impl Fault {
             Fault::NotWhole => result::NOT_WHOLE,
             Fault::TooManyNodes => result::TOO_MANY,
             Fault::CredentialTooLarge => result::CREDENTIAL_TOO_LARGE,
+            Fault::NoSuchLimits => result::NO_SUCH_LIMITS,
             Fault::OtherVersion { .. }
             | Fault::UnknownNumber(_)
             | Fault::Panicked
@@ -224,6 +227,7 @@ pub(crate) fn done_at(path: &str, code: i32) -> Result<(), Fault> {
         result::NOT_WHOLE => Err(Fault::NotWhole),
         result::TOO_MANY => Err(Fault::TooManyNodes),
         result::CREDENTIAL_TOO_LARGE => Err(Fault::CredentialTooLarge),
+        result::NO_SUCH_LIMITS => Err(Fault::NoSuchLimits),
         _ => Err(UnknownNumber::of("result", code).into()),
     }
 }
@@ -304,6 +308,7 @@ mod tests {
             (-9, Fault::NotWhole),
             (-10, Fault::TooManyNodes),
             (-13, Fault::CredentialTooLarge),
+            (-14, Fault::NoSuchLimits),
         ] {
             assert_eq!(fault.number(), Some(number));
             assert_eq!(done_at("/a", number), Err(fault));

@@ -106,6 +106,8 @@ extern "C" {
     fn dw_forget(handle: *mut Raw) -> i32;
     fn dw_session_open(handle: *mut Raw, timeout_ms: i32, addresses: usize, seed: u64) -> i32;
     fn dw_session_resume(handle: *mut Raw, timeout_ms: i32, addresses: usize, seed: u64, saved: *const u8, saved_length: usize) -> i32;
+    fn dw_session_open_with_limits(handle: *mut Raw, timeout_ms: i32, addresses: usize, seed: u64, incoming: usize, outgoing: usize) -> i32;
+    fn dw_session_resume_with_limits(handle: *mut Raw, timeout_ms: i32, addresses: usize, seed: u64, incoming: usize, outgoing: usize, saved: *const u8, saved_length: usize) -> i32;
     fn dw_session_free(handle: *mut Raw);
     fn dw_session_opened(handle: *mut Raw, now_ms: u64) -> i32;
     fn dw_session_failed(handle: *mut Raw, now_ms: u64) -> i32;
@@ -688,22 +690,39 @@ pub(crate) struct Settings {
     pub(crate) timeout_ms: i32,
     pub(crate) addresses: usize,
     pub(crate) seed: u64,
+    pub(crate) longest_answer: usize,
+    pub(crate) longest_request: usize,
 }
 
 impl MachineHandle {
     pub(crate) fn open(of: Settings) -> Result<MachineHandle, Fault> {
         let handle = Handle::closed(&OF_SESSIONS)?;
         let raw = handle.pointer();
+        let (answer, request) = (of.longest_answer, of.longest_request);
         // SAFETY: as `Handle` says.
-        done(unsafe { dw_session_open(raw, of.timeout_ms, of.addresses, of.seed) })?;
+        done(unsafe {
+            dw_session_open_with_limits(raw, of.timeout_ms, of.addresses, of.seed, answer, request)
+        })?;
         Ok(MachineHandle { handle })
     }
 
     pub(crate) fn resume(of: Settings, saved: &[u8]) -> Result<MachineHandle, Fault> {
         let handle = Handle::closed(&OF_SESSIONS)?;
         let (raw, at, length) = (handle.pointer(), saved.as_ptr(), saved.len());
+        let (answer, request) = (of.longest_answer, of.longest_request);
         // SAFETY: as `Handle` says.
-        done(unsafe { dw_session_resume(raw, of.timeout_ms, of.addresses, of.seed, at, length) })?;
+        done(unsafe {
+            dw_session_resume_with_limits(
+                raw,
+                of.timeout_ms,
+                of.addresses,
+                of.seed,
+                answer,
+                request,
+                at,
+                length,
+            )
+        })?;
         Ok(MachineHandle { handle })
     }
 

@@ -118,7 +118,7 @@ pub use hosts::{Hosts, HostsFault};
 pub use kept::{Children, DataAnswer, Kept, Mark};
 pub use local::LocalSession;
 pub use lock::{Election, Lock, LockNames, LockOptions, Sharing};
-pub use machine::Machine;
+pub use machine::{Limits, Machine};
 pub use moment::{Clock, Moment};
 pub use multi_read::{Read, ReadAnswer};
 pub use node::{DataStat, Mode, Node, NodeEvent, Side, Stat, Watch, ANY_VERSION};

@@ -67,6 +67,36 @@ pub struct Machine {
     state: State,
 }
 
+/// The most bytes that the payload of a frame has. Raise both together with the `jute.maxbuffer` of the servers.
+///
+/// ```
+/// use dirwolleu::{Fault, Limits, Machine};
+/// use std::time::Duration;
+///
+/// let timeout = Duration::from_secs(9);
+/// let limits = Limits { longest_answer: 16 << 20, ..Limits::default() };
+/// assert!(Machine::open_with_limits(timeout, 3, 42, limits).is_ok());
+/// let less = Limits { longest_request: 1_000_000, ..limits };
+/// assert_eq!(Machine::open_with_limits(timeout, 3, 42, less).unwrap_err(), Fault::NoSuchLimits);
+/// ```
+#[derive(Clone, Copy, Debug, PartialEq, Eq)]
+pub struct Limits {
+    /// Of a frame that comes: 4,194,304 to 1,073,741,823, by default the least. A longer one ends the connection.
+    pub longest_answer: usize,
+    /// Of a frame that is sent: 1,048,575 to 1,073,741,823, by default the least. A longer call is answered
+    /// [`TooLarge`](crate::NoReply::TooLarge).
+    pub longest_request: usize,
+}
+
+impl Default for Limits {
+    fn default() -> Limits {
+        Limits {
+            longest_answer: 4_194_304,
+            longest_request: 1_048_575,
+        }
+    }
+}
+
 /// How a machine begins.
 impl Machine {
     /// A machine of no session yet, which asks for this timeout, in whole milliseconds: 1 to 2,147,483,647. It has this many addresses to
@@ -78,15 +108,25 @@ impl Machine {
     /// [`Fault::BadTimeout`], [`Fault::NoMemory`], [`Fault::UnknownNumber`], and [`Fault::OtherVersion`] where the library that is linked
     /// is not this crate's.
     pub fn open(timeout: Duration, addresses: usize, seed: u64) -> Result<Machine, Fault> {
-        let timeout_ms = timeout_ms(timeout)?;
-        Machine::of(MachineHandle::open(Settings {
-            timeout_ms,
-            addresses,
-            seed,
-        })?)
+        Machine::open_with_limits(timeout, addresses, seed, Limits::default())
     }
 
-    /// The same, which first takes up the session that was put away.
+    /// The same, with limits of its own.
+    ///
+    /// # Errors
+    ///
+    /// As [`open`](Machine::open), and [`Fault::NoSuchLimits`].
+    pub fn open_with_limits(
+        timeout: Duration,
+        addresses: usize,
+        seed: u64,
+        limits: Limits,
+    ) -> Result<Machine, Fault> {
+        let settings = settings(timeout, addresses, seed, limits)?;
+        Machine::of(MachineHandle::open(settings)?)
+    }
+
+    /// A machine that first takes up the session that was put away.
     ///
     /// # Errors
     ///
@@ -97,14 +137,40 @@ impl Machine {
         seed: u64,
         saved: &SavedSession,
     ) -> Result<Machine, Fault> {
-        let timeout_ms = timeout_ms(timeout)?;
-        let settings = Settings {
-            timeout_ms,
-            addresses,
-            seed,
-        };
+        Machine::resume_with_limits(timeout, addresses, seed, saved, Limits::default())
+    }
+
+    /// The same, with limits of its own.
+    ///
+    /// # Errors
+    ///
+    /// As [`resume`](Machine::resume), and [`Fault::NoSuchLimits`].
+    pub fn resume_with_limits(
+        timeout: Duration,
+        addresses: usize,
+        seed: u64,
+        saved: &SavedSession,
+        limits: Limits,
+    ) -> Result<Machine, Fault> {
+        let settings = settings(timeout, addresses, seed, limits)?;
         Machine::of(MachineHandle::resume(settings, saved.as_bytes())?)
     }
+}
+
+/// How a machine begins, as the library is told.
+fn settings(
+    timeout: Duration,
+    addresses: usize,
+    seed: u64,
+    limits: Limits,
+) -> Result<Settings, Fault> {
+    Ok(Settings {
+        timeout_ms: timeout_ms(timeout)?,
+        addresses,
+        seed,
+        longest_answer: limits.longest_answer,
+        longest_request: limits.longest_request,
+    })
 }
 
 /// Steps: what happened, noticed at a moment.
@@ -267,7 +333,7 @@ impl Machine {
     for_each_call! { calls }
 
     /// Asks for another operation, with what stands after the header of its request, as `zookeeper.jute` spells its record. The core adds the
-    /// header, and reads none of these bytes: 1,048,567 at most, else it is answered [`TooLarge`](crate::NoReply::TooLarge). A reply without
+    /// header, and reads none of these bytes: 8 less than [`Limits::longest_request`] at most, else it is answered [`TooLarge`](crate::NoReply::TooLarge). A reply without
     /// an error brings [`Brought::Raw`](crate::Brought::Raw).
     ///
     /// # Errors

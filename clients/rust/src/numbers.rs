@@ -23,6 +23,7 @@ pub(crate) mod result {
     pub(crate) const NOT_TEXTS: i32 = -11;
     pub(crate) const NO_SUCH_OPERATION: i32 = -12;
     pub(crate) const CREDENTIAL_TOO_LARGE: i32 = -13;
+    pub(crate) const NO_SUCH_LIMITS: i32 = -14;
 }
 
 pub(crate) mod kind {
@@ -174,7 +175,7 @@ pub enum Side {
 /// use dirwolleu::NoReply;
 ///
 /// assert_eq!(NoReply::try_from(6), Ok(NoReply::TooLarge));
-/// assert_eq!(NoReply::TooLarge.to_string(), "the request has more than 1048575 bytes");
+/// assert_eq!(NoReply::TooLarge.to_string(), "the request is longer than the session may send");
 /// ```
 #[derive(Clone, Copy, Debug, PartialEq, Eq, Hash)]
 #[non_exhaustive]
@@ -189,7 +190,7 @@ pub enum NoReply {
     NotConnected = 4,
     /// 65,536 paths of this side are watched.
     TooManyWatches = 5,
-    /// The payload would have more than 1,048,575 bytes.
+    /// The request would be longer than the session may send: 1,048,575 bytes, or as its options say.
     TooLarge = 6,
     /// 1,024 calls wait for their reply.
     TooManyPending = 7,
@@ -343,6 +344,7 @@ pub(crate) mod words {
             -11 => "the bytes are no texts, each after its length",
             -12 => "no operation that a caller may spell has the number",
             -13 => "the scheme and the secret have more than 1048555 bytes",
+            -14 => "a limit of payloads is below that of every session, or above 1073741823 bytes",
             _ => return None,
         })
     }
@@ -355,7 +357,7 @@ pub(crate) mod words {
             3 => "the session is closed",
             4 => "no server has accepted the session",
             5 => "65536 paths are watched",
-            6 => "the request has more than 1048575 bytes",
+            6 => "the request is longer than the session may send",
             7 => "1024 calls wait for their reply",
             _ => return None,
         })
@@ -422,7 +424,7 @@ pub(crate) mod advice {
             3 => "open another one",
             4 => "call again later",
             5 => "read without a watch, or in another session",
-            6 => "send less",
+            6 => "send less, or raise longest_request",
             7 => "call again when one was answered",
             _ => "",
         }

@@ -7,6 +7,7 @@ use crate::fault::Fault;
 use crate::hosts::{Hosts, HostsFault, Order};
 use crate::keeper::{Keeper, Shared};
 use crate::local::LocalSession;
+use crate::machine::Limits;
 use crate::outbox::Writer;
 use crate::retry::Retry;
 use crate::saved::SavedSession;
@@ -40,7 +41,7 @@ use std::time::Duration;
 pub enum OpenError {
     /// The text is no list of hosts.
     Hosts(HostsFault),
-    /// The library has not made a client: [`Fault::BadTimeout`], [`Fault::NotSaved`] or [`Fault::NoMemory`].
+    /// The library has not made a session: [`Fault::BadTimeout`], [`Fault::NoSuchLimits`], [`Fault::NotSaved`] or [`Fault::NoMemory`].
     Fault(Fault),
     /// The system has not made a thread.
     Thread(io::Error),
@@ -109,6 +110,7 @@ pub struct SessionOptions {
     renews: bool,
     pub(crate) retry: Retry,
     pub(crate) limit: Option<Duration>,
+    limits: Limits,
     saved: Option<SavedSession>,
     credentials: Vec<Credential>,
     dial: Box<dyn Dial>,
@@ -128,6 +130,7 @@ impl SessionOptions {
             renews: false,
             retry: Retry::never(),
             limit: None,
+            limits: Limits::default(),
             saved: None,
             credentials: Vec::new(),
             dial: Box::new(Tcp),
@@ -166,6 +169,20 @@ impl SessionOptions {
     /// says it of one call.
     pub fn limit(mut self, limit: Duration) -> SessionOptions {
         self.limit = Some(limit);
+        self
+    }
+
+    /// The most bytes of a frame that comes, after its length: 4,194,304 unless this says more, and at most 1,073,741,823. A longer one, as
+    /// the names of very many children, ends the connection. The servers' `jute.maxbuffer` says how long those are that they send.
+    pub fn longest_answer(mut self, bytes: usize) -> SessionOptions {
+        self.limits.longest_answer = bytes;
+        self
+    }
+
+    /// The most bytes of a frame that is sent, after its length: 1,048,575 unless this says more, and at most 1,073,741,823. A longer call
+    /// is answered [`TooLarge`](crate::NoReply::TooLarge). Servers take as many as their `jute.maxbuffer` says: raise both.
+    pub fn longest_request(mut self, bytes: usize) -> SessionOptions {
+        self.limits.longest_request = bytes;
         self
     }
 
@@ -272,6 +289,7 @@ impl SessionOptions {
     fn keeper(self, hosts: Hosts, writer: Writer) -> Result<Keeper, Fault> {
         let engine = Engine::new(Beginning {
             timeout: self.timeout,
+            limits: self.limits,
             hosts,
             order: self.order,
             saved: self.saved,
@@ -293,6 +311,7 @@ impl fmt::Debug for SessionOptions {
             .field("renews", &self.renews)
             .field("retry", &self.retry)
             .field("limit", &self.limit)
+            .field("limits", &self.limits)
             .field("saved", &self.saved)
             .finish_non_exhaustive()
     }

@@ -26,7 +26,7 @@
 //!
 //! What it has not: a disk, TLS, SASL, access control (ACLs are kept, and admit everybody), containers, persistent watches, and time: a
 //! session ends when it is closed or by [`Server::expire`], however long its client is silent. A transaction takes a zxid for each of its
-//! changes.
+//! changes. A frame that comes may have 4,194,304 bytes after its length, where servers by default take 1,048,575.
 
 #[cfg(not(dirwolleu_bench))]
 compile_error!("the feature `testing` wants libdirwolleu_bench.a beside libdirwolleu.a: run scripts/client_libraries");

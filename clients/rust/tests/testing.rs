@@ -87,6 +87,16 @@ fn what_the_tree_does_not_admit_says_why() {
 }
 
 #[test]
+fn a_node_is_longer_than_servers_take_by_default() {
+    let server = Server::start().unwrap();
+    let options = SessionOptions::new(TIMEOUT).longest_request(4 << 20);
+    let session = options.open(&*server.hosts()).unwrap();
+    let long = vec![7; 3 << 20];
+    session.create("/long", &long, Mode::Persistent).unwrap();
+    assert_eq!(now(&session, "/long"), long);
+}
+
+#[test]
 fn one_session_expires_and_the_others_stay() {
     let server = Server::start().unwrap();
     let (one, other) = (session_at(&server), session_at(&server));

@@ -5,6 +5,7 @@ use Rattle.std.specs.List.Sorted.{IsPermutation}
 use Rattle.std.specs.declared.alloc.Global.{Global}
 use Rattle.zk_conversation.specs.Calls.{Raw}
 use Rattle.zk_conversation.specs.declared.raw.RawOperation.{RawOperation}
+use Rattle.zk_frames.specs.declared.limits.FrameLimits.{FrameLimits}
 use Rattle.zk_turns.specs.Turns.{Start}
 use Rattle.zk_turns.specs.Rule.{forgotten}
 use Rattle.zk_turns.specs.View.{View, view_at}
@@ -103,6 +104,10 @@ pub record BeginsWith (view : View) (device : AgentDevice) : Type 0 where
   pub next : device.agent.trees.next ≡ 2 ^ 63
   pub goes_on : device.is_over ≡ false
   pub number : device.revision.number ≡ 1
+
+-- a session to begin with, whose payloads have these limits
+abbrev pub within : FrameLimits → Start → Start
+within limits start = record start { limits = limits }
 
 -- a device that has begun so, or a refusal for a reason that its number has
 abbrev pub Begins : (Refuses : ℤ → Type 0) → Start → Result AgentDevice DeviceRefusal → Type 0

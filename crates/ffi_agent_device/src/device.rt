@@ -14,13 +14,13 @@ ghost use Rattle.ffi_device.specs.Refused.{RefusesMemory, RefusesNothing, Refuse
 ghost use Rattle.ffi_device.specs.Sessions.{put_start};
 ghost use Rattle.ffi_agent_device.specs.Happenings.{happening, Addressed, Bytes, Cut, Failed, Moment, Opened};
 ghost use Rattle.zk_agent.specs.Agents.{NothingAt};
-ghost use Rattle.ffi_agent_device.specs.Steps.{Dials, Forgot, Begins, BeginsWith, Stepped, Steps, Stopped};
+ghost use Rattle.ffi_agent_device.specs.Steps.{Dials, Forgot, Begins, BeginsWith, Stepped, Steps, Stopped, within};
 
 use crate::revisions::{is_bytes, revise};
 use ffi_device::{Device, DeviceRefusal};
 use std::alloc::Global;
 use zk_agent::{Action, Agent, AgentInput, Settings};
-use zk_client::Client;
+use zk_client::{Client, FrameLimits};
 use zk_conclusions::Revision;
 
 /// An agent, what it said at its last step, how much of that was read, whether it goes on no further, since memory ran out within a step,
@@ -37,15 +37,16 @@ pub struct AgentDevice {
 }
 
 impl AgentDevice {
-    /// A session of no server yet, which asks for this timeout in milliseconds and has this many addresses. Their order and the pauses are
-    /// random by the seed. A refusal is `BadTimeout`, else `Memory`.
+    /// A session of no server yet, which asks for this timeout in milliseconds, has this many addresses, and payloads within these limits.
+    /// The order of addresses and the pauses are random by the seed. A refusal is `BadTimeout`, else `Memory`.
     pub fn open(
         alloc: Global,
         timeout_ms: i32,
         addresses: usize,
         seed: u64,
+        limits: FrameLimits,
     ) -> Result<AgentDevice, DeviceRefusal>
-        ensures begins { Begins (RefusesTimeout timeout_ms) (new_start (unsigned_abs timeout_ms)) result }
+        ensures begins { Begins (RefusesTimeout timeout_ms) (within limits (new_start (unsigned_abs timeout_ms))) result }
         ensures accepted { OnOk result (pos 0 <ℤ timeout_ms) }
         ensures dials { IfOk result (λ device. Dials addresses seed device.agent.dialler) }
         ensures timeout { IfOk result (λ device. device.agent.timeout_ms ≡ timeout_ms) }
@@ -58,7 +59,8 @@ impl AgentDevice {
             addresses,
             seed,
         };
-        AgentDevice::of(alloc, Client::new(alloc, timeout_ms), settings)
+        let client = Client::new(alloc, timeout_ms).with_limits(limits);
+        AgentDevice::of(alloc, client, settings)
     }
 
     /// The same, which takes up the session of these bytes first. A refusal is `BadTimeout`, else `NotSaved`, else `Memory`.
@@ -67,10 +69,11 @@ impl AgentDevice {
         timeout_ms: i32,
         addresses: usize,
         seed: u64,
+        limits: FrameLimits,
         saved: &[u8],
     ) -> Result<AgentDevice, DeviceRefusal>
         ensures begins { (put : PutAway) → bytes_read saved.now ≡ Ok put
-            → Begins (RefusesTimeout timeout_ms) (put_start timeout_ms put) result }
+            → Begins (RefusesTimeout timeout_ms) (within limits (put_start timeout_ms put)) result }
         ensures accepted { OnOk result (pos 0 <ℤ timeout_ms) }
         ensures dials { IfOk result (λ device. Dials addresses seed device.agent.dialler) }
         ensures timeout { IfOk result (λ device. device.agent.timeout_ms ≡ timeout_ms) }
@@ -89,7 +92,7 @@ impl AgentDevice {
             addresses,
             seed,
         };
-        AgentDevice::of(alloc, client, settings)
+        AgentDevice::of(alloc, client.with_limits(limits), settings)
     }
 
     // An agent of this client, which has said nothing yet. The one refusal is `Memory`.

@@ -3,6 +3,7 @@ use Rattle.std.proofs.Common.{◌≡◌, ℕ, zero, suc, ℤ, pos, negsuc, List,
 use Rattle.std.proofs.Common.{true≢false}
 use Rattle.std.proofs.lemmas.List.Elements.{All-nil}
 use Rattle.std.specs.Prelude.{Bool, true, false, Result, Ok, Err, IfSome, All, unsigned_abs}
+use Rattle.zk_frames.specs.declared.limits.FrameLimits.{FrameLimits}
 use Rattle.zk_turns.specs.Turns.{Start, new_start}
 use Rattle.zk_turns.specs.View.{View, view_at}
 use Rattle.zk_turns.specs.Rule.{Stands}
@@ -20,7 +21,7 @@ use Rattle.ffi_device.specs.declared.flat.Flat.{Flat}
 use Rattle.ffi_agent_device.specs.Happenings.{Happening}
 use Rattle.ffi_agent_device.specs.Taking.{AreFollowed}
 use Rattle.ffi_agent_device.specs.Steps as step
-use Rattle.ffi_agent_device.specs.Steps.{BeginsWith, Stepped}
+use Rattle.ffi_agent_device.specs.Steps.{BeginsWith, Stepped, within}
 use Rattle.ffi_agent_device.specs.declared.device.AgentDevice.{AgentDevice}
 use Rattle.ffi_c.specs.Held.{Holds}
 use Rattle.ffi_c.specs.Sessions.{Makes, Tells, TellsAll, ForgetsStale}
@@ -55,12 +56,13 @@ made Refuses start (pos zero) after makes session is on =
 made Refuses start (pos (suc n)) after makes session is on = empty_holds_none session after makes.1 is
 made Refuses start (negsuc n) after makes session is on = empty_holds_none session after makes.1 is
 
-resumed : (timeout : ℤ) (saved : List ℕ) (code : ℤ) (before after : Option AgentDevice) (read : Result PutAway SavedFault)
+resumed : (limits : FrameLimits) (timeout : ℤ) (saved : List ℕ) (code : ℤ) (before after : Option AgentDevice)
+    (read : Result PutAway SavedFault)
     → bytes_read saved ≡ read
-    → Does before (Resumes timeout saved code) after → Sound after
-resumed timeout saved code before after (Ok put) reads does session is on =
-    made (RefusesTimeout timeout) (put_start timeout put) code after (does.0 put reads) session is on
-resumed timeout saved code before after (Err fault) reads does session is on = empty_holds_none session after (does.1 fault reads) is
+    → Does before (Resumes limits timeout saved code) after → Sound after
+resumed limits timeout saved code before after (Ok put) reads does session is on =
+    made (RefusesTimeout timeout) (within limits (put_start timeout put)) code after (does.0 put reads) session is on
+resumed limits timeout saved code before after (Err fault) reads does session is on = empty_holds_none session after (does.1 fault reads) is
 
 stepped : (now : ℕ) (what : Happening) (old session : AgentDevice) → Sound (Some old) → Stepped now what old session → IsSound session
 stepped now what old session sound does =
@@ -129,8 +131,10 @@ forgets code (Some old) after sound does session is on =
     }
 
 one : (used_by : Use) (before after : Option AgentDevice) → Sound before → Does before used_by after → Sound after
-one (Opens timeout code) before after sound does = made (RefusesTimeout timeout) (new_start (unsigned_abs timeout)) code after does
-one (Resumes timeout saved code) before after sound does = resumed timeout saved code before after (bytes_read saved) refl does
+one (Opens limits timeout code) before after sound does =
+    made (RefusesTimeout timeout) (within limits (new_start (unsigned_abs timeout))) code after does
+one (Resumes limits timeout saved code) before after sound does =
+    resumed limits timeout saved code before after (bytes_read saved) refl does
 one (Steps now what code) before after sound does = steps now what code before after sound does
 one (Reads room told code) before after sound does = reads room told code before after sound does
 one (ReadsAll room written count code) before after sound does = reads_all room written count code before after sound does

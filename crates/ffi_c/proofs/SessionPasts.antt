@@ -8,6 +8,7 @@ use Rattle.std.proofs.lemmas.List.Elements.{filter-append}
 use Rattle.std.specs.Prelude.{◌==◌, Result, Ok, Err, IfSome, fold, reverse, slice_index_or, unsigned_abs}
 use Rattle.std.specs.List.{flat_map, list_any, AllByRecursion, FoldsTo}
 use Rattle.std.specs.declared.alloc.Global.{Global}
+use Rattle.zk_frames.specs.declared.limits.FrameLimits.{FrameLimits}
 use Rattle.zk_turns.specs.Turns.{Start, Item, Turned, Turn, Halts, Input, Now, Output, Send, Answer, Report, Enters, Drop, new_start}
 use Rattle.zk_turns.specs.Turns as turns
 use Rattle.zk_turns.specs.View.{View, view_at}
@@ -47,7 +48,7 @@ use Rattle.ffi_device.specs.Refused.{RefusesTimeout}
 use Rattle.ffi_device.specs.Sessions.{put_start}
 use Rattle.ffi_device.specs.declared.flat.Flat.{Flat}
 use Rattle.ffi_agent_device.specs.Happenings.{Happening, happening}
-use Rattle.ffi_agent_device.specs.Steps.{BeginsWith, Stepped, Stopped}
+use Rattle.ffi_agent_device.specs.Steps.{BeginsWith, Stepped, Stopped, within}
 use Rattle.ffi_agent_device.specs.declared.device.AgentDevice.{AgentDevice}
 use Rattle.ffi_c.specs.Held.{Holds}
 use Rattle.ffi_c.specs.Sessions.{Makes, Tells, TellsAll, ForgetsStale}
@@ -442,13 +443,14 @@ made Refuses start Earlier earlier (pos zero) after makes session is =
 made Refuses start Earlier earlier (pos (suc n)) after makes session is = empty_holds_none session after makes.1 is
 made Refuses start Earlier earlier (negsuc n) after makes session is = empty_holds_none session after makes.1 is
 
-resumed : (timeout : ℤ) (saved : List ℕ) (code : ℤ) (before after : Option AgentDevice) (Earlier : Chapter → Type 0)
-    (read : Result PutAway SavedFault) → bytes_read saved ≡ read → Uses_so before (Resumes timeout saved code) after
-    → PastIn (CameBy (Resumes timeout saved code) before after Earlier) [] (λ ticket. 0) (λ ticket. 0) after
-resumed timeout saved code before after Earlier (Ok put) reads does session is =
-    made (RefusesTimeout timeout) (put_start timeout put) (CameBy (Resumes timeout saved code) before after Earlier) (put, reads, refl) code
+resumed : (limits : FrameLimits) (timeout : ℤ) (saved : List ℕ) (code : ℤ) (before after : Option AgentDevice) (Earlier : Chapter → Type 0)
+    (read : Result PutAway SavedFault) → bytes_read saved ≡ read → Uses_so before (Resumes limits timeout saved code) after
+    → PastIn (CameBy (Resumes limits timeout saved code) before after Earlier) [] (λ ticket. 0) (λ ticket. 0) after
+resumed limits timeout saved code before after Earlier (Ok put) reads does session is =
+    made (RefusesTimeout timeout) (within limits (put_start timeout put)) (CameBy (Resumes limits timeout saved code) before after Earlier)
+    (put, reads, refl) code
     after (does.0 put reads) session is
-resumed timeout saved code before after Earlier (Err fault) reads does session is =
+resumed limits timeout saved code before after Earlier (Err fault) reads does session is =
     empty_holds_none session after (does.1 fault reads) is
 
 asked_so : (ticket moment : ℕ) (given : AgentInput Global) (n : ℕ)
@@ -610,11 +612,12 @@ module _ (Earlier : Chapter → Type 0) (reports : List Output) (settled asked :
       }
 
   one : (used : Use) (before after : Option AgentDevice) → WasIn before → Uses_so before used after → IsThen used before after
-  one (Opens timeout code) before after past does =
-      made (RefusesTimeout timeout) (new_start (unsigned_abs timeout)) (CameBy (Opens timeout code) before after Earlier) refl code after
+  one (Opens limits timeout code) before after past does =
+      made (RefusesTimeout timeout) (within limits (new_start (unsigned_abs timeout)))
+      (CameBy (Opens limits timeout code) before after Earlier) refl code after
       does
-  one (Resumes timeout saved code) before after past does =
-      resumed timeout saved code before after Earlier (bytes_read saved) refl does
+  one (Resumes limits timeout saved code) before after past does =
+      resumed limits timeout saved code before after Earlier (bytes_read saved) refl does
   one (Steps moment what code) before after past does = steps moment what code before after past does
   one (Reads room told code) before after past does = reads room told code before after past does
   one (ReadsAll room written count code) before after past does = reads_all room written count code before after past does

@@ -1,6 +1,7 @@
 -- The whole life of a session's handle: the functions that were called on it, with the numbers that they answered, and how its session
 -- stands.
 use Rattle.std.specs.Prelude.{◌≡◌, ⊤, ℕ, ℤ, false, List, [], ◌∷◌, Option, Some, None, Ok, Err, All, unsigned_abs}
+use Rattle.zk_frames.specs.declared.limits.FrameLimits.{FrameLimits}
 use Rattle.zk_turns.specs.Turns.{new_start}
 use Rattle.zk_client.specs.Clients.{view_of}
 use Rattle.zk_client.specs.SavedSessions.{PutAway, bytes_read}
@@ -14,6 +15,7 @@ use Rattle.ffi_agent_device.specs.Credentials.{RefusesCredential}
 use Rattle.ffi_agent_device.specs.Happenings as happens
 use Rattle.ffi_agent_device.specs.Happenings.{Happening}
 use Rattle.ffi_agent_device.specs.Steps as step
+use Rattle.ffi_agent_device.specs.Steps.{within}
 use Rattle.ffi_agent_device.specs.Taking.{AreFollowed}
 use Rattle.ffi_agent_device.specs.declared.device.AgentDevice.{AgentDevice}
 use Rattle.ffi_c.specs.Held.{Holds, IsClosed}
@@ -22,10 +24,11 @@ use Rattle.ffi_c.specs.Sessions.{Makes, Tells, TellsAll, ForgetsStale}
 
 -- A function that was called on a handle, with what was handed in, and the number that it answered. `Steps` is that of each input, call,
 -- subject and tree, `Reads` that of dw_session_next, `ReadsAll` that of dw_session_outputs, `Forgets` that of dw_session_forget; `Looks` is
--- that of those that leave the handle as it is, and of dw_session_raw with a number that no operation has which a caller may spell.
+-- that of those that leave the handle as it is, and of dw_session_raw with a number that no operation has which a caller may spell; `Frees`
+-- is also that of dw_session_open_with_limits with limits that no session may have.
 pub data Use : Type 0 where
-  Opens : (timeout code : ℤ) → Use
-  Resumes : (timeout : ℤ) → (saved : List ℕ) → (code : ℤ) → Use
+  Opens : FrameLimits → (timeout code : ℤ) → Use
+  Resumes : FrameLimits → (timeout : ℤ) → (saved : List ℕ) → (code : ℤ) → Use
   Steps : (now : ℕ) → Happening → (code : ℤ) → Use
   Reads : (room told : Flat) → (code : ℤ) → Use
   ReadsAll : (room written : List ℕ) → (count : ℕ) → (code : ℤ) → Use
@@ -49,9 +52,9 @@ Drives Does (Some session) code after = Holds after (Does session code)
 
 -- what each function promises of its handle
 abbrev pub Does : (before : Option AgentDevice) → Use → (after : Option AgentDevice) → Type 0
-Does before (Opens timeout code) after = Makes (RefusesTimeout timeout) (new_start (unsigned_abs timeout)) code after
-Does before (Resumes timeout saved code) after =
-    ((put : PutAway) → bytes_read saved ≡ Ok put → Makes (RefusesTimeout timeout) (put_start timeout put) code after)
+Does before (Opens limits timeout code) after = Makes (RefusesTimeout timeout) (within limits (new_start (unsigned_abs timeout))) code after
+Does before (Resumes limits timeout saved code) after =
+    ((put : PutAway) → bytes_read saved ≡ Ok put → Makes (RefusesTimeout timeout) (within limits (put_start timeout put)) code after)
     × ((fault : SavedFault) → bytes_read saved ≡ Err fault → after ≡ None)
 Does before (Steps now what code) after = Drives (step.Steps (RefusesHappening what) now what) before code after
 Does before (Reads room told code) after = Drives (λ session code. Tells session room code told) before code after

@@ -27,6 +27,7 @@ use Rattle.zk_agent.specs.Telling.{Told, Says, Begins, told_by}
 use Rattle.ffi_device.specs.Sessions.{put_start}
 use Rattle.ffi_agent_device.specs.Happenings as happens
 use Rattle.ffi_agent_device.specs.Happenings.{Happening, happening}
+use Rattle.ffi_agent_device.specs.Steps.{within}
 use Rattle.ffi_agent_device.specs.declared.device.AgentDevice.{AgentDevice}
 use Rattle.ffi_c.specs.SessionLives.{Forgets, Frees, IsLife, Opens, Resumes, Steps, Use, Used, held_after}
 
@@ -111,9 +112,10 @@ CameOn Goes_on before after Earlier new =
 
 -- what the client of a handle is in, by the last use and by the earlier ones
 abbrev pub CameBy : Use → (before after : Option AgentDevice) → (Earlier : Chapter → Type 0) → Chapter → Type 0
-CameBy (Opens timeout code) before after Earlier new = new ≡ record { start = new_start (unsigned_abs timeout); items = [] }
-CameBy (Resumes timeout saved code) before after Earlier new =
-    (put : PutAway) × (bytes_read saved ≡ Ok put) × (new ≡ record { start = put_start timeout put; items = [] })
+CameBy (Opens limits timeout code) before after Earlier new =
+    new ≡ record { start = within limits (new_start (unsigned_abs timeout)); items = [] }
+CameBy (Resumes limits timeout saved code) before after Earlier new =
+    (put : PutAway) × (bytes_read saved ≡ Ok put) × (new ≡ record { start = within limits (put_start timeout put); items = [] })
 CameBy (Steps moment what (pos zero)) before after Earlier new = CameOn (Goes moment what) before after Earlier new
 CameBy (Steps moment what (negsuc zero)) before after Earlier new =
     CameOn (λ was is. Breaks was.agent.timeout_ms) before after Earlier new
@@ -135,8 +137,8 @@ reported before Begins = []
 reported before told = before
 
 abbrev pub reported_by : Use → (after : Option AgentDevice) → List Output → List Output
-reported_by (Opens timeout code) after before = []
-reported_by (Resumes timeout saved code) after before = []
+reported_by (Opens limits timeout code) after before = []
+reported_by (Resumes limits timeout saved code) after before = []
 reported_by (Steps moment what (pos zero)) (Some session) before = fold reported before (told_by session.said.items)
 reported_by used after before = before
 
@@ -151,8 +153,8 @@ asked_in ticket what before = before
 
 -- how many calls of a ticket were asked since the handle was opened, and how many answers and ends of them were told
 abbrev pub asked_by : (ticket : ℕ) → Use → ℕ → ℕ
-asked_by ticket (Opens timeout code) before = 0
-asked_by ticket (Resumes timeout saved code) before = 0
+asked_by ticket (Opens limits timeout code) before = 0
+asked_by ticket (Resumes limits timeout saved code) before = 0
 asked_by ticket (Steps moment what (pos zero)) before = asked_in ticket what before
 asked_by ticket used before = before
 
@@ -161,8 +163,8 @@ how_many_asked ticket [] = 0
 how_many_asked ticket (used ∷ earlier) = asked_by ticket used.use_of (how_many_asked ticket earlier)
 
 abbrev pub settled_by : (ticket : ℕ) → Use → (after : Option AgentDevice) → ℕ → ℕ
-settled_by ticket (Opens timeout code) after before = 0
-settled_by ticket (Resumes timeout saved code) after before = 0
+settled_by ticket (Opens limits timeout code) after before = 0
+settled_by ticket (Resumes limits timeout saved code) after before = 0
 settled_by ticket (Steps moment what (pos zero)) (Some session) before = how_many_ended ticket (told_by session.said.items) + before
 settled_by ticket used after before = before
 

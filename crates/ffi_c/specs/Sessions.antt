@@ -1,12 +1,13 @@
 -- What the handle of a session holds after a call, and what is told of it.
 use Rattle.std.specs.Prelude.{◌≡◌, ◌<◌, ◌^◌, ℕ, zero, suc, ℤ, pos, List, [], Option, Some, None}
+use Rattle.zk_frames.specs.declared.limits.FrameLimits.{FrameLimits}
 use Rattle.zk_turns.specs.Turns.{Start}
 use Rattle.zk_turns.specs.View.{view_at}
 use Rattle.zk_agent.specs.Agents.{NothingAt}
 use Rattle.ffi_agent_device.specs.declared.device.AgentDevice.{AgentDevice}
 use Rattle.ffi_agent_device.specs.AtOnce.{WritesOutputs}
 use Rattle.ffi_agent_device.specs.Outputs.{next_of}
-use Rattle.ffi_agent_device.specs.Steps.{BeginsWith, Forgot}
+use Rattle.ffi_agent_device.specs.Steps.{BeginsWith, Forgot, within}
 use Rattle.ffi_device.specs.Outputs.{read_after}
 use Rattle.ffi_device.specs.Refused.{RefusesMemory}
 use Rattle.ffi_device.specs.declared.flat.Flat.{Flat}
@@ -17,6 +18,11 @@ use Rattle.ffi_c.specs.Held.{Holds, TellsOf}
 abbrev pub Makes : (Refuses : ℤ → Type 0) → Start → ℤ → Option AgentDevice → Type 0
 Makes Refuses start (pos zero) held = Holds held (BeginsWith (view_at start []))
 Makes Refuses start code held = Refuses code × (held ≡ None)
+
+-- The same with payloads within these limits.
+abbrev pub MakesWithin : (incoming outgoing : ℕ) → (Refuses : ℤ → Type 0) → Start → ℤ → Option AgentDevice → Type 0
+MakesWithin incoming outgoing Refuses start code held =
+    (limits : FrameLimits) → limits.incoming ≡ incoming → limits.outgoing ≡ outgoing → Makes Refuses (within limits start) code held
 
 -- The next action is told. Nothing else changes than that one more was read.
 pub record Tells (before : AgentDevice) (room : Flat) (code : ℤ) (told : Flat) (after : AgentDevice) : Type 0 where

@@ -3,6 +3,7 @@ use Rattle.std.specs.Prelude.{◌≡◌, ◌<◌, ◌^◌, ℕ, zero, suc, ℤ, 
 use Rattle.zk_session.specs.SessionView.{Saved}
 use Rattle.zk_session.specs.declared.states.State.{State}
 use Rattle.zk_session.specs.declared.states.State.TheVariants.{Idle, Connecting, Connected, Expired, Closed}
+use Rattle.zk_frames.specs.Limits.{standard_limits}
 use Rattle.zk_turns.specs.Turns.{Start}
 use Rattle.zk_turns.specs.Taken.{NothingIsDue}
 use Rattle.zk_turns.specs.View.{View}
@@ -31,7 +32,13 @@ put_of kept = record { session = kept.session.session; password = kept.session.p
 
 -- what a client begins with that takes it up
 abbrev pub put_start : (timeout : ℤ) → PutAway → Start
-put_start timeout put = record { timeout = unsigned_abs timeout; session = put.session; password = put.password; last = put.last }
+put_start timeout put = record {
+  timeout = unsigned_abs timeout;
+  session = put.session;
+  password = put.password;
+  last = put.last;
+  limits = standard_limits;
+}
 
 -- the number of a state
 abbrev pub state_number : State → ℕ

@@ -34,6 +34,8 @@ pub enum DeviceRefusal {
     NoSuchOperation,
     /// The payload that introduces a session by this credential has more bytes than a server takes.
     CredentialTooLarge,
+    /// No session may have these limits of payloads.
+    NoSuchLimits,
 }
 
 impl DeviceRefusal {
@@ -54,6 +56,7 @@ impl DeviceRefusal {
             DeviceRefusal::NotTexts => -11,
             DeviceRefusal::NoSuchOperation => -12,
             DeviceRefusal::CredentialTooLarge => -13,
+            DeviceRefusal::NoSuchLimits => -14,
         }
     }
 }

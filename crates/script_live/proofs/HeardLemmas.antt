@@ -183,6 +183,12 @@ pub halts_ended : (old between new : Tape) (stop : LineStop)
     → Brings old between → IfHalted (Halts between Cut new) stop → IfHalted (HaltsBrought old new) stop
 halts_ended old between new stop brings halts = halts_behind old between new stop brings (halts_cut between new stop halts)
 
+-- a halt at the end, after an input
+pub halts_second : (old between new : Tape) (input : Input) (stop : LineStop) → Hears old input between
+    → IfHalted (Halts between Cut new) stop → IfHalted (HaltsAmong old (input ∷ Cut ∷ []) new) stop
+halts_second old between new input stop hears =
+    if_halted (Halts between Cut new) (HaltsAmong old (input ∷ Cut ∷ []) new) stop (λ halts. inr (between, hears, inl halts))
+
 awaiting_first : (old new : Tape) (input : Input) → HaltsAmong old (input ∷ Cut ∷ []) new → HaltsAwaiting old input new
 awaiting_first old new input halts = record { inputs = Cut ∷ []; brought = (tt, tt); halts = halts }
 

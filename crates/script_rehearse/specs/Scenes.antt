@@ -9,6 +9,7 @@ use Rattle.zk_nodes.specs.Names.{Names as Texts}
 use Rattle.zk_conversation.specs.Calls as call
 use Rattle.zk_laws.specs.Messages.{Request}
 use Rattle.theory_serving.specs.Wires.{IsFor, StandsFirst}
+use Rattle.zk_frames.specs.Limits.{standard_limits}
 use Rattle.zk_turns.specs.Ranges.{IsResumable}
 use Rattle.zk_turns.specs.Turns.{Input, Opened, Bytes, Cut, Now, Call, Output, Start, new_start}
 use Rattle.zk_turns.specs.View.{View, view_at}
@@ -110,6 +111,7 @@ taken_up timeout view = record {
   session = view.saved.session.session;
   password = view.saved.session.password;
   last = view.saved.last;
+  limits = standard_limits;
 }
 
 -- another client, and no server connected

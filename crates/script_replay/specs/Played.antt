@@ -2,6 +2,7 @@
 use Rattle.std.specs.Prelude.{◌≡◌, unsigned_abs, is_some, ℕ, List, [], Option, Some, None, Ok, Err}
 use Rattle.zk_nodes.specs.Path.{Text}
 use Rattle.zk_nodes.specs.declared.side.Side.TheVariants.{Data, Child}
+use Rattle.zk_frames.specs.Limits.{standard_limits}
 use Rattle.zk_turns.specs.Turns.{Input, Opened, Bytes, Cut, Now, Call, Output, Start, new_start}
 use Rattle.zk_turns.specs.View.{View, view_at}
 use Rattle.zk_turns.specs.Rule.{Rule, HaltsAs, forgotten}
@@ -18,7 +19,7 @@ use Rattle.script_replay.specs.Shown.{TellsAll, TellsKept, kept_line, last_line,
 abbrev pub start_of : BeginValue → Start
 start_of (TimeoutLine timeout) = new_start (unsigned_abs timeout)
 start_of (ResumeLine timeout session password last) =
-    record { timeout = unsigned_abs timeout; session = session; password = password; last = last }
+    record { timeout = unsigned_abs timeout; session = session; password = password; last = last; limits = standard_limits }
 
 -- A client takes an input by the rule, and the text is its outputs.
 pub record TakesTurn (input : Input) (old new : View) (text : List ℕ) : Type 0 where

@@ -6,6 +6,7 @@ use Rattle.zk_frames.specs.declared.fault.FrameFault.{FrameFault}
 use Rattle.zk_frames.specs.FaultText.{frame_fault_words}
 use Rattle.zk_frames.specs.Frame.{IsUnfinished, joined}
 use Rattle.zk_frames.specs.Stream.{StandsNext}
+use Rattle.zk_limits.specs.declared.limits.TheConstants.{LONGEST_INCOMING}
 use Rattle.zk_records.specs.declared.request_header.RequestHeader.{RequestHeader}
 use Rattle.script_stream.specs.declared.way.Way.{Way}
 use Rattle.script_stream.specs.declared.way.Way.TheVariants.{Client, Server}
@@ -43,9 +44,10 @@ fault_line way place fault = place_words way place ++ (named (codes "fault") (fr
 
 -- What stands after the frames is the beginning of one, or a length that is none, which is told.
 abbrev pub EndsBy : Option FrameFault → Way → Telling → (rest held : List ℕ) → Telling → Type 0
-EndsBy None way after rest held new = IsUnfinished rest × (held ≡ rest) × (new ≡ after)
+EndsBy None way after rest held new = IsUnfinished LONGEST_INCOMING rest × (held ≡ rest) × (new ≡ after)
 EndsBy (Some fault) way after rest held new =
-    StandsNext fault rest × (held ≡ []) × (new ≡ telling after.place after.asked (after.told ++ fault_line way after.place fault))
+    StandsNext LONGEST_INCOMING fault rest × (held ≡ [])
+    × (new ≡ telling after.place after.asked (after.told ++ fault_line way after.place fault))
 
 -- Each whole frame of the bytes is told, in order. The fault is that of a length after them, and then nothing is held any more.
 pub record TellsAll (way : Way) (bytes : List ℕ) (old : Telling) (held : List ℕ) (fault : Option FrameFault) (new : Telling) : Type 0 where

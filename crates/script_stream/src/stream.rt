@@ -21,6 +21,7 @@ use script_words::script_fault::ScriptFault;
 use script_words::stop::LineStop;
 use std::alloc::{AllocError, Allocator};
 use zk_frames::{FrameFault, FrameReader};
+use zk_limits::LONGEST_INCOMING;
 use zk_records::RequestHeader;
 
 /// What came in one direction: how many bytes, and how many of them were whole frames.
@@ -110,7 +111,7 @@ fn tell_frames<A: Allocator + Copy>(
 {
     let mut place = from;
     'frames: loop {
-        match reader.next_frame() {
+        match reader.next_frame(LONGEST_INCOMING) {
             Ok(Some(payload)) => place = tell_frame(text, alloc, way, place, asked, payload)?,
             Ok(None) => return Ok(place),
             Err(fault) => {

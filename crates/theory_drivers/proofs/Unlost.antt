@@ -3,7 +3,7 @@ use Rattle.std.proofs.Common.{◌≡◌, ◌++◌, ◌∙◌, ℕ, pos, Bool, tr
 use Rattle.std.specs.Prelude.{⊤, max, nat_le, nat_lt}
 use Rattle.std.specs.List.{flat_map, list_any, AllByRecursion}
 use Rattle.std.proofs.lemmas.List.Folds.{list_any-append}
-use Rattle.zk_limits.specs.declared.limits.TheConstants.{LONGEST_OUTGOING, MOST_PENDING}
+use Rattle.zk_limits.specs.declared.limits.TheConstants.{MOST_PENDING}
 use Rattle.zk_session.specs.declared.states.State.{State}
 use Rattle.zk_session.specs.declared.states.State.TheVariants.{Idle, Connecting, Connected, Expired, Closed}
 use Rattle.zk_conversation.specs.Calls.{Call, call_payload}
@@ -31,13 +31,13 @@ OfWhy (Some why) = IsOwn why
 
 of_connected : (view : View) (call : Call) → OfWhy (refusal_when_connected view call)
 of_connected view call =
-    let large : Option Outcome = cond (nat_lt LONGEST_OUTGOING (length (call_payload (pos view.xid) call))) (Some TooLarge) None in
+    let large : Option Outcome = cond (nat_lt view.limits.outgoing (length (call_payload (pos view.xid) call))) (Some TooLarge) None in
     let watches : Option Outcome = cond (is_full_on view (watched_side (question_of call))) (Some TooManyWatches) large in
     let pending : Option Outcome = cond (nat_le MOST_PENDING (calls_pending view.pending)) (Some TooManyPending) watches in
     by_cond OfWhy (is_close_pending view.pending) (Some SessionClosed) pending tt
     (by_cond OfWhy (nat_le MOST_PENDING (calls_pending view.pending)) (Some TooManyPending) watches tt
     (by_cond OfWhy (is_full_on view (watched_side (question_of call))) (Some TooManyWatches) large tt
-    (by_cond OfWhy (nat_lt LONGEST_OUTGOING (length (call_payload (pos view.xid) call))) (Some TooLarge) None tt tt)))
+    (by_cond OfWhy (nat_lt view.limits.outgoing (length (call_payload (pos view.xid) call))) (Some TooLarge) None tt tt)))
 
 of_refusal : (view : View) (call : Call) → OfWhy (refusal view call)
 of_refusal view call = by view.standing.state

@@ -19,7 +19,7 @@ use Rattle.zk_conversation.specs.declared.fault.TalkFault.TheVariants.{OtherXid}
 use Rattle.zk_conversation.specs.Results.{Result, Refused, NoNode, result_of, record_of}
 use Rattle.zk_frames.specs.Frame.{frame}
 use Rattle.zk_frames.specs.declared.fault.FrameFault.TheVariants.{TooLong}
-use Rattle.zk_limits.specs.declared.limits.TheConstants.{LONGEST_INCOMING}
+use Rattle.zk_laws.specs.Headline.{IsTooLongFor}
 use Rattle.zk_session.specs.declared.states.State.TheVariants.{Connected}
 use Rattle.zk_turns.specs.Turns.{Framed, Talked, Silent, Behind, WatchesRefused, Fault, Start}
 use Rattle.zk_turns.specs.Past.{Asking, For_part, For_call, awaited, Past, Dropped, is_talking, state_of, held_of, answered, questions}
@@ -68,9 +68,9 @@ spelt_by xid (Replies q z (Refused code)) p s = inl s
 spelt_by xid _ p s = s
 
 -- Why a connection was given up.
-abbrev pub IsDue : (List ℕ → Type 0) → Fault → Type 0
-IsDue Was fault =
-    (fault ≡ Silent) ⊎ ((fault ≡ Framed TooLong) × ((payload : List ℕ) × Was payload × (LONGEST_INCOMING < length payload)))
+abbrev pub IsDue : Start → (List ℕ → Type 0) → Fault → Type 0
+IsDue start Was fault =
+    (fault ≡ Silent) ⊎ ((fault ≡ Framed TooLong) × ((payload : List ℕ) × Was payload × IsTooLongFor start.limits payload))
     ⊎ ((code : ℤ) × (fault ≡ WatchesRefused code) × (code ≢ pos 0))
 
 -- the reply is not below what was seen last, unless it refuses with the zxid 0 or one below
@@ -140,7 +140,7 @@ module _ (P : Text → Type 0) (h : History) where
     -- what was dropped and answered so far had its reason
     abbrev pub IsCalmAt : Past → Type 0
     IsCalmAt [] = Unit {0}
-    IsCalmAt (Dropped fault ∷ past) = IsDue Was fault × IsCalmAt past
+    IsCalmAt (Dropped fault ∷ past) = IsDue start Was fault × IsCalmAt past
     IsCalmAt (Takes_in (Answers_call ticket question zxid result) ∷ past) = IsAnswered ticket question zxid result past × IsCalmAt past
     IsCalmAt (_ ∷ past) = IsCalmAt past
 

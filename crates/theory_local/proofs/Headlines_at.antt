@@ -264,7 +264,7 @@ module _ (P : Text → Type 0) (h : History) (is : IsHistory h) (start : Start) 
       more c = (c.0, inr c.1, c.2, c.3)
 
   drop_at : (Was : List ℕ → Type 0) (past : Past) → IsCalmAt P h start Was past → (fault : Fault)
-      → Among (Dropped fault) past → IsDue Was fault
+      → Among (Dropped fault) past → IsDue start Was fault
   drop_at Was [] c fault a = absurd a
   drop_at Was (x ∷ past) c fault (inl e) = (subst (λ y. IsCalmAt P h start Was (y ∷ past)) (sym e) c).0
   drop_at Was (x ∷ past) c fault (inr a) = drop_at Was past (calm_rest Was x past c) fault a

@@ -11,7 +11,8 @@ use Rattle.zk_turns.specs.Past.{Pinged, Ticked, is_talking, state_of, has_halted
 use Rattle.zk_turns.specs.Past.{Lost as Loses_it, Accepted as Accepts, Expiry, Replies as Answers_call}
 use Rattle.zk_watches.specs.Lists.{Lists}
 use Rattle.zk_watches.specs.Parts.{parts}
-use Rattle.std.proofs.Common.{◌≡◌, ℕ, zero, suc, ◌≤◌, ℤ, pos, Bool, true, false, cond, ◌&&◌, List, [], ◌∷◌, ◌++◌, map, drop, length, refl}
+use Rattle.std.proofs.Common.{◌≡◌, ℕ, zero, suc, ◌≤◌, ◌<◌, ℤ, pos, Bool, true, false, cond, ◌&&◌, List, [], ◌∷◌, ◌++◌, map, drop, length}
+use Rattle.std.proofs.Common.{refl}
 use Rattle.std.proofs.Common.{sym, ap, subst, ◌∙◌, arith, inl, inr, ◌⊎◌, Option, Some, None, append_assoc}
 use Rattle.std.specs.Prelude.{⊤, nat_lt, nat_le, is_some, if◌then◌else◌, not, ◌*◌, ◌-◌, max}
 use Rattle.std.specs.List.{AllByRecursion}
@@ -20,7 +21,8 @@ use Rattle.zk_session.specs.declared.states.State.{State}
 use Rattle.zk_session.specs.declared.states.State.TheVariants.{Idle, Connecting, Connected, Expired, Closed}
 use Rattle.zk_session.specs.SessionView.{Welcome}
 use Rattle.zk_turns.specs.View.{View, view_at}
-use Rattle.zk_turns.specs.Taken.{reading, cut, Cutting, Unfinished, Bad, Payload, of_cutting, happenings, joined, past_after, opens}
+use Rattle.zk_turns.specs.Taken.{reading, cut, longest, Cutting, Unfinished, Bad, Payload, of_cutting, happenings, joined, past_after}
+use Rattle.zk_turns.specs.Taken.{opens}
 use Rattle.zk_turns.specs.Taken.{if_open, due, timeout_of, refusal, comes}
 use Rattle.zk_turns.specs.Rule.{IsOpen}
 use Rattle.zk_turns.proofs.Stepped.{Counted, talks_in}
@@ -36,6 +38,8 @@ use Rattle.zk_laws.specs.ServerSteps.{Stage, Waiting, Serving, Ended}
 use Rattle.zk_laws.proofs.Seen.{seen, item_of}
 use Rattle.zk_laws.specs.Served.{MayEnter, Goes_on, Sent, requests, part_requests, unread, Wire, new_wire, no_wire, is_going, IsPayload}
 use Rattle.zk_laws.specs.Served.{wire_past}
+use Rattle.zk_laws.specs.Headline.{IsTooLongFor}
+use Rattle.zk_records.specs.Response.{Response, IsPayload as IsResponse}
 use Rattle.zk_laws.proofs.Matching.{Letter, frames, messages, answers, AreLater, Owes}
 use Rattle.zk_laws.proofs.Seeing.{last_is}
 use Rattle.zk_laws.proofs.Ordering.{are_parts}
@@ -322,19 +326,20 @@ module _ (P : Text → Type 0) (h : History) (start : Start) (Was : List ℕ →
   state_read past wire l ls tail Expired e o g calm counted coming = absurd cc
   state_read past wire l ls tail Closed e o g calm counted coming = absurd cc
 
+  -- nothing comes behind no letter before the acceptance is taken
+  none_first : (past : Past) (wire : Wire) (stage : Stage) → stage ≡ Ended
+      → IsOpeningAt P h (seen start past) (map (λ s. s.request) (unread start past wire)) [] wire.server.place stage → ⊥
+  none_first past wire Waiting e o = cc
+  none_first past wire Serving e o = cc
+  none_first past wire Ended e o = let f = o.1 in cc
+
   -- the reply with an error is taken
   failure_read : (past : Past) (wire : Wire) (p rest : List ℕ) (st : State)
       → state_of past ≡ st → is_open st ≡ true → Stands_at P h start Was past wire → IsFlow P h start Was past wire [] (Failure p rest)
       → Stands_at P h start Was (reading (state_of past) (pending_of past) (last_of start past) p ∷ past) wire
   failure_read past wire p rest Connecting e o s g =
       let t = starting_of past wire [] (Failure p rest) e g in
-      absurd (none_first wire.server.stage g.ended.3 t.opening)
-    where
-      none_first : (stage : Stage)
-          → stage ≡ Ended → IsOpeningAt P h (seen start past) (map (λ s. s.request) (unread start past wire)) [] wire.server.place stage → ⊥
-      none_first Waiting e o = cc
-      none_first Serving e o = cc
-      none_first Ended e o = let f = o.1 in cc
+      absurd (none_first past wire wire.server.stage g.ended.3 t.opening)
   failure_read past wire p rest Connected e o s g =
       let f = g.ended in
       let first : awaited past ≡ For_part f.4 ∷ f.5 = g.pending ∙ f.6 in
@@ -355,37 +360,81 @@ module _ (P : Text → Type 0) (h : History) (start : Start) (Was : List ℕ →
   first_bytes past wire l ls tail g = g.bytes ∙ append_assoc (frame l.payload) (frames ls) (tail_bytes tail)
 
   payload_read : (past : Past) (wire : Wire) (p : List ℕ) (on : is_going past ≡ true) (s : Stands_at P h start Was past wire)
-      (letters : List Letter) (tail : Tail) → IsFlow P h start Was past wire letters tail → cut (held_of past) ≡ Payload p
+      (letters : List Letter) (tail : Tail) → IsFlow P h start Was past wire letters tail
+      → cut (longest start.limits (state_of past)) (held_of past) ≡ Payload p
       → Stands_at P h start Was (reading (state_of past) (pending_of past) (last_of start past) p ∷ past) wire
-  payload_read past wire p on s [] Nothing_more g c = absurd (let f = none_cut (held_of past) wire.coming (Payload p) g.bytes c in cc)
+  payload_read past wire p on s [] Nothing_more g c =
+      absurd (let f = none_cut (longest start.limits (state_of past)) (held_of past) wire.coming (Payload p) g.bytes c in cc)
   payload_read past wire p on s [] (Failure payload rest) g c =
-      let t = taken_first (held_of past) wire.coming payload rest p g.ended.1 g.bytes c in
+      let t = taken_first (longest start.limits (state_of past)) (held_of past) wire.coming payload rest p g.ended.1 g.bytes c in
       subst (λ b. Stands_at P h start Was (reading (state_of past) (pending_of past) (last_of start past) b ∷ past) wire) (sym t.0)
       (failure_read past wire payload rest (state_of past) refl (and_two (is_open (state_of past)) (not (has_halted past)) on).0 s g)
   payload_read past wire p on s (l ∷ ls) tail g c =
-      let t = taken_first (held_of past) wire.coming l.payload (frames ls ++ tail_bytes tail) p g.are.0.short
+      let t = taken_first (longest start.limits (state_of past)) (held_of past) wire.coming l.payload (frames ls ++ tail_bytes tail) p
+      g.are.0.short
       (first_bytes past wire l ls tail g) c in
       subst (λ b. Stands_at P h start Was (reading (state_of past) (pending_of past) (last_of start past) b ∷ past) wire) (sym t.0)
       (state_read past wire l ls tail (state_of past) refl
       (and_two (is_open (state_of past)) (not (has_halted past)) on).0 g s.calm s.counted t.1)
 
-  bad_read : (past : Past) (wire : Wire) (fault : FrameFault) (s : Stands_at P h start Was past wire) (letters : List Letter) (tail : Tail)
-      → IsFlow P h start Was past wire letters tail → cut (held_of past) ≡ Bad fault
+  -- a payload of more bytes than the state admits is too long for the session: before the acceptance only a response is in flight
+  first_response : (m : Message) (xid : ℤ) (p : List ℕ) (ms : List Message) (rs : List Request) → MayBeFirst m ms rs
+      → IsSpelt xid m p → (response : Response) × (ignored : List ℕ) × IsResponse p response ignored
+  first_response Accepted xid p ms rs may is = (is.0, is.1, is.2)
+  first_response Expires xid p ms rs may is = (is.0, is.1, is.2)
+  first_response (Replies q z res) xid p ms rs may is = absurd may
+  first_response (Watches_set b z) xid p ms rs may is = absurd may
+  first_response (Notifies n) xid p ms rs may is = absurd may
+  first_response Pong xid p ms rs may is = absurd may
+
+  letter_too_long : (past : Past) (wire : Wire) (l : Letter) (ls : List Letter) (tail : Tail) (st : State)
+      → state_of past ≡ st → is_open st ≡ true → IsFlow P h start Was past wire (l ∷ ls) tail
+      → longest start.limits st < length l.payload → IsTooLongFor start.limits l.payload
+  letter_too_long past wire l ls tail Connected e o g above = inl above
+  letter_too_long past wire l ls tail Connecting e o g above = inr (
+    above,
+    first_response l.message l.xid l.payload (messages ls) (map (λ s. s.request) (unread start past wire))
+        (first_by (seen start past) wire.server.stage (map (λ s. s.request) (unread start past wire)) l.message (messages ls)
+        wire.server.place (starting_of past wire (l ∷ ls) tail e g).opening) g.are.0.spelt,
+  )
+  letter_too_long past wire l ls tail Idle e o g above = absurd cc
+  letter_too_long past wire l ls tail Expired e o g above = absurd cc
+  letter_too_long past wire l ls tail Closed e o g above = absurd cc
+
+  failure_too_long : (past : Past) (wire : Wire) (p rest : List ℕ) (st : State)
+      → state_of past ≡ st → is_open st ≡ true → IsFlow P h start Was past wire [] (Failure p rest)
+      → longest start.limits st < length p → IsTooLongFor start.limits p
+  failure_too_long past wire p rest Connected e o g above = inl above
+  failure_too_long past wire p rest Connecting e o g above =
+      absurd (none_first past wire wire.server.stage g.ended.3 (starting_of past wire [] (Failure p rest) e g).opening)
+  failure_too_long past wire p rest Idle e o g above = absurd cc
+  failure_too_long past wire p rest Expired e o g above = absurd cc
+  failure_too_long past wire p rest Closed e o g above = absurd cc
+
+  bad_read : (past : Past) (wire : Wire) (fault : FrameFault) → is_going past ≡ true → (s : Stands_at P h start Was past wire)
+      (letters : List Letter) (tail : Tail)
+      → IsFlow P h start Was past wire letters tail → cut (longest start.limits (state_of past)) (held_of past) ≡ Bad fault
       → Stands_at P h start Was (Dropped (Framed fault) ∷ past) wire
-  bad_read past wire fault s [] Nothing_more g c = absurd (let f = none_cut (held_of past) wire.coming (Bad fault) g.bytes c in cc)
-  bad_read past wire fault s [] (Failure payload rest) g c =
-      let t = first_too_long (held_of past) wire.coming payload rest fault g.ended.1 g.bytes c in
-      dropped P h start Was (Framed fault) past wire (inr (inl (ap Framed t.0, (payload, g.ended.0, t.1)))) s
-  bad_read past wire fault s (l ∷ ls) tail g c =
-      let t = first_too_long (held_of past) wire.coming l.payload (frames ls ++ tail_bytes tail) fault g.are.0.short
+  bad_read past wire fault on s [] Nothing_more g c =
+      absurd (let f = none_cut (longest start.limits (state_of past)) (held_of past) wire.coming (Bad fault) g.bytes c in cc)
+  bad_read past wire fault on s [] (Failure payload rest) g c =
+      let t = first_too_long (longest start.limits (state_of past)) (held_of past) wire.coming payload rest fault g.ended.1 g.bytes c in
+      let up = (and_two (is_open (state_of past)) (not (has_halted past)) on).0 in
+      let above = failure_too_long past wire payload rest (state_of past) refl up g t.1 in
+      dropped P h start Was (Framed fault) past wire (inr (inl (ap Framed t.0, (payload, g.ended.0, above)))) s
+  bad_read past wire fault on s (l ∷ ls) tail g c =
+      let t = first_too_long (longest start.limits (state_of past)) (held_of past) wire.coming l.payload (frames ls ++ tail_bytes tail)
+      fault g.are.0.short
       (first_bytes past wire l ls tail g) c in
-      dropped P h start Was (Framed fault) past wire (inr (inl (ap Framed t.0, (l.payload, g.are.0.was_sent, t.1)))) s
+      let up = (and_two (is_open (state_of past)) (not (has_halted past)) on).0 in
+      let above = letter_too_long past wire l ls tail (state_of past) refl up g t.1 in
+      dropped P h start Was (Framed fault) past wire (inr (inl (ap Framed t.0, (l.payload, g.are.0.was_sent, above)))) s
 
   cut_read : (byte : ℕ) (past : Past) (wire : Wire) → is_going past ≡ true → Stands_at P h start Was (Came byte ∷ past) wire → (c : Cutting)
-      → cut (held_of past ++ byte ∷ []) ≡ c
+      → cut (longest start.limits (state_of past)) (held_of past ++ byte ∷ []) ≡ c
       → Stands_at P h start Was (joined past (Came byte ∷ of_cutting (view_at start past) c)) wire
   cut_read byte past wire on s Unfinished c = s
-  cut_read byte past wire on s (Bad fault) c = let g = s.going on in bad_read (Came byte ∷ past) wire fault s g.0 g.1 g.2 c
+  cut_read byte past wire on s (Bad fault) c = let g = s.going on in bad_read (Came byte ∷ past) wire fault on s g.0 g.1 g.2 c
   cut_read byte past wire on s (Payload p) c = let g = s.going on in payload_read (Came byte ∷ past) wire p on s g.0 g.1 g.2 c
 
   comes_one : (byte : ℕ) (rest : List ℕ) (past : Past) (wire : Wire)
@@ -395,10 +444,10 @@ module _ (P : Text → Type 0) (h : History) (start : Start) (Was : List ℕ →
       let two = and_two (is_open (state_of past)) (not (has_halted past)) on in
       let up : IsOpen (state_of past) = two.0 in
       subst (λ t. Stands_at P h start Was (joined past t) (record wire { coming = rest }))
-      (sym (byte_happens (view_at start past) byte (cut (held_of past ++ byte ∷ []))
+      (sym (byte_happens (view_at start past) byte (cut (longest start.limits (state_of past)) (held_of past ++ byte ∷ []))
       (record { up = up; goes_on = not_true (has_halted past) two.1 }) refl))
       (cut_read byte past (record wire { coming = rest }) on (came P h start Was byte rest past wire c s)
-      (cut (held_of past ++ byte ∷ [])) refl)
+      (cut (longest start.limits (state_of past)) (held_of past ++ byte ∷ [])) refl)
 
   quiet_bytes : (b : Bool) (st : State) (xs : List Happening) → (is_open st && not b) ≡ false → cond b [] (if_open st xs) ≡ []
   quiet_bytes true st xs e = refl

@@ -119,7 +119,7 @@ module _ (P : Text → Type 0) (h : History) (start : Start) (Was : List ℕ →
   lost past wire s = over_by (Loses_it ∷ past) wire (lost_right past s.right) s.calm s.counted refl
 
   pub dropped : (fault : Fault) (past : Past) (wire : Wire)
-      → IsDue Was fault → Stands_at P h start Was past wire → Stands_at P h start Was (Dropped fault ∷ past) wire
+      → IsDue start Was fault → Stands_at P h start Was past wire → Stands_at P h start Was (Dropped fault ∷ past) wire
   dropped fault past wire why s = over_by (Dropped fault ∷ past) wire (lost_right past s.right) (why, s.calm) s.counted refl
 
   pub and_false : (b : Bool) → (b && false) ≡ false

@@ -10,7 +10,7 @@ use Rattle.zk_frames.specs.declared.fault.FrameFault.TheVariants.{TooLong}
 use Rattle.zk_cache.specs.declared.held.Kept.{Kept}
 use Rattle.zk_cache.specs.Kept.{Answer, Names}
 use Rattle.zk_cache.specs.declared.held.Mark.TheVariants.{Good}
-use Rattle.zk_limits.specs.declared.limits.TheConstants.{LONGEST_INCOMING}
+use Rattle.zk_laws.specs.Headline.{IsTooLongFor}
 use Rattle.zk_turns.specs.Past.{Past, Asked, is_talking, state_of, held_of, Took as Takes_in, Replies as Answers_call}
 use Rattle.zk_turns.specs.Turns.{Framed, WatchesRefused, Start, Fault, Silent, Item, Replied, Drop, Answer as Answers}
 use Rattle.zk_turns.specs.Sent.{outputs_of}
@@ -47,10 +47,12 @@ pub record IsQuietAfter (h : History) (start : Start) (entries : List LocalEntry
 abbrev pub tree_after : History → List LocalEntry → Tree
 tree_after h entries = tree_held h (wire_at h entries).server.place
 
--- Why a connection was given up: silence, a message that a server sent and that is too long, or a part of setWatches that was refused.
-abbrev pub IsDueAt : List LocalEntry → Fault → Type 0
-IsDueAt entries fault =
-    (fault ≡ Silent) ⊎ ((fault ≡ Framed TooLong) × ((payload : List ℕ) × WasSentAt entries payload × (LONGEST_INCOMING < length payload)))
+-- Why a connection was given up: silence, a message that a server sent and that is too long for the session, or a part of setWatches
+-- that was refused.
+abbrev pub IsDueAt : Start → List LocalEntry → Fault → Type 0
+IsDueAt start entries fault =
+    (fault ≡ Silent)
+    ⊎ ((fault ≡ Framed TooLong) × ((payload : List ℕ) × WasSentAt entries payload × IsTooLongFor start.limits payload))
     ⊎ ((code : ℤ) × (fault ≡ WatchesRefused code) × (code ≢ pos 0))
 
 -- the reply refuses a call, with the zxid 0 or one below
@@ -97,4 +99,4 @@ pub record HeadlineAt (P : Text → Type 0) (h : History) (start : Start) (items
       × Among (Takes_in (Answers_call ticket (question_of call) zxid result)) (past_of start items)
       × (IsAbout P call → Reads (tree_at h (from_zero zxid)) (question_of call) result × IsTrueWrite h call (from_zero zxid) result)
       × (((from_zero start.last ≤ from_zero zxid) × (zxid ≡ pos (from_zero zxid))) ⊎ IsDenial zxid result)
-  pub drops : (fault : Fault) → Among (Drop fault) (outputs_of items) → IsDueAt entries fault
+  pub drops : (fault : Fault) → Among (Drop fault) (outputs_of items) → IsDueAt start entries fault

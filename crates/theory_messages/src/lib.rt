@@ -99,8 +99,9 @@ pub fn small_schedule()
 /// is taken for the message that it spells. A reply is so taken where what it answers waits first, and a client that asks in order
 /// and is served in order gets no reply that leaves a watch and is behind (`nothing_behind`).
 pub fn taken_as_sent()
-    ensures frame { (held coming payload more taken : List ℕ) → length payload < 2 ^ 31 → held ++ coming ≡ frame payload ++ more
-        → cut held ≡ Payload taken → (taken ≡ payload) × (coming ≡ more) }
+    ensures frame { (most : ℕ) (held coming payload more taken : List ℕ) → length payload < 2 ^ 31
+        → held ++ coming ≡ frame payload ++ more
+        → cut most held ≡ Payload taken → (taken ≡ payload) × (coming ≡ more) }
     ensures accepted { (pending : List Pending) (last xid : ℤ) (payload : List ℕ) → IsPayload xid Accepted payload
         → (welcome : Welcome) × (reading Connecting pending last payload ≡ Takes_in (Takes_acceptance welcome)) }
     ensures expired { (pending : List Pending) (last xid : ℤ) (payload : List ℕ) → IsPayload xid Expired_session payload

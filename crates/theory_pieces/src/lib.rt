@@ -13,8 +13,7 @@ ghost use Rattle.zk_turns.specs.Past.{Past, Dropped};
 ghost use Rattle.zk_turns.specs.Past.{is_good, kept_data, kept_names, still_said, word_data, word_child};
 ghost use Rattle.zk_turns.proofs.Marked.{IsMarked, AgreesWith};
 ghost use Rattle.zk_turns.specs.View.{View};
-ghost use Rattle.zk_limits.specs.declared.limits.TheConstants.{LONGEST_INCOMING};
-ghost use Rattle.zk_turns.specs.Taken.{past_of};
+ghost use Rattle.zk_turns.specs.Taken.{past_of, longest_of};
 ghost use Rattle.zk_turns.specs.Rule.{Stands, IsOpen, next, says};
 ghost use Rattle.zk_turns.proofs.Fed.{Hears, heard, fed, arrival};
 ghost use Rattle.zk_turns.specs.Rule.{after_signals, says_signals};
@@ -25,18 +24,20 @@ ghost use Rattle.zk_turns.proofs.Frames_sent.{sent};
 
 /// Bytes that leave a frame unfinished are held, and nothing is said.
 pub fn unfinished_piece()
-    ensures view { (piece : List ℕ) (view : View) → Hears view → IsUnfinished (view.held ++ piece) →
+    ensures view { (piece : List ℕ) (view : View) → Hears view → IsUnfinished (longest_of view) (view.held ++ piece) →
         after_signals view (map Comes piece) ≡ fed view piece }
-    ensures says { (piece : List ℕ) (view : View) → Hears view → IsUnfinished (view.held ++ piece) →
+    ensures says { (piece : List ℕ) (view : View) → Hears view → IsUnfinished (longest_of view) (view.held ++ piece) →
         says_signals view (map Comes piece) ≡ [] }
 {}
 
 /// Where a whole frame stands first in what is held and what comes, its payload arrives, and then what is left comes.
 pub fn whole_payload()
-    ensures view { (view : View) (piece payload rest : List ℕ) → Hears view → IsUnfinished view.held → length payload ≤ LONGEST_INCOMING →
+    ensures view { (view : View) (piece payload rest : List ℕ) → Hears view → IsUnfinished (longest_of view) view.held
+        → length payload ≤ longest_of view →
         view.held ++ piece ≡ frame payload ++ rest →
         after_signals view (map Comes piece) ≡ after_signals (next (heard view) (arrival view payload)) (map Comes rest) }
-    ensures says { (view : View) (piece payload rest : List ℕ) → Hears view → IsUnfinished view.held → length payload ≤ LONGEST_INCOMING →
+    ensures says { (view : View) (piece payload rest : List ℕ) → Hears view → IsUnfinished (longest_of view) view.held
+        → length payload ≤ longest_of view →
         view.held ++ piece ≡ frame payload ++ rest →
         says_signals view (map Comes piece)
         ≡ says (heard view) (arrival view payload) ++ says_signals (next (heard view) (arrival view payload)) (map Comes rest) }
@@ -44,11 +45,11 @@ pub fn whole_payload()
 
 /// Where a length that is not admitted stands first, the connection ends.
 pub fn bad_length()
-    ensures view { (view : View) (piece : List ℕ) (fault : FrameFault) → Hears view → IsUnfinished view.held
-        → StandsNext fault (view.held ++ piece) →
+    ensures view { (view : View) (piece : List ℕ) (fault : FrameFault) → Hears view → IsUnfinished (longest_of view) view.held
+        → StandsNext (longest_of view) fault (view.held ++ piece) →
         after_signals view (map Comes piece) ≡ next (heard view) (Dropped (Framed fault)) }
-    ensures says { (view : View) (piece : List ℕ) (fault : FrameFault) → Hears view → IsUnfinished view.held
-        → StandsNext fault (view.held ++ piece) →
+    ensures says { (view : View) (piece : List ℕ) (fault : FrameFault) → Hears view → IsUnfinished (longest_of view) view.held
+        → StandsNext (longest_of view) fault (view.held ++ piece) →
         says_signals view (map Comes piece) ≡ says (heard view) (Dropped (Framed fault)) }
 {}
 

@@ -12,7 +12,8 @@ use Rattle.zk_turns.specs.Turns.{Start, Item, Outcome, Signal, Opens, Comes, Cut
 use Rattle.zk_turns.specs.Past.{Past, Happening, Came, Took, Lost, Denied, Ticked, Forgot, Halted, Replies, state_of, has_halted, held_of}
 use Rattle.zk_turns.specs.Past.{is_final}
 use Rattle.zk_turns.specs.View.{View, view_at}
-use Rattle.zk_turns.specs.Taken.{happenings, caused, opens, if_open, comes, of_cutting, cut, Cutting, Unfinished, Bad, Payload, due}
+use Rattle.zk_turns.specs.Taken.{longest, happenings, caused, opens, if_open, comes, of_cutting, cut, Cutting, Unfinished, Bad, Payload}
+use Rattle.zk_turns.specs.Taken.{due}
 use Rattle.zk_turns.specs.Taken.{refusal_when_connected, joined, past_after, past_of}
 use Rattle.zk_turns.specs.Meaning.{Among}
 use Rattle.zk_turns.proofs.Words.{calls, refusal_in}
@@ -60,9 +61,11 @@ module _ (start : Start) (ticket : ℕ) (zxid : ℤ) (result : Result) where
   byte_tame : (state : State) (byte : ℕ) (past : Past)
       → state_of past ≡ state → AllTame (if_open state (comes (view_at start past) byte)) past
   byte_tame Connecting byte past e =
-      (λ f. absurd (let g = sym e ∙ f in cc), cutting_tame (cut (held_of past ++ byte ∷ [])) byte past (λ f. let g = sym e ∙ f in cc))
+      let cutting = cut (longest start.limits (state_of past)) (held_of past ++ byte ∷ []) in
+      (λ f. absurd (let g = sym e ∙ f in cc), cutting_tame cutting byte past (λ f. let g = sym e ∙ f in cc))
   byte_tame Connected byte past e =
-      (λ f. absurd (let g = sym e ∙ f in cc), cutting_tame (cut (held_of past ++ byte ∷ [])) byte past (λ f. let g = sym e ∙ f in cc))
+      let cutting = cut (longest start.limits (state_of past)) (held_of past ++ byte ∷ []) in
+      (λ f. absurd (let g = sym e ∙ f in cc), cutting_tame cutting byte past (λ f. let g = sym e ∙ f in cc))
   byte_tame _ byte past e = tt
 
   opens_tame : (state : State) (past : Past) → state_of past ≡ state → AllTame (opens state) past

@@ -22,7 +22,8 @@ use Rattle.zk_turns.specs.Past.{Happening, Began, Came, Took, Dropped, Lost, Ask
 use Rattle.zk_turns.specs.Past.{Accepted, Expiry, Replies, Watches_set, Notifies, Pong, Skipped}
 use Rattle.std.specs.Int.{int_max}
 use Rattle.zk_turns.specs.View.{View}
-use Rattle.zk_turns.specs.Taken.{happenings, caused, opens, comes, of_cutting, cut, Cutting, Unfinished, Bad, Payload, due, is_full_on}
+use Rattle.zk_turns.specs.Taken.{longest_of, happenings, caused, opens, comes, of_cutting, cut, Cutting, Unfinished, Bad, Payload, due}
+use Rattle.zk_turns.specs.Taken.{is_full_on}
 use Rattle.zk_turns.specs.Meaning.{Among}
 use Rattle.zk_turns.specs.Rule.{says, next, next_reply, next_message, seen, loss, losses, part_frame, report, after_all, says_all}
 use Rattle.zk_turns.specs.Rule.{after_signals, says_signals}
@@ -31,7 +32,7 @@ use Rattle.zk_turns.proofs.Cases.{by_cond, by_open, by_due}
 use Rattle.zk_turns.proofs.Over.{later_le, le_itself, le_through}
 use Rattle.zk_turns.proofs.Stream.{of_reading}
 use Rattle.theory_rules.specs.Seeing.{LaterMoves, EarlierLeaves, TurnsRaise, RepliesAreSeen}
-use Rattle.zk_limits.specs.declared.limits.TheConstants.{LONGEST_OUTGOING, MOST_PENDING}
+use Rattle.zk_limits.specs.declared.limits.TheConstants.{MOST_PENDING}
 
 reply_saved : (question : Question) (zxid : ℤ) (result : Result) (view : View)
     → (next_reply view question zxid result).saved ≡ seen zxid view
@@ -105,7 +106,7 @@ plain_calls ticket call (Some why) n = (n, tt)
 
 plain_refusal : (state : State) (view : View) (call : Call) → NoReply (refusal_in state view call)
 plain_refusal Connected view call =
-    let size = nat_lt LONGEST_OUTGOING (length (call_payload (pos view.xid) call)) in
+    let size = nat_lt view.limits.outgoing (length (call_payload (pos view.xid) call)) in
     let long : Option Outcome = cond size (Some TooLarge) None in
     let full : Option Outcome = cond (is_full_on view (watched_side (question_of call))) (Some TooManyWatches) long in
     let many : Option Outcome = cond (nat_le MOST_PENDING (calls_pending view.pending)) (Some TooManyPending) full in
@@ -127,7 +128,7 @@ plain_cutting view (Payload payload) =
 plain_caused : (signal : Signal) (view : View) → ArePlain (caused view signal)
 plain_caused Opens view = plain_opens view.standing.state
 plain_caused (Comes byte) view =
-    by_open ArePlain view.standing.state (comes view byte) tt (tt, plain_cutting view (cut (view.held ++ byte ∷ [])))
+    by_open ArePlain view.standing.state (comes view byte) tt (tt, plain_cutting view (cut (longest_of view) (view.held ++ byte ∷ [])))
 plain_caused Cuts view = by_open ArePlain view.standing.state (Lost ∷ []) tt (tt, tt)
 plain_caused (Ticks moment) view = (tt, by_open ArePlain view.standing.state (due view _) tt (by_due ArePlain view _ (tt, tt) (tt, tt) tt))
 plain_caused (Calls ticket call) view = plain_calls ticket call _ (plain_refusal view.standing.state view call)

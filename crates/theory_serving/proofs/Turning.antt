@@ -25,7 +25,8 @@ use Rattle.zk_turns.specs.Past.{has_halted, lists_of, last_of, now_of}
 use Rattle.zk_watches.specs.Parts.{parts}
 use Rattle.zk_turns.specs.View.{View, view_at}
 use Rattle.zk_turns.specs.Taken as taken
-use Rattle.zk_turns.specs.Taken.{reading, caused, happenings, opens, of_cutting, cut, Cutting, Unfinished, Bad, Payload, due, timeout_of}
+use Rattle.zk_turns.specs.Taken.{longest, reading, caused, happenings, opens, of_cutting, cut, Cutting, Unfinished, Bad, Payload, due}
+use Rattle.zk_turns.specs.Taken.{timeout_of}
 use Rattle.zk_turns.specs.Taken.{refusal, past_after, past_of, comes, if_open}
 use Rattle.zk_turns.specs.Rule.{IsOpen, says, part_frame, loss, losses, report, due_happenings, due_signals}
 use Rattle.zk_turns.proofs.Frames_sent.{part_of}
@@ -208,8 +209,10 @@ module _ (start : Start) where
 
   byte_on : (state : State) (byte : ℕ) (past : Past) → (IsOpen state → IsOpen (state_of past))
       → KeepsAll (if_open state (comes (view_at start past) byte)) past
-  byte_on Connecting byte past up = cutting_on (cut (held_of past ++ byte ∷ [])) byte past (up refl)
-  byte_on Connected byte past up = cutting_on (cut (held_of past ++ byte ∷ [])) byte past (up refl)
+  byte_on Connecting byte past up =
+      cutting_on (cut (longest start.limits (state_of past)) (held_of past ++ byte ∷ [])) byte past (up refl)
+  byte_on Connected byte past up =
+      cutting_on (cut (longest start.limits (state_of past)) (held_of past ++ byte ∷ [])) byte past (up refl)
   byte_on _ byte past up = still past
 
   lost_on : (state : State) (past : Past) → KeepsAll (if_open state (Lost ∷ [])) past

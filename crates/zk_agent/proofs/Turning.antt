@@ -6,7 +6,7 @@ use Rattle.std.specs.Prelude.{◌==◌, nat_le, nat_lt, length, max}
 use Rattle.std.specs.List.{list_any, FoldsTo}
 use Rattle.std.proofs.lemmas.Bool.Decides.{nat_tests}
 use Rattle.std.proofs.lemmas.List.Folds.{list_any-append}
-use Rattle.zk_limits.specs.declared.limits.TheConstants.{LONGEST_OUTGOING, MOST_PENDING}
+use Rattle.zk_limits.specs.declared.limits.TheConstants.{MOST_PENDING}
 use Rattle.zk_session.specs.declared.states.State.{State}
 use Rattle.zk_session.specs.declared.states.State.TheVariants.{Idle, Connecting, Connected, Expired, Closed}
 use Rattle.zk_frames.specs.Frame.{frame}
@@ -87,14 +87,14 @@ not_back view why is back = absurd (let f : true ≡ false = sym back ∙ is in 
 
 of_refusal : (view : View) (call : Asked_call) → OfRefusal view (refusal_when_connected view call)
 of_refusal view call =
-    let large : Option Outcome = cond (nat_lt LONGEST_OUTGOING (length (call_payload (pos view.xid) call))) (Some TooLarge) None in
+    let large : Option Outcome = cond (nat_lt view.limits.outgoing (length (call_payload (pos view.xid) call))) (Some TooLarge) None in
     let watches : Option Outcome = cond (is_full_on view (watched_side (question_of call))) (Some TooManyWatches) large in
     let pending : Option Outcome = cond (nat_le MOST_PENDING (calls_pending view.pending)) (Some TooManyPending) watches in
     by_cond (OfRefusal view) (is_close_pending view.pending) (Some SessionClosed) pending (not_back view SessionClosed refl)
     (by_test (nat_le MOST_PENDING (calls_pending view.pending)) watches refl
     (by_cond (OfRefusal view) (is_full_on view (watched_side (question_of call))) (Some TooManyWatches) large
     (not_back view TooManyWatches refl)
-    (by_cond (OfRefusal view) (nat_lt LONGEST_OUTGOING (length (call_payload (pos view.xid) call))) (Some TooLarge) None
+    (by_cond (OfRefusal view) (nat_lt view.limits.outgoing (length (call_payload (pos view.xid) call))) (Some TooLarge) None
     (not_back view TooLarge refl) tt)))
   where
     by_test : (b : Bool) (rest : Option Outcome)

@@ -16,6 +16,7 @@ use Rattle.zk_turns.specs.View.{View}
 use Rattle.zk_turns.specs.Rule.{next, next_reply, after_reply, with_node, with_children, kept_after, keep_node, keep_children}
 use Rattle.zk_cache.specs.Kept.{Answer, Names}
 use Rattle.zk_turns.proofs.Happened.{view_ext}
+use Rattle.zk_frames.specs.declared.limits.FrameLimits.{FrameLimits}
 use Rattle.zk_client.specs.Seen.{shown, cache_of}
 use Rattle.zk_client.specs.inner.Seen.{while_pending}
 use Rattle.zk_client.proofs.CacheLemmas.{cache-ext, nothing-kept}
@@ -63,27 +64,29 @@ pub left-lists : (known : Option (Left Answer)) (children : Option (Left Names))
     → with_children children (with_node known lists) ≡ after_reply question result lists
 left-lists known children question result lists d e = λ i. with_children (e i) (with_node (d i) lists)
 
-answered-view : (held : List ℕ) (halted : Bool) (kept : SessionView) (talk : Talk) (lists : Lists) (answers : Answers)
+answered-view : {limits : FrameLimits} (held : List ℕ) (halted : Bool) (kept : SessionView) (talk : Talk) (lists : Lists)
+    (answers : Answers)
     (pending : List Pending) (xid : ℤ) (ticket : ℕ) (question : Question) (zxid : ℤ) (result : Result)
     (new : SessionView) (after : Lists) (then_kept : Answers) → closes question ≡ false
     → pending ≡ record { xid = xid; waiting = Call_waits ticket question } ∷ talk.pending
     → new ≡ session.next (session.Sees zxid) kept → after ≡ after_reply question result lists
     → ((text : Text) → data_kept then_kept text ≡ keep_node (leaves_data question result) text (data_kept answers text))
     → ((text : Text) → names_kept then_kept text ≡ keep_children (leaves_child question result) text (names_kept answers text))
-    → shown [] halted new talk after then_kept
-    ≡ next (while_pending pending (shown held halted kept talk lists answers)) (Took (Replies ticket question zxid result))
-answered-view held halted kept talk lists answers pending xid ticket question zxid result new after then_kept other
+    → shown limits [] halted new talk after then_kept
+    ≡ next (while_pending pending (shown limits held halted kept talk lists answers)) (Took (Replies ticket question zxid result))
+answered-view {limits} held halted kept talk lists answers pending xid ticket question zxid result new after then_kept other
     left e f nodes children =
-    let before = while_pending pending (shown held halted kept talk lists answers) in
-    view_ext (shown [] halted new talk after then_kept) (other_reply before question zxid result)
+    let before = while_pending pending (shown limits held halted kept talk lists answers) in
+    view_ext (shown limits [] halted new talk after then_kept) (other_reply before question zxid result)
     (ap (λ (k : SessionView). record { halted = halted; state = k.state }) e) (ap (λ (k : SessionView). k.saved) e)
     (ap (λ (k : SessionView). k.moments) e)
     (ap (λ (p : List Pending). drop 1 p) (sym left)) refl refl f
-    (cache-ext (cache_of then_kept) (kept_after question result (cache_of answers)) nodes children)
+    (cache-ext (cache_of then_kept) (kept_after question result (cache_of answers)) nodes children) refl
     ∙ sym (reply-next before question zxid result other)
 
 -- the same, by what the reply leaves on either side
-pub left-view : (held : List ℕ) (halted : Bool) (kept : SessionView) (talk : Talk) (lists : Lists) (answers : Answers)
+pub left-view : {limits : FrameLimits} (held : List ℕ) (halted : Bool) (kept : SessionView) (talk : Talk) (lists : Lists)
+    (answers : Answers)
     (pending : List Pending) (xid : ℤ) (ticket : ℕ) (question : Question) (zxid : ℤ) (result : Result)
     (new : SessionView) (after : Lists) (then_kept : Answers) (known : Option (Left Answer)) (children : Option (Left Names))
     → closes question ≡ false → pending ≡ record { xid = xid; waiting = Call_waits ticket question } ∷ talk.pending
@@ -91,8 +94,8 @@ pub left-view : (held : List ℕ) (halted : Bool) (kept : SessionView) (talk : T
     → after ≡ with_children children (with_node known lists)
     → ((text : Text) → data_kept then_kept text ≡ keep_node known text (data_kept answers text))
     → ((text : Text) → names_kept then_kept text ≡ keep_children children text (names_kept answers text))
-    → shown [] halted new talk after then_kept
-    ≡ next (while_pending pending (shown held halted kept talk lists answers)) (Took (Replies ticket question zxid result))
+    → shown limits [] halted new talk after then_kept
+    ≡ next (while_pending pending (shown limits held halted kept talk lists answers)) (Took (Replies ticket question zxid result))
 left-view held halted kept talk lists answers pending xid ticket question zxid result new after then_kept known children other left e
     on_data on_child f nodes names =
     answered-view held halted kept talk lists answers pending xid ticket question zxid result new after then_kept other left e
@@ -113,21 +116,24 @@ closed-state Connecting saved moments zxid e = absurd cc
 closed-state Expired saved moments zxid e = absurd cc
 closed-state Closed saved moments zxid e = refl
 
-pub closed-view : (held : List ℕ) (halted : Bool) (kept : SessionView) (talk : Talk) (lists : Lists) (answers : Answers)
+pub closed-view : {limits then_limits : FrameLimits} (held : List ℕ) (halted : Bool) (kept : SessionView) (talk : Talk) (lists : Lists)
+    (answers : Answers)
     (pending : List Pending) (ticket : ℕ) (question : Question) (zxid : ℤ) (result : Result)
-    (still : Bool) (saw new : SessionView) (after : Talk) (gone : Lists) (nothing : Answers) → still ≡ halted → closes question ≡ true
+    (still : Bool) (saw new : SessionView) (after : Talk) (gone : Lists) (nothing : Answers) → still ≡ halted → then_limits ≡ limits
+    → closes question ≡ true
     → kept.state ≡ Connected
     → saw ≡ session.next (session.Sees zxid) kept → new ≡ session.next session.Closes saw → after.pending ≡ [] → after.xid ≡ talk.xid
     → gone ≡ no_lists → nothing ≡ no_answers
-    → shown [] still new after gone nothing
-    ≡ next (while_pending pending (shown held halted kept talk lists answers)) (Took (Replies ticket question zxid result))
-closed-view held halted kept talk lists answers pending ticket question zxid result still saw new after gone nothing same
-    close at e f quiet xid g h =
-    let before = while_pending pending (shown held halted kept talk lists answers) in
+    → shown then_limits [] still new after gone nothing
+    ≡ next (while_pending pending (shown limits held halted kept talk lists answers)) (Took (Replies ticket question zxid result))
+closed-view {limits} {then_limits} held halted kept talk lists answers pending ticket question zxid result still saw new after gone nothing
+    same
+    within close at e f quiet xid g h =
+    let before = while_pending pending (shown limits held halted kept talk lists answers) in
     let is = f ∙ ap (λ (k : SessionView). session.next session.Closes k) e ∙ closed-state kept.state kept.saved kept.moments zxid at in
-    view_ext (shown [] still new after gone nothing) (next_reply before Close zxid result)
+    view_ext (shown then_limits [] still new after gone nothing) (next_reply before Close zxid result)
     (ap (λ (h : Bool). record { halted = h; state = new.state }) same
     ∙ ap (λ (k : SessionView). record { halted = halted; state = k.state }) is) (ap (λ (k : SessionView). k.saved) is)
     (ap (λ (k : SessionView). k.moments) is)
-    quiet refl xid g (nothing-kept nothing h)
+    quiet refl xid g (nothing-kept nothing h) within
     ∙ ap (λ (q : Question). next_reply before q zxid result) (sym (is-close question close))

@@ -11,7 +11,11 @@ use Rattle.zk_conversation.specs.Questions.{question_of, watched_side}
 use Rattle.zk_conversation.specs.Pending.{Talk, Pending, call_waits, is_on, watches_pending, waits_to_watch, talk_asked}
 use Rattle.zk_session.specs.declared.states.State.TheVariants.{Connected}
 use Rattle.zk_watches.specs.Lists.{Lists, count_of}
-use Rattle.zk_turns.specs.Taken.{phase_of}
+use Rattle.zk_turns.specs.Turns.{Outcome}
+use Rattle.zk_turns.specs.View.{View}
+use Rattle.zk_turns.specs.Taken.{phase_of, longest_of}
+use Rattle.zk_turns.specs.Rule.{after_all}
+use Rattle.zk_client.specs.inner.Steps.{calls}
 use Rattle.zk_client.specs.Sound.{HasRoom, IsSound}
 use Rattle.zk_client.proofs.Rooms.{tied-talking}
 use Rattle.zk_limits.specs.declared.limits.TheConstants.{MOST_PATHS}
@@ -51,3 +55,9 @@ asked-sound kept new_kept talk new_talk lists ticket call sound at less e f = rw
       tied-talking (session.next session.Sends kept) (talk_asked ticket call talk) (sound.tied.phase ∙ ap phase_of at) at sound.tied.short;
   room = asked-room lists talk.pending talk.xid ticket call sound.room less;
 })
+
+-- a call, sent or refused, changes neither the state nor how long a payload may be
+pub asked-longest : (view : View) (ticket : ℕ) (call : Call) (why : Option Outcome)
+    → longest_of (after_all view (calls ticket call why)) ≡ longest_of view
+asked-longest view ticket call None = refl
+asked-longest view ticket call (Some why) = refl

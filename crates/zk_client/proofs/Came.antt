@@ -18,12 +18,13 @@ use Rattle.zk_conversation.specs.Arriving.{Arrived, Connected, Replied, Watches_
 use Rattle.zk_conversation.specs.Arriving.{pending_after, talk_after}
 use Rattle.zk_watches.specs.Lists.{Lists}
 use Rattle.zk_cache.specs.Cache.{Answers}
-use Rattle.zk_turns.specs.Taken.{phase_of}
+use Rattle.zk_turns.specs.Taken.{phase_of, longest}
 use Rattle.zk_turns.specs.Rule.{IsOpen}
 use Rattle.zk_turns.proofs.Fed.{arrival}
 use Rattle.zk_conversation.proofs.Lengths.{length-int, length-long, length-counted}
 use Rattle.zk_turns.proofs.Arriving.{IsOf, AreOf, of_arriving}
 use Rattle.zk_turns.proofs.Spelt.{first_spelt}
+use Rattle.zk_frames.specs.declared.limits.FrameLimits.{FrameLimits}
 use Rattle.zk_client.specs.Seen.{shown}
 use Rattle.zk_client.specs.inner.Seen.{while_pending}
 use Rattle.zk_client.specs.Sound.{IsSound}
@@ -139,26 +140,29 @@ open-state Idle up P a b = absurd cc
 open-state Expired up P a b = absurd cc
 open-state Is_closed up P a b = absurd cc
 
-pub comes : (arrived : Arrived) (kept : SessionView) (talk : Talk) (lists : Lists) (payload : List ℕ)
-    → IsSound kept talk lists → IsOpen kept.state → IsBytes payload → length payload ≤ LONGEST_INCOMING
+pub comes : (limits : FrameLimits) (arrived : Arrived) (kept : SessionView) (talk : Talk) (lists : Lists) (payload : List ℕ)
+    → IsSound kept talk lists → IsOpen kept.state → IsBytes payload → length payload ≤ longest limits kept.state
     → arriving talk.phase talk.pending payload ≡ Ok arrived → Comes arrived kept talk lists
-comes arrived kept talk lists payload sound up are le e =
-    open-state kept.state up (Comes arrived kept talk lists) (λ at. while-connecting arrived kept talk lists payload sound at are le e)
+comes limits arrived kept talk lists payload sound up are le e =
+    open-state kept.state up (Comes arrived kept talk lists) (λ at. while-connecting arrived kept talk lists payload sound at are
+    (subst (λ (s : State). length payload ≤ longest limits s) at le) e)
     (λ at. while-connected arrived kept talk lists payload sound at e)
 
 -- ---- what happens by it
 
-pub arrives : (held : List ℕ) (halted : Bool) (kept : SessionView) (talk : Talk) (lists : Lists) (answers : Answers) (payload : List ℕ)
+pub arrives : (limits : FrameLimits) (held : List ℕ) (halted : Bool) (kept : SessionView) (talk : Talk) (lists : Lists) (answers : Answers)
+    (payload : List ℕ)
     (read : Result Arrived TalkFault) → IsSound kept talk lists
     → arriving talk.phase talk.pending payload ≡ read
-    → arrival (shown held halted kept talk lists answers) payload ≡ happening_of kept.saved.last read
-arrives held halted kept talk lists answers payload read sound e =
+    → arrival (shown limits held halted kept talk lists answers) payload ≡ happening_of kept.saved.last read
+arrives limits held halted kept talk lists answers payload read sound e =
     ap (λ (p : Phase). happening_of kept.saved.last (arriving p talk.pending payload)) (sym sound.tied.phase)
     ∙ ap (happening_of kept.saved.last) e
 
 -- the view before, by what is left
-pub before-it : (held : List ℕ) (halted : Bool) (kept : SessionView) (talk mid : Talk) (lists : Lists) (answers : Answers)
+pub before-it : {limits : FrameLimits} (held : List ℕ) (halted : Bool) (kept : SessionView) (talk mid : Talk) (lists : Lists)
+    (answers : Answers)
     (arrived : Arrived) → mid ≡ talk_after arrived talk
-    → while_pending talk.pending (shown held halted kept mid lists answers) ≡ shown held halted kept talk lists answers
-before-it held halted kept talk mid lists answers arrived e =
-    ap (λ (t : Talk). while_pending talk.pending (shown held halted kept t lists answers)) e
+    → while_pending talk.pending (shown limits held halted kept mid lists answers) ≡ shown limits held halted kept talk lists answers
+before-it {limits} held halted kept talk mid lists answers arrived e =
+    ap (λ (t : Talk). while_pending talk.pending (shown limits held halted kept t lists answers)) e

@@ -15,6 +15,7 @@ use Rattle.zk_cache.specs.Cache.{Answers, no_answers}
 use Rattle.zk_turns.specs.Past.{Took, Expiry}
 use Rattle.zk_turns.specs.Rule.{next}
 use Rattle.zk_turns.proofs.Happened.{view_ext}
+use Rattle.zk_frames.specs.declared.limits.FrameLimits.{FrameLimits}
 use Rattle.zk_client.specs.Seen.{shown}
 use Rattle.zk_client.specs.inner.Seen.{while_pending}
 use Rattle.zk_client.proofs.CacheLemmas.{nothing-kept}
@@ -48,13 +49,15 @@ expired-session kept new response at over e =
     }) else session.Expires) kept) (not-above response.time_out over)
     ∙ expired-state kept.state kept.saved kept.moments at
 
-pub expired-view : (held : List ℕ) (halted : Bool) (kept : SessionView) (talk : Talk) (lists : Lists) (answers : Answers)
+pub expired-view : {limits : FrameLimits} (held : List ℕ) (halted : Bool) (kept : SessionView) (talk : Talk) (lists : Lists)
+    (answers : Answers)
     (pending : List Pending) (response : Response) (new : SessionView) (cut : Talk) (gone : Lists) (nothing : Answers)
     → kept.state ≡ Connecting → response.time_out ≤ℤ pos 0 → new ≡ session.next (event_of response) kept → cut ≡ cut_off talk
     → length talk.pending ≡ 0 → gone ≡ no_lists → nothing ≡ no_answers
-    → shown [] halted new cut gone nothing ≡ next (while_pending pending (shown held halted kept talk lists answers)) (Took Expiry)
+    → shown limits [] halted new cut gone nothing ≡ next (while_pending pending (shown limits held halted kept talk lists answers))
+    (Took Expiry)
 expired-view held halted kept talk lists answers pending response new cut gone nothing at over e f quiet g h =
     let is = expired-session kept new response at over e in
     view_ext _ _ (ap (λ (k : SessionView). record { halted = halted; state = k.state }) is) (ap (λ (k : SessionView). k.saved) is)
     (ap (λ (k : SessionView). k.moments) is)
-    (ap (λ (t : Talk). t.pending) f ∙ none-there talk.pending quiet) refl (ap (λ (t : Talk). t.xid) f) g (nothing-kept nothing h)
+    (ap (λ (t : Talk). t.pending) f ∙ none-there talk.pending quiet) refl (ap (λ (t : Talk). t.xid) f) g (nothing-kept nothing h) refl

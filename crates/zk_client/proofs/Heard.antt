@@ -16,12 +16,13 @@ use Rattle.zk_conversation.specs.Questions.{Question, Exists, GetData, GetChildr
 use Rattle.zk_conversation.specs.Results.{Result}
 use Rattle.zk_conversation.specs.Pending.{Talk}
 use Rattle.zk_cache.specs.Cache.{Answers}
+use Rattle.zk_frames.specs.declared.limits.FrameLimits.{FrameLimits}
 use Rattle.zk_client.specs.Seen.{shown}
 use Rattle.zk_watches.specs.Lists.{Lists}
 use Rattle.zk_watches.specs.Parts.{parts}
 use Rattle.zk_turns.specs.Turns.{Comes, Output, Framed}
 use Rattle.zk_turns.specs.Past.{Happening, Dropped, Came, Message, Accepted, Expiry, Replies, Watches_set, Notifies, Pong, Skipped}
-use Rattle.zk_turns.specs.Taken.{Cutting, Unfinished, Bad, Payload, cut, of_cutting, happenings}
+use Rattle.zk_turns.specs.Taken.{Cutting, Unfinished, Bad, Payload, cut, longest, longest_of, of_cutting, happenings}
 use Rattle.zk_turns.specs.View.{View}
 use Rattle.zk_turns.specs.Rule.{if_any, IsOpen, next, says, after_all, says_all, after_signals, says_signals}
 use Rattle.zk_turns.proofs.Fed.{Hears, heard, fed, arrival}
@@ -29,7 +30,6 @@ use Rattle.zk_turns.specs.Rule.{next_message, next_reply}
 use Rattle.zk_turns.proofs.Stream.{of_reading}
 use Rattle.zk_turns.proofs.Pieces.{unfinished_view, unfinished_says, frame_view, frame_says, bad_first_view, bad_first_says, parted_view}
 use Rattle.zk_turns.proofs.Pieces.{parted_says, byte_happens}
-use Rattle.zk_limits.specs.declared.limits.TheConstants.{LONGEST_INCOMING}
 
 -- something was heard at this moment
 abbrev pub IsHeard : View → Type 0
@@ -39,8 +39,8 @@ pub heard-is : (view : View) → IsHeard view → heard view ≡ view
 heard-is view e = ap (λ (n : ℕ). let v : View =
     record view { moments = record { now = view.moments.now; heard = n; sent = view.moments.sent } } in v) (sym e)
 
-pub nothing-held : IsUnfinished []
-nothing-held = record { admitted = λ h. absurd (omega arith); short = λ h. absurd (omega arith) }
+pub nothing-held : (most : ℕ) → IsUnfinished most []
+nothing-held most = record { admitted = λ h. absurd (omega arith); short = λ h. absurd (omega arith) }
 
 -- ---- what a payload leaves as it was
 
@@ -91,19 +91,19 @@ module _ (view : View) (up : IsOpen view.standing.state) (goes_on : view.standin
   here : Hears view
   here = record { up = up; goes_on = goes_on }
 
-  unfinished : IsUnfinished view.held
-  unfinished = subst IsUnfinished (sym empty) nothing-held
+  unfinished : IsUnfinished (longest_of view) view.held
+  unfinished = subst (IsUnfinished (longest_of view)) (sym empty) (nothing-held (longest_of view))
 
   joined : (bytes : List ℕ) → view.held ++ bytes ≡ bytes
   joined bytes = ap (λ (l : List ℕ). l ++ bytes) empty
 
-  pub frame-view : (bytes payload rest : List ℕ) → length payload ≤ LONGEST_INCOMING → bytes ≡ frame payload ++ rest
+  pub frame-view : (bytes payload rest : List ℕ) → length payload ≤ longest_of view → bytes ≡ frame payload ++ rest
       → after_signals view (map Comes bytes) ≡ after_signals (next view (arrival view payload)) (map Comes rest)
   frame-view bytes payload rest le e =
       frame_view view bytes payload rest here unfinished le (joined bytes ∙ e)
       ∙ ap (λ (v : View). after_signals (next v (arrival view payload)) (map Comes rest)) (heard-is view fresh)
 
-  pub frame-says : (bytes payload rest : List ℕ) → length payload ≤ LONGEST_INCOMING → bytes ≡ frame payload ++ rest
+  pub frame-says : (bytes payload rest : List ℕ) → length payload ≤ longest_of view → bytes ≡ frame payload ++ rest
       → says_signals view (map Comes bytes)
       ≡ says view (arrival view payload) ++ says_signals (next view (arrival view payload)) (map Comes rest)
   frame-says bytes payload rest le e =
@@ -112,13 +112,15 @@ module _ (view : View) (up : IsOpen view.standing.state) (goes_on : view.standin
       (heard-is view fresh)
 
   pub bad-view : (bytes : List ℕ) (fault : FrameFault)
-      → StandsNext fault bytes → after_signals view (map Comes bytes) ≡ next view (Dropped (Framed fault))
-  bad-view bytes fault bad = bad_first_view view bytes fault here unfinished (subst (StandsNext fault) (sym (joined bytes)) bad)
+      → StandsNext (longest_of view) fault bytes → after_signals view (map Comes bytes) ≡ next view (Dropped (Framed fault))
+  bad-view bytes fault bad =
+      bad_first_view view bytes fault here unfinished (subst (StandsNext (longest_of view) fault) (sym (joined bytes)) bad)
       ∙ ap (λ (v : View). next v (Dropped (Framed fault))) (heard-is view fresh)
 
   pub bad-says : (bytes : List ℕ) (fault : FrameFault)
-      → StandsNext fault bytes → says_signals view (map Comes bytes) ≡ says view (Dropped (Framed fault))
-  bad-says bytes fault bad = bad_first_says view bytes fault here unfinished (subst (StandsNext fault) (sym (joined bytes)) bad)
+      → StandsNext (longest_of view) fault bytes → says_signals view (map Comes bytes) ≡ says view (Dropped (Framed fault))
+  bad-says bytes fault bad =
+      bad_first_says view bytes fault here unfinished (subst (StandsNext (longest_of view) fault) (sym (joined bytes)) bad)
       ∙ ap (λ (v : View). says v (Dropped (Framed fault))) (heard-is view fresh)
 
   fed-is : (bytes : List ℕ) → fed view bytes ≡ record view { held = bytes }
@@ -126,20 +128,21 @@ module _ (view : View) (up : IsOpen view.standing.state) (goes_on : view.standin
   fed-is (b ∷ bytes) = ap (λ (v : View). let w : View = record v { held = view.held ++ b ∷ bytes } in w) (heard-is view fresh)
       ∙ ap (λ (l : List ℕ). let v : View = record view { held = l } in v) (joined (b ∷ bytes))
 
-  pub rest-view : (bytes : List ℕ) → IsUnfinished bytes → after_signals view (map Comes bytes) ≡ record view { held = bytes }
-  rest-view bytes less = unfinished_view bytes view here (subst IsUnfinished (sym (joined bytes)) less) ∙ fed-is bytes
+  pub rest-view : (bytes : List ℕ) → IsUnfinished (longest_of view) bytes
+      → after_signals view (map Comes bytes) ≡ record view { held = bytes }
+  rest-view bytes less = unfinished_view bytes view here (subst (IsUnfinished (longest_of view)) (sym (joined bytes)) less) ∙ fed-is bytes
 
-  pub rest-says : (bytes : List ℕ) → IsUnfinished bytes → says_signals view (map Comes bytes) ≡ []
-  rest-says bytes less = unfinished_says bytes view here (subst IsUnfinished (sym (joined bytes)) less)
+  pub rest-says : (bytes : List ℕ) → IsUnfinished (longest_of view) bytes → says_signals view (map Comes bytes) ≡ []
+  rest-says bytes less = unfinished_says bytes view here (subst (IsUnfinished (longest_of view)) (sym (joined bytes)) less)
 
 -- a length that is not admitted stands there, where the reader had not failed
-pub stands-there : (old : Held) (fault : FrameFault) (new : Held)
-    → old.fault ≡ None → AnswersNext old (Err fault) new → StandsNext fault old.bytes
-stands-there old Negative new clean fails = let P : Option FrameFault → Type 0 =
+pub stands-there : (most : ℕ) (old : Held) (fault : FrameFault) (new : Held)
+    → old.fault ≡ None → AnswersNext most old (Err fault) new → StandsNext most fault old.bytes
+stands-there most old Negative new clean fails = let P : Option FrameFault → Type 0 =
     λ o. MatchOption o (IsNegative old.bytes) (λ g. old ≡ failed Negative) in subst P clean fails.why
-stands-there old TooLong new clean fails = let P : Option FrameFault → Type 0 =
-    λ o. MatchOption o (IsTooLong old.bytes) (λ g. old ≡ failed TooLong) in subst P clean fails.why
-stands-there old Memory new clean fails = absurd fails
+stands-there most old TooLong new clean fails = let P : Option FrameFault → Type 0 =
+    λ o. MatchOption o (IsTooLong most old.bytes) (λ g. old ≡ failed TooLong) in subst P clean fails.why
+stands-there most old Memory new clean fails = absurd fails
 
 -- ---- the first byte
 
@@ -149,26 +152,29 @@ same-cutting view (Bad fault) = refl
 same-cutting view (Payload payload) = refl
 
 first-happens : (view : View) (byte : ℕ)
-    → Hears view → happenings view (Comes byte) ≡ Came byte ∷ of_cutting view (cut (view.held ++ byte ∷ []))
-first-happens view byte h = byte_happens view byte (cut (view.held ++ byte ∷ [])) h refl
+    → Hears view → happenings view (Comes byte) ≡ Came byte ∷ of_cutting view (cut (longest_of view) (view.held ++ byte ∷ []))
+first-happens view byte h = byte_happens view byte (cut (longest_of view) (view.held ++ byte ∷ [])) h refl
 
 first-same : (view : View) (byte : ℕ) → Hears view → happenings view (Comes byte) ≡ happenings (heard view) (Comes byte)
 first-same view byte h =
-    first-happens view byte h ∙ ap (λ (l : List Happening). Came byte ∷ l) (sym (same-cutting view (cut (view.held ++ byte ∷ []))))
+    first-happens view byte h
+    ∙ ap (λ (l : List Happening). Came byte ∷ l) (sym (same-cutting view (cut (longest_of view) (view.held ++ byte ∷ []))))
     ∙ sym (first-happens (heard view) byte (record { up = h.up; goes_on = h.goes_on }))
 
 first-view : (view : View) (byte : ℕ)
     → Hears view → after_all view (happenings view (Comes byte)) ≡ after_all (heard view) (happenings (heard view) (Comes byte))
 first-view view byte h =
     ap (after_all view) (first-happens view byte h)
-    ∙ ap (λ (l : List Happening). after_all (heard view) (Came byte ∷ l)) (sym (same-cutting view (cut (view.held ++ byte ∷ []))))
+    ∙ ap (λ (l : List Happening). after_all (heard view) (Came byte ∷ l))
+    (sym (same-cutting view (cut (longest_of view) (view.held ++ byte ∷ []))))
     ∙ ap (after_all (heard view)) (sym (first-happens (heard view) byte (record { up = h.up; goes_on = h.goes_on })))
 
 first-says : (view : View) (byte : ℕ)
     → Hears view → says_all view (happenings view (Comes byte)) ≡ says_all (heard view) (happenings (heard view) (Comes byte))
 first-says view byte h =
     ap (says_all view) (first-happens view byte h)
-    ∙ ap (λ (l : List Happening). says_all (heard view) (Came byte ∷ l)) (sym (same-cutting view (cut (view.held ++ byte ∷ []))))
+    ∙ ap (λ (l : List Happening). says_all (heard view) (Came byte ∷ l))
+    (sym (same-cutting view (cut (longest_of view) (view.held ++ byte ∷ []))))
     ∙ ap (says_all (heard view)) (sym (first-happens (heard view) byte (record { up = h.up; goes_on = h.goes_on })))
 
 -- where a byte comes, it is heard at this moment
@@ -190,13 +196,13 @@ heard-says view (byte ∷ more) h some =
 abbrev emptied : View → View
 emptied view = record view { held = [] }
 
-pub again-view : (view : View) (piece : List ℕ) → Hears view → IsHeard view → IsUnfinished view.held
+pub again-view : (view : View) (piece : List ℕ) → Hears view → IsHeard view → IsUnfinished (longest_of view) view.held
     → after_signals (emptied view) (map Comes (view.held ++ piece)) ≡ after_signals view (map Comes piece)
 again-view view piece h fresh less =
     parted_view (emptied view) (view.held ++ piece) view.held piece refl
     ∙ ap (λ (v : View). after_signals v (map Comes piece)) (rest-view (emptied view) h.up h.goes_on fresh refl view.held less)
 
-pub again-says : (view : View) (piece : List ℕ) → Hears view → IsHeard view → IsUnfinished view.held
+pub again-says : (view : View) (piece : List ℕ) → Hears view → IsHeard view → IsUnfinished (longest_of view) view.held
     → says_signals (emptied view) (map Comes (view.held ++ piece)) ≡ says_signals view (map Comes piece)
 again-says view piece h fresh less =
     parted_says (emptied view) (view.held ++ piece) view.held piece refl
@@ -223,8 +229,9 @@ pub hears-session : (kept new : SessionView)
     }
 hears-session kept new up e = e ∙ hears-state kept.state kept.saved kept.moments up
 
-module _ (bytes piece : List ℕ) (halted : Bool) (kept new : SessionView) (talk : Talk) (lists : Lists) (answers : Answers)
-    (up : IsOpen kept.state) (goes_on : halted ≡ false) (less : IsUnfinished bytes) (some : 0 < length piece)
+module _ (limits : FrameLimits) (bytes piece : List ℕ) (halted : Bool) (kept new : SessionView) (talk : Talk) (lists : Lists)
+    (answers : Answers)
+    (up : IsOpen kept.state) (goes_on : halted ≡ false) (less : IsUnfinished (longest limits kept.state) bytes) (some : 0 < length piece)
     (e : new ≡ session.next session.Hears kept) where
   after_it : SessionView
   after_it = record {
@@ -239,23 +246,25 @@ module _ (bytes piece : List ℕ) (halted : Bool) (kept new : SessionView) (talk
 
   -- what is told of a view and of the bytes that come to it, where the bytes that are held may come again and where the first is heard now
   whole : {B : Type 0} (F : View → List ℕ → B)
-      → F (shown [] halted after_it talk lists answers) (bytes ++ piece) ≡ F (shown bytes halted after_it talk lists answers) piece
-      → F (shown bytes halted kept talk lists answers) piece ≡ F (shown bytes halted after_it talk lists answers) piece
-      → F (shown [] halted new talk lists answers) (bytes ++ piece) ≡ F (shown bytes halted kept talk lists answers) piece
-  whole F again first = ap (λ (k : SessionView). F (shown [] halted k talk lists answers) (bytes ++ piece)) is-after ∙ again ∙ sym first
+      → F (shown limits [] halted after_it talk lists answers) (bytes ++ piece) ≡ F (shown limits bytes halted after_it talk lists answers)
+      piece
+      → F (shown limits bytes halted kept talk lists answers) piece ≡ F (shown limits bytes halted after_it talk lists answers) piece
+      → F (shown limits [] halted new talk lists answers) (bytes ++ piece) ≡ F (shown limits bytes halted kept talk lists answers) piece
+  whole F again first = ap (λ (k : SessionView). F (shown limits [] halted k talk lists answers) (bytes ++ piece)) is-after ∙ again
+      ∙ sym first
 
-  pub whole-view : after_signals (shown [] halted new talk lists answers)
-      (map Comes (bytes ++ piece)) ≡ after_signals (shown bytes halted kept talk lists answers) (map Comes piece)
+  pub whole-view : after_signals (shown limits [] halted new talk lists answers)
+      (map Comes (bytes ++ piece)) ≡ after_signals (shown limits bytes halted kept talk lists answers) (map Comes piece)
   unfolding after_it
   whole-view =
       whole (λ view coming. after_signals view (map Comes coming))
-      (again-view (heard (shown bytes halted kept talk lists answers)) piece (record { up = up; goes_on = goes_on }) refl less)
-      (heard-view (shown bytes halted kept talk lists answers) piece (record { up = up; goes_on = goes_on }) some)
+      (again-view (heard (shown limits bytes halted kept talk lists answers)) piece (record { up = up; goes_on = goes_on }) refl less)
+      (heard-view (shown limits bytes halted kept talk lists answers) piece (record { up = up; goes_on = goes_on }) some)
 
-  pub whole-says : says_signals (shown [] halted new talk lists answers)
-      (map Comes (bytes ++ piece)) ≡ says_signals (shown bytes halted kept talk lists answers) (map Comes piece)
+  pub whole-says : says_signals (shown limits [] halted new talk lists answers)
+      (map Comes (bytes ++ piece)) ≡ says_signals (shown limits bytes halted kept talk lists answers) (map Comes piece)
   unfolding after_it
   whole-says =
       whole (λ view coming. says_signals view (map Comes coming))
-      (again-says (heard (shown bytes halted kept talk lists answers)) piece (record { up = up; goes_on = goes_on }) refl less)
-      (heard-says (shown bytes halted kept talk lists answers) piece (record { up = up; goes_on = goes_on }) some)
+      (again-says (heard (shown limits bytes halted kept talk lists answers)) piece (record { up = up; goes_on = goes_on }) refl less)
+      (heard-says (shown limits bytes halted kept talk lists answers) piece (record { up = up; goes_on = goes_on }) some)

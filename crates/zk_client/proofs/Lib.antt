@@ -14,7 +14,6 @@ pub mod Heard
 pub mod Turning
 pub mod Whole
 pub mod Holding
-pub mod Copying
 pub mod Deadlines
 pub mod Behind
 pub mod Reports

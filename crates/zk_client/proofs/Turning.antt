@@ -12,6 +12,7 @@ use Rattle.zk_session.specs.Table as session
 use Rattle.zk_conversation.specs.Pending.{Talk}
 use Rattle.zk_watches.specs.Lists.{Lists}
 use Rattle.zk_cache.specs.Cache.{Answers}
+use Rattle.zk_frames.specs.declared.limits.FrameLimits.{FrameLimits}
 use Rattle.zk_client.specs.Seen.{shown}
 use Rattle.zk_turns.specs.Turns.{Output, Silent}
 use Rattle.zk_turns.specs.Past.{Happening, Dropped, Pinged, Ticked}
@@ -69,61 +70,68 @@ either : (b : Bool) (x y : Due) → happens (if b then x else y) ≡ (if b then 
 either true x y = refl
 either false x y = refl
 
-pub due-in : (held : List ℕ) (halted : Bool) (state : State) (saved : Saved) (moments : Moments) (talk : Talk) (lists : Lists)
+pub due-in : (limits : FrameLimits) (held : List ℕ) (halted : Bool) (state : State) (saved : Saved) (moments : Moments) (talk : Talk)
+    (lists : Lists)
     (answers : Answers) (moment : ℕ)
     → if_open state
-    (due (shown held halted (record { state = state; saved = saved; moments = moments }) talk lists answers) (max moment moments.now))
+    (due (shown limits held halted (record { state = state; saved = saved; moments = moments }) talk lists answers)
+    (max moment moments.now))
     ≡ happens (session.due (session.next (session.Ticks moment) (record { state = state; saved = saved; moments = moments })))
-due-in held halted Connecting saved moments talk lists answers moment =
+due-in limits held halted Connecting saved moments talk lists answers moment =
     sym (either (nat_le (2 * saved.asked) (3 * (max moment moments.now - moments.heard))) Is_silent Nothing)
-due-in held halted Connected saved moments talk lists answers moment =
+due-in limits held halted Connected saved moments talk lists answers moment =
     let silent = nat_le (2 * saved.session.timeout) (3 * (max moment moments.now - moments.heard)) in
     let quiet = nat_le saved.session.timeout (3 * (max moment moments.now - moments.sent)) in
     ap (λ (l : List Happening). if silent then Dropped Silent ∷ [] else l) (sym (either quiet Ping Nothing))
     ∙ sym (either silent Is_silent (if quiet then Ping else Nothing))
-due-in held halted Idle saved moments talk lists answers moment = refl
-due-in held halted Expired saved moments talk lists answers moment = refl
-due-in held halted Closed saved moments talk lists answers moment = refl
+due-in limits held halted Idle saved moments talk lists answers moment = refl
+due-in limits held halted Expired saved moments talk lists answers moment = refl
+due-in limits held halted Closed saved moments talk lists answers moment = refl
 
-pub due-is : (held : List ℕ) (halted : Bool) (kept new : SessionView) (talk : Talk) (lists : Lists) (answers : Answers)
+pub due-is : (limits : FrameLimits) (held : List ℕ) (halted : Bool) (kept new : SessionView) (talk : Talk) (lists : Lists)
+    (answers : Answers)
     (moment : ℕ) (result what : Due)
     → new ≡ session.next (session.Ticks moment) kept → result ≡ session.due new → result ≡ what
-    → Ticked moment ∷ if_open kept.state (due (shown held halted kept talk lists answers) (max moment kept.moments.now))
+    → Ticked moment ∷ if_open kept.state (due (shown limits held halted kept talk lists answers) (max moment kept.moments.now))
     ≡ Ticked moment ∷ happens what
-due-is held halted kept new talk lists answers moment result what e f g =
+due-is limits held halted kept new talk lists answers moment result what e f g =
     ap (λ (l : List Happening). Ticked moment ∷ l)
-    (due-in held halted kept.state kept.saved kept.moments talk lists answers moment ∙ ap happens (ap session.due (sym e) ∙ sym f ∙ g))
+    (due-in limits held halted kept.state kept.saved kept.moments talk lists answers moment
+    ∙ ap happens (ap session.due (sym e) ∙ sym f ∙ g))
 
-pub ticked-view : (held : List ℕ) (halted : Bool) (kept new : SessionView) (talk : Talk) (lists : Lists) (answers : Answers) (moment : ℕ)
+pub ticked-view : (limits : FrameLimits) (held : List ℕ) (halted : Bool) (kept new : SessionView) (talk : Talk) (lists : Lists)
+    (answers : Answers) (moment : ℕ)
     → new ≡ session.next (session.Ticks moment) kept
-    → shown held halted new talk lists answers ≡ next (shown held halted kept talk lists answers) (Ticked moment)
-ticked-view held halted kept new talk lists answers moment e = ap (λ (k : SessionView). shown held halted k talk lists answers) e
+    → shown limits held halted new talk lists answers ≡ next (shown limits held halted kept talk lists answers) (Ticked moment)
+ticked-view limits held halted kept new talk lists answers moment e =
+    ap (λ (k : SessionView). shown limits held halted k talk lists answers) e
 
 -- a moment is told, of which this comes
-module _ (held : List ℕ) (halted : Bool) (kept ticked : SessionView) (talk : Talk) (lists : Lists) (answers : Answers)
-    (moment : ℕ) (result what : Due)
+module _ (limits : FrameLimits) (held : List ℕ) (halted : Bool) (kept ticked : SessionView) (talk : Talk) (lists : Lists)
+    (answers : Answers) (moment : ℕ) (result what : Due)
     (goes_on : halted ≡ false) (tells : ticked ≡ session.next (session.Ticks moment) kept) (told : result ≡ session.due ticked)
     (is : result ≡ what) where
   abbrev before : View
-  before = shown held halted kept talk lists answers
+  before = shown limits held halted kept talk lists answers
 
   abbrev causes : List Happening
   causes = Ticked moment ∷ if_open kept.state (due before (max moment kept.moments.now))
 
   causes-are : causes ≡ Ticked moment ∷ happens what
-  causes-are = due-is held halted kept ticked talk lists answers moment result what tells told is
+  causes-are = due-is limits held halted kept ticked talk lists answers moment result what tells told is
 
-  pub tick-view : (after : View) → after ≡ after_all (shown held halted ticked talk lists answers) (happens what)
+  pub tick-view : (after : View) → after ≡ after_all (shown limits held halted ticked talk lists answers) (happens what)
       → after ≡ after_all before (if halted then [] else causes)
   tick-view after e =
       turns-view before after halted causes (Ticked moment ∷ happens what) goes_on causes-are
-      (e ∙ ap (λ (v : View). after_all v (happens what)) (ticked-view held halted kept ticked talk lists answers moment tells))
+      (e ∙ ap (λ (v : View). after_all v (happens what)) (ticked-view limits held halted kept ticked talk lists answers moment tells))
 
-  pub tick-says : (outs after : List Output) → after ≡ outs ++ says_all (shown held halted ticked talk lists answers) (happens what)
+  pub tick-says : (outs after : List Output) → after ≡ outs ++ says_all (shown limits held halted ticked talk lists answers) (happens what)
       → after ≡ outs ++ (says_all before (if halted then [] else causes) ++ [])
   tick-says outs after e =
       turns-says before outs after halted causes (Ticked moment ∷ happens what) goes_on causes-are
-      (e ∙ ap (λ (v : View). outs ++ says_all v (happens what)) (ticked-view held halted kept ticked talk lists answers moment tells))
+      (e ∙ ap (λ (v : View). outs ++ says_all v (happens what))
+      (ticked-view limits held halted kept ticked talk lists answers moment tells))
 
 -- ---- where a connection is open
 

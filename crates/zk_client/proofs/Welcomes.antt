@@ -23,6 +23,7 @@ use Rattle.zk_turns.specs.Past.{Took, Accepted, Expiry, pending_for, parts_asked
 use Rattle.zk_turns.specs.Taken.{welcome_by, accepted_or_expired}
 use Rattle.zk_turns.specs.Rule.{if_any, next}
 use Rattle.zk_turns.proofs.Happened.{view_ext}
+use Rattle.zk_frames.specs.declared.limits.FrameLimits.{FrameLimits}
 use Rattle.zk_client.specs.Seen.{shown}
 use Rattle.zk_client.specs.inner.Seen.{while_pending}
 use Rattle.zk_client.specs.Sound.{HasRoom, IsSound}
@@ -70,10 +71,11 @@ sent-moments : (ps : List Lists) (kept : SessionView) (welcome : Welcome)
 sent-moments [] kept welcome = refl
 sent-moments (p ∷ ps) kept welcome = refl
 
-pub record Welcomed (held : List ℕ) (halted : Bool) (kept : SessionView) (talk : Talk) (lists : Lists) (answers : Answers)
+pub record Welcomed (limits : FrameLimits) (held : List ℕ) (halted : Bool) (kept : SessionView) (talk : Talk) (lists : Lists)
+    (answers : Answers)
     (pending : List Pending) (welcome : Welcome) (new : SessionView) (set : Talk) : Type 0 where
   pub sound : IsSound new set lists
-  pub next : shown [] halted new set lists answers ≡ next (while_pending pending (shown held halted kept talk lists answers))
+  pub next : shown limits [] halted new set lists answers ≡ next (while_pending pending (shown limits held halted kept talk lists answers))
       (Took (Accepted welcome))
 
 unwatched-data : (ps : List Lists) → watches_pending Data (map pending_for (parts_asked ps)) ≡ 0
@@ -86,14 +88,14 @@ unwatched-child [] = refl
 unwatched-child (p ∷ []) = refl
 unwatched-child (p ∷ q ∷ more) = unwatched-child (q ∷ more)
 
-pub welcomes : (held : List ℕ) (halted : Bool) (kept : SessionView) (talk : Talk) (lists : Lists) (answers : Answers)
+pub welcomes : {limits : FrameLimits} (held : List ℕ) (halted : Bool) (kept : SessionView) (talk : Talk) (lists : Lists) (answers : Answers)
     (pending : List Pending) (response : Response) (mid new : SessionView) (set : Talk) (any : Bool)
     → kept.state ≡ Connecting → pos 0 <ℤ response.time_out → length talk.pending ≡ 0 → HasRoom lists []
     → length response.password.now ≤ LONGEST_PASSWORD
     → mid ≡ session.next (event_of response) kept → new ≡ (if any then session.next session.Sends mid else mid)
     → any ≡ has_any (parts lists)
     → set.phase ≡ Talking → set.pending ≡ talk.pending ++ map pending_for (parts_asked (parts lists)) → set.xid ≡ talk.xid
-    → Welcomed held halted kept talk lists answers pending (welcome_of response) new set
+    → Welcomed limits held halted kept talk lists answers pending (welcome_of response) new set
 welcomes held halted kept talk lists answers pending response mid new set any at lt quiet room short e f g phase asked xid =
     let welcome = welcome_of response in
     let first : mid ≡ welcomed kept welcome = welcomed-session kept mid response at lt e in
@@ -112,7 +114,7 @@ welcomes held halted kept talk lists answers pending response mid new set any at
         };
       };
       next = view_ext _ _ (ap (λ (k : SessionView). record { halted = halted; state = k.state }) is) (ap (λ (k : SessionView). k.saved) is)
-          (ap (λ (k : SessionView). k.moments) is) waits refl xid refl refl;
+          (ap (λ (k : SessionView). k.moments) is) waits refl xid refl refl refl;
     }
 
 -- ---- by the response

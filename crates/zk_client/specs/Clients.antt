@@ -2,23 +2,30 @@
 use Rattle.std.specs.Prelude.{◌≡◌, ℤ, unsigned_abs}
 use Rattle.zk_session.specs.SessionView.{Saved as Kept_saved}
 use Rattle.zk_session.specs.declared.fields.Saved.{Saved}
+use Rattle.zk_frames.specs.Limits.{standard_limits}
 use Rattle.zk_turns.specs.Turns.{Start, new_start}
 use Rattle.zk_turns.specs.View.{View}
 use Rattle.zk_client.specs.declared.client.Client.{Client}
 use Rattle.zk_client.specs.Seen.{view_with}
 
--- THE view of a client, in eight fields
+-- THE view of a client, in nine fields
 abbrev pub view_of : {A : Type 0} → Client A → View
 view_of client = view_with client.reader.bytes client.core
 
 -- a saved session to begin with
 abbrev pub saved_start : (timeout : ℤ) → Saved → Start
 saved_start timeout saved =
-    record { timeout = unsigned_abs timeout; session = saved.session; password = saved.password.now; last = saved.last_zxid }
+    record {
+      timeout = unsigned_abs timeout;
+      session = saved.session;
+      password = saved.password.now;
+      last = saved.last_zxid;
+      limits = standard_limits;
+    }
 
--- What a client begins with that goes on after this one: no session, as a new client, and the last seen zxid.
+-- What a client begins with that goes on after this one: no session, as a new client, the last seen zxid and the limits.
 abbrev pub renewed_start : (timeout : ℤ) → View → Start
-renewed_start timeout before = record (new_start (unsigned_abs timeout)) { last = before.saved.last }
+renewed_start timeout before = record (new_start (unsigned_abs timeout)) { last = before.saved.last; limits = before.limits }
 
 -- what is told of a saved session
 pub record Tells (kept : Kept_saved) (saved : Saved) : Type 0 where

@@ -7,7 +7,6 @@ pub mod Steps
 pub mod Clients
 pub mod Outsides
 pub mod Runs
-pub mod Records
 pub mod SavedSessions
 pub use Rattle.zk_turns.specs.Turns
 pub use Rattle.zk_turns.specs.View

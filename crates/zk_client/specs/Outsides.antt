@@ -1,5 +1,5 @@
 -- What a client is run against, as far as it tells its turns.
-use Rattle.std.specs.Prelude.{◌≡◌, List, [], ◌∷◌, ◌++◌, Option, Some, None, ⊤, ℕ}
+use Rattle.std.specs.Prelude.{◌≡◌, List, [], ◌∷◌, ◌++◌, Option, Some, None, ⊤}
 use Rattle.zk_turns.specs.Turns.{Input, Output, Turn}
 
 -- The inputs still to come, the one that was handed out and has no outputs yet, and the turns, the newest first.
@@ -41,8 +41,3 @@ TellsAll (Some old) turns others (Some new) = (old.coming ≡ inputs_then turns 
 abbrev pub NoneIsLeft : Option Told → Type 0
 NoneIsLeft None = ⊤
 NoneIsLeft (Some told) = told.coming ≡ []
-
--- one more turn is to be told
-abbrev pub asked_count : {X : Type 0} → Option X → ℕ
-asked_count None = 0
-asked_count (Some x) = 1

@@ -1,5 +1,6 @@
 -- What a client shows of itself, by what it is made of.
 use Rattle.std.specs.Prelude.{ℕ, Bool, List}
+use Rattle.zk_frames.specs.declared.limits.FrameLimits.{FrameLimits}
 use Rattle.zk_session.specs.SessionView.{SessionView}
 use Rattle.zk_conversation.specs.Pending.{Talk}
 use Rattle.zk_watches.specs.Lists.{Lists}
@@ -11,9 +12,9 @@ use Rattle.zk_client.specs.declared.machine.Core.{Core}
 abbrev pub cache_of : Answers → Cache
 cache_of answers = record { nodes = λ path. data_kept answers path; children = λ path. names_kept answers path }
 
--- the view, by the layers and the bytes that are held
-abbrev pub shown : (held : List ℕ) (halted : Bool) → SessionView → Talk → Lists → Answers → View
-shown held halted kept talk lists answers = record {
+-- the view, by the limits, the layers and the bytes that are held
+abbrev pub shown : FrameLimits → (held : List ℕ) (halted : Bool) → SessionView → Talk → Lists → Answers → View
+shown limits held halted kept talk lists answers = record {
   standing = record { halted = halted; state = kept.state };
   saved = kept.saved;
   moments = kept.moments;
@@ -22,7 +23,8 @@ shown held halted kept talk lists answers = record {
   xid = talk.xid;
   lists = lists;
   cache = cache_of answers;
+  limits = limits;
 }
 
 abbrev pub view_with : {A : Type 0} → (held : List ℕ) → Core A → View
-view_with held core = shown held core.halted core.session core.conversation core.registry core.cache
+view_with held core = shown core.limits held core.halted core.session core.conversation core.registry core.cache

@@ -1,5 +1,5 @@
 -- What is true of a client that has not halted.
-use Rattle.std.specs.Prelude.{◌≡◌, ◌≢◌, ◌+◌, ◌≤◌, List, length, None}
+use Rattle.std.specs.Prelude.{◌≡◌, ◌≢◌, ◌+◌, ◌≤◌, ℕ, List, length, None}
 use Rattle.zk_nodes.specs.declared.side.Side.TheVariants.{Data, Child}
 use Rattle.zk_session.specs.SessionView.{SessionView}
 use Rattle.zk_conversation.specs.declared.phase.Phase.TheVariants.{Talking}
@@ -7,7 +7,7 @@ use Rattle.zk_conversation.specs.Pending.{Talk, Pending, watches_pending}
 use Rattle.zk_frames.specs.Frame.{IsUnfinished}
 use Rattle.zk_frames.specs.Held.{Held}
 use Rattle.zk_watches.specs.Lists.{Lists, count_of}
-use Rattle.zk_turns.specs.Taken.{phase_of}
+use Rattle.zk_turns.specs.Taken.{phase_of, longest}
 use Rattle.zk_client.specs.declared.machine.Core.{Core}
 use Rattle.zk_limits.specs.declared.limits.TheConstants.{LONGEST_PASSWORD, MOST_PATHS}
 
@@ -30,7 +30,11 @@ pub record IsSound (kept : SessionView) (talk : Talk) (lists : Lists) : Type 0 w
 abbrev pub CoreIsSound : {A : Type 0} → Core A → Type 0
 CoreIsSound core = IsSound core.session core.conversation core.registry
 
--- The reader has not failed, and holds less than a whole frame.
-pub record IsReading (held : Held) : Type 0 where
+-- The reader has not failed, and holds less than a whole frame of such a limit.
+pub record IsReading (most : ℕ) (held : Held) : Type 0 where
   pub clean : held.fault ≡ None
-  pub less : IsUnfinished held.bytes
+  pub less : IsUnfinished most held.bytes
+
+-- the limit is that of the machine, as it stands
+abbrev pub IsReadingFor : {A : Type 0} → Core A → Held → Type 0
+IsReadingFor core held = IsReading (longest core.limits core.session.state) held

@@ -1,4 +1,5 @@
 -- What contracts of private functions say: nobody has to believe it.
+pub mod Given
 pub mod Left
 pub mod Seen
 pub mod Sound

@@ -4,7 +4,6 @@ ghost use Rattle.std.specs.Prelude.{◌≡◌, ◌≢◌, ◌≤◌, ℕ, ℤ, L
 ghost use Rattle.std.specs.Prelude.{◌≤ℤ◌, ◌<ℤ◌, pos, ◌&&◌, bytes_eq, Bool, Some, None, option_map, string_bytes};
 ghost use Rattle.zk_frames.specs.Frame.{frame};
 ghost use Rattle.zk_limits.specs.declared.limits.TheConstants.{LONGEST_OUTGOING};
-ghost use Rattle.zk_limits.specs.declared.limits.TheConstants.{LONGEST_INCOMING};
 ghost use Rattle.zk_records.specs.Views.{lent_response_of};
 ghost use Rattle.zk_conversation.specs.declared.phase.Phase.TheVariants.{Talking};
 ghost use Rattle.zk_conversation.specs.Arriving.{Arrived, Connected as Welcomed, Watches_set as Part_set, Notice};
@@ -19,7 +18,7 @@ ghost use Rattle.zk_cache.specs.Kept.{stale};
 ghost use Rattle.zk_session.specs.declared.states.State.TheVariants.{Connecting};
 ghost use Rattle.zk_watches.specs.Parts.{parts};
 ghost use Rattle.zk_turns.specs.Past.{Took, Accepted, Expiry, pending_for, parts_asked};
-ghost use Rattle.zk_turns.specs.Taken.{taken_of};
+ghost use Rattle.zk_turns.specs.Taken.{taken_of, longest};
 ghost use Rattle.zk_turns.specs.Turns.{Report, Enters, Send};
 ghost use Rattle.zk_turns.specs.Rule.{IsOpen, next, says, part_frame};
 ghost use Rattle.zk_turns.proofs.Fed.{arrival};
@@ -58,7 +57,7 @@ impl<A: Allocator + Copy> Core<A> {
     ) -> Result<(), AllocError>
         requires sound { CoreIsSound self.old }
         requires up { IsOpen self.old.session.state }
-        requires admitted { length payload.now ≤ LONGEST_INCOMING }
+        requires admitted { length payload.now ≤ longest self.old.limits self.old.session.state }
         ensures sound { OnOk result (CoreIsSound self.new) }
         ensures next { OnOk result
             ((held : List ℕ) → view_with [] self.new ≡ next (view_with held self.old) (arrival (view_with held self.old) payload.now)) }

@@ -23,7 +23,7 @@ use crate::machine::{Core, say};
 use crate::output::{Outcome, Output};
 use std::alloc::{AllocError, Allocator};
 use zk_conversation::Call;
-use zk_limits::{LONGEST_OUTGOING, MOST_PATHS, MOST_PENDING};
+use zk_limits::{MOST_PATHS, MOST_PENDING};
 use zk_records::Side;
 use zk_session::State;
 
@@ -114,7 +114,7 @@ impl<A: Allocator + Copy> Core<A> {
                 return Some(Outcome::TooManyWatches);
             }
         }
-        if call.payload_length() > LONGEST_OUTGOING {
+        if call.payload_length() > self.limits.outgoing {
             return Some(Outcome::TooLarge);
         }
         None

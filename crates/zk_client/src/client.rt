@@ -3,32 +3,31 @@
 ghost use Rattle.std.specs.Prelude.{◌≡◌, ◌≤◌, length, false};
 ghost use Rattle.std.proofs.Props.{props};
 ghost use Rattle.zk_limits.specs.declared.limits.TheConstants.{LONGEST_PASSWORD};
-ghost use Rattle.zk_client.specs.Sound.{CoreIsSound, IsReading};
+ghost use Rattle.zk_client.specs.Sound.{CoreIsSound, IsReadingFor};
 
 use crate::fault::Halt;
-use crate::frames::receive_lent;
-use crate::input::Input;
+use crate::input::{Given, Input};
 use crate::machine::Core;
 use crate::output::Output;
-use crate::turn::{known_of_input, notice_moment, turn};
+use crate::turn::{known_of_given, turn};
 use std::alloc::{AllocError, Allocator, Global};
 use zk_cache::{Cache, Children, DataAnswer, Mark};
 use zk_conversation::Conversation;
-use zk_frames::FrameReader;
+use zk_frames::{FrameLimits, FrameReader};
 use zk_nodes::{Path, Side};
 use zk_session::{Saved, Session, State};
 use zk_turns::{first_view, one_forget, one_turn};
 use zk_watches::Registry;
 
-/// A client of one session: what it is told by [`Client::step`] moves it from connection to connection. It shows a view of eight
+/// A client of one session: what it is told by [`Client::step`] moves it from connection to connection. It shows a view of nine
 /// fields: its state, the saved session, the moments, what is pending, the bytes that are held, the next xid, the three lists of
-/// watched paths and what is kept of each path.
+/// watched paths, what is kept of each path and how long payloads may be.
 #[derive(Drop)]
 pub struct Client<A: Allocator + Copy = Global> {
     core: Core<A>,
     reader: FrameReader<A>,
     ghost sound: { core.halted ≡ false → CoreIsSound core } by { Prim.hlevel props },
-    ghost reading: { core.halted ≡ false → IsReading reader } by { Prim.hlevel props },
+    ghost reading: { core.halted ≡ false → IsReadingFor core reader } by { Prim.hlevel props },
     ghost short: { length core.session.saved.session.password ≤ LONGEST_PASSWORD },
 }
 
@@ -36,6 +35,7 @@ impl<A: Allocator + Copy> Client<A> {
     ghost use Rattle.std.specs.Prelude.{◌≡◌, ◌≤◌, ◌<◌, ◌^◌, ◌<ℤ◌, ◌≤ℤ◌, pos, unsigned_abs, length, ℕ, List, [], ◌∷◌, None, IfOk, IfSome};
     ghost use Rattle.std.specs.Prelude.{OnOk, OnErr, IsOk, IsErr, true, false, option_map};
     ghost use Rattle.zk_session.specs.Fields.{Saves};
+    ghost use Rattle.zk_session.specs.declared.states.State.TheVariants.{Idle};
     ghost use Rattle.zk_limits.specs.declared.limits.TheConstants.{LONGEST_PASSWORD, MOST_PENDING};
     ghost use Rattle.zk_conversation.specs.Pending.{calls_pending};
     ghost use Rattle.zk_cache.specs.Contents.{answer_of, names_in};
@@ -45,6 +45,7 @@ impl<A: Allocator + Copy> Client<A> {
     ghost use Rattle.zk_turns.specs.Taken.{NothingIsDue};
     ghost use Rattle.zk_turns.specs.Rule.{Rule, RuleAt, Stands, StandsAt, HaltsAs, HaltsAt, forgotten};
     ghost use Rattle.zk_client.specs.Views.{input_view, said, turn_of};
+    ghost use Rattle.zk_client.specs.inner.Given.{given_view};
     ghost use Rattle.zk_client.specs.inner.Steps.{Adds};
     ghost use Rattle.zk_client.specs.Steps.{IsQuiet, IsQuietAt};
     ghost use Rattle.zk_turns.specs.Ranges.{IsResumable, IsTyped, AsksOf};
@@ -61,6 +62,7 @@ impl<A: Allocator + Copy> Client<A> {
         Client {
             core: Core {
                 alloc,
+                limits: FrameLimits::standard(),
                 halted: false,
                 session: Session::new(alloc, timeout_ms),
                 earlier: None,
@@ -86,6 +88,7 @@ impl<A: Allocator + Copy> Client<A> {
         Ok(Client {
             core: Core {
                 alloc,
+                limits: FrameLimits::standard(),
                 halted: false,
                 session: Session::resume(alloc, timeout_ms, saved)?,
                 earlier: None,
@@ -95,6 +98,18 @@ impl<A: Allocator + Copy> Client<A> {
             },
             reader: FrameReader::new(alloc),
         })
+    }
+
+    /// The same client with these limits of payloads. It has no connection yet: what comes on one is held to the limits with which
+    /// it began. A limit above the standard one is of use only if the servers' `jute.maxbuffer` is as high.
+    pub fn with_limits(self, limits: FrameLimits) -> Client<A>
+        requires { (view_of self).standing.state ≡ Idle }
+        ensures view { view_of result ≡ record (view_of self) { limits = limits } }
+        ensures stands { (start : Start) → Stands start [] (view_of self) → Stands (record start { limits = limits }) [] (view_of result) }
+    {
+        let Client { mut core, reader } = self;
+        core.limits = limits;
+        Client { core, reader }
     }
 
     /// Takes an input, and gives the outputs that it makes due, in order. A turn is by the rule, so that the client stands where
@@ -134,7 +149,7 @@ impl<A: Allocator + Copy> Client<A> {
     {
         one_turn();
         outputs.clear();
-        let taken = self.apply_input(input, outputs);
+        let taken = self.apply(Given::Input(input), outputs);
         if taken.is_err() {
             outputs.clear();
         }
@@ -153,7 +168,7 @@ impl<A: Allocator + Copy> Client<A> {
     {
         one_turn();
         outputs.clear();
-        let taken = self.tell_moment(now, outputs);
+        let taken = self.apply(Given::Input(Input::Now(now)), outputs);
         if taken.is_err() {
             outputs.clear();
         }
@@ -199,7 +214,7 @@ impl<A: Allocator + Copy> Client<A> {
         ensures halted { (view_of self.old).standing.halted ≡ true → IsErr result }
     {
         outputs.clear();
-        let taken = self.take_at(now, input, outputs);
+        let taken = self.take_at(now, Given::Input(input), outputs);
         if taken.is_err() {
             outputs.clear();
         }
@@ -223,7 +238,7 @@ impl<A: Allocator + Copy> Client<A> {
         ensures halted { (view_of self.old).standing.halted ≡ true → IsErr result }
     {
         outputs.clear();
-        let taken = self.take_bytes_at(now, bytes, outputs);
+        let taken = self.take_at(now, Given::Lent(bytes), outputs);
         if taken.is_err() {
             outputs.clear();
         }
@@ -238,113 +253,48 @@ impl<A: Allocator + Copy> Client<A> {
         self.reader.reserve(length)
     }
 
-    /// Takes the moment, and then an input, and adds the outputs that they make due to none.
+    /// Takes the moment, and then what is given, and adds the outputs that they make due to none.
     fn take_at(
         &mut self,
         now: u64,
-        input: Input<A>,
-        outputs: &mut Vec<Output<A>, A>,
-    ) -> Result<(), Halt>
-        requires { outputs.old.items ≡ [] }
-        ensures rule { OnOk result (RuleAt now (view_of self.old) (turn_of input outputs.new.items) (view_of self.new)) }
-        ensures stands { OnOk result ((start : Start) (items : List Item) → Stands start items (view_of self.old)
-            → StandsAt start items now (turn_of input outputs.new.items) (view_of self.new)) }
-        ensures typed { AsksOf IsTyped (input_view input) }
-        ensures quiet { IsQuietAt (view_of self.old) now (input_view input) → IsOk result }
-        ensures halt { OnErr result (HaltsAt now (view_of self.old) (view_of self.new)) }
-        ensures halted { (view_of self.old).standing.halted ≡ true → IsErr result }
-    {
-        one_turn();
-        known_of_input(&input);
-        self.tell_moment(now, outputs)?;
-        self.apply_input(input, outputs)?;
-        Ok(())
-    }
-
-    /// Takes the moment, and then bytes, and adds the outputs that they make due to none.
-    fn take_bytes_at(
-        &mut self,
-        now: u64,
-        bytes: &[u8],
+        given: Given<'_, A>,
         outputs: &mut Vec<Output<A>, A>,
     ) -> Result<(), Halt>
         requires { outputs.old.items ≡ [] }
         ensures rule { OnOk result
-            (RuleAt now (view_of self.old) (record { input = Bytes bytes.now; outputs = said outputs.new.items }) (view_of self.new)) }
+            (RuleAt now (view_of self.old) (record { input = given_view given.entry; outputs = said outputs.new.items })
+            (view_of self.new)) }
         ensures stands { OnOk result ((start : Start) (items : List Item) → Stands start items (view_of self.old)
-            → StandsAt start items now (record { input = Bytes bytes.now; outputs = said outputs.new.items }) (view_of self.new)) }
-        ensures quiet { IsQuietAt (view_of self.old) now (Bytes bytes.now) → IsOk result }
+            → StandsAt start items now (record { input = given_view given.entry; outputs = said outputs.new.items }) (view_of self.new)) }
+        ensures typed { AsksOf IsTyped (given_view given.entry) }
+        ensures quiet { IsQuietAt (view_of self.old) now (given_view given.entry) → IsOk result }
         ensures halt { OnErr result (HaltsAt now (view_of self.old) (view_of self.new)) }
         ensures halted { (view_of self.old).standing.halted ≡ true → IsErr result }
     {
-        one_turn();
-        self.tell_moment(now, outputs)?;
-        self.apply_bytes(bytes, outputs)
+        known_of_given(&given);
+        self.apply(Given::Input(Input::Now(now)), outputs)?;
+        self.apply(given, outputs)
     }
 
-    /// Takes the moment, and adds the outputs that it makes due, as [`apply_input`](Client::apply_input) does of [`Input::Now`].
-    fn tell_moment(&mut self, now: u64, outputs: &mut Vec<Output<A>, A>) -> Result<(), Halt>
+    /// Takes what is given, and adds the outputs that it makes due.
+    fn apply(&mut self, given: Given<'_, A>, outputs: &mut Vec<Output<A>, A>) -> Result<(), Halt>
         ensures rule { OnOk result
-            (Adds (view_of self.old) (Now now) (said outputs.old.items) (said outputs.new.items) (view_of self.new)) }
-        ensures quiet { IsQuiet (view_of self.old) (Now now) → IsOk result }
+            (Adds (view_of self.old) (given_view given.entry) (said outputs.old.items) (said outputs.new.items) (view_of self.new)) }
+        ensures typed { AsksOf IsTyped (given_view given.entry) }
+        ensures quiet { IsQuiet (view_of self.old) (given_view given.entry) → IsOk result }
         ensures halt { OnErr result (HaltsAs (view_of self.old) (view_of self.new)) }
         ensures halted { (view_of self.old).standing.halted ≡ true → IsErr result }
     {
         let state = self.core.session.state();
         let last = self.core.session.last_zxid();
+        known_of_given(&given);
         self.core.earlier = None;
         if self.core.halted {
+            drop(given);
             self.core.halt(state, last);
             return Err(Halt);
         }
-        let Ok(()) = notice_moment(&mut self.core, &mut self.reader, now, outputs) else {
-            self.core.halt(state, last);
-            return Err(Halt);
-        };
-        Ok(())
-    }
-
-    /// Takes an input, and adds the outputs that it makes due.
-    fn apply_input(&mut self, input: Input<A>, outputs: &mut Vec<Output<A>, A>) -> Result<(), Halt>
-        ensures rule { OnOk result
-            (Adds (view_of self.old) (input_view input) (said outputs.old.items) (said outputs.new.items) (view_of self.new)) }
-        ensures typed { AsksOf IsTyped (input_view input) }
-        ensures quiet { IsQuiet (view_of self.old) (input_view input) → IsOk result }
-        ensures halt { OnErr result (HaltsAs (view_of self.old) (view_of self.new)) }
-        ensures halted { (view_of self.old).standing.halted ≡ true → IsErr result }
-    {
-        let state = self.core.session.state();
-        let last = self.core.session.last_zxid();
-        known_of_input(&input);
-        self.core.earlier = None;
-        if self.core.halted {
-            drop(input);
-            self.core.halt(state, last);
-            return Err(Halt);
-        }
-        let Ok(()) = turn(&mut self.core, &mut self.reader, input, outputs) else {
-            self.core.halt(state, last);
-            return Err(Halt);
-        };
-        Ok(())
-    }
-
-    /// Takes bytes, and adds the outputs that they make due, as [`apply_input`](Client::apply_input) does of [`Input::Bytes`].
-    fn apply_bytes(&mut self, bytes: &[u8], outputs: &mut Vec<Output<A>, A>) -> Result<(), Halt>
-        ensures rule { OnOk result
-            (Adds (view_of self.old) (Bytes bytes.now) (said outputs.old.items) (said outputs.new.items) (view_of self.new)) }
-        ensures quiet { IsQuiet (view_of self.old) (Bytes bytes.now) → IsOk result }
-        ensures halt { OnErr result (HaltsAs (view_of self.old) (view_of self.new)) }
-        ensures halted { (view_of self.old).standing.halted ≡ true → IsErr result }
-    {
-        let state = self.core.session.state();
-        let last = self.core.session.last_zxid();
-        self.core.earlier = None;
-        if self.core.halted {
-            self.core.halt(state, last);
-            return Err(Halt);
-        }
-        let Ok(()) = receive_lent(&mut self.core, &mut self.reader, bytes, outputs) else {
+        let Ok(()) = turn(&mut self.core, &mut self.reader, given, outputs) else {
             self.core.halt(state, last);
             return Err(Halt);
         };
@@ -413,6 +363,13 @@ impl<A: Allocator + Copy> Client<A> {
         ensures { result ≡ side_has (view_of self.now).lists side path.now }
     {
         self.core.registry.contains(side, path.as_str())
+    }
+
+    /// How long payloads may be.
+    pub fn limits(&self) -> FrameLimits
+        ensures { result ≡ (view_of self.now).limits }
+    {
+        self.core.limits
     }
 
     /// How many calls wait for their replies: [`MOST_PENDING`](crate::MOST_PENDING) at most. It takes constant time.

@@ -119,6 +119,7 @@ impl<A: Allocator + Copy> Core<A> {
         ensures lists { OnOk result (self.new.registry ≡ no_lists) }
         ensures answers { OnOk result (self.new.cache ≡ no_answers) }
         ensures halted { self.new.halted ≡ self.old.halted }
+        ensures limits { self.new.limits ≡ self.old.limits }
         ensures says { OnOk result (said outputs.new.items ≡ said outputs.old.items ++ Enters State.Closed ∷ []) }
         ensures origin { origin self.new ≡ origin self.old }
     {

@@ -6,7 +6,7 @@ ghost use Rattle.zk_turns.specs.Rule.{IsOpen, after_signals, says_signals};
 ghost use Rattle.zk_client.specs.Views.{said};
 ghost use Rattle.zk_client.specs.Seen.{view_with};
 ghost use Rattle.zk_client.specs.inner.Seen.{origin};
-ghost use Rattle.zk_client.specs.Sound.{CoreIsSound, IsReading};
+ghost use Rattle.zk_client.specs.Sound.{CoreIsSound, IsReadingFor};
 
 use crate::fault::Fault;
 use crate::machine::Core;
@@ -22,10 +22,10 @@ pub(crate) fn receive_bytes<A: Allocator + Copy>(
     outputs: &mut Vec<Output<A>, A>,
 ) -> Result<(), AllocError>
     requires sound { CoreIsSound core.old }
-    requires reading { IsReading reader.old }
+    requires reading { IsReadingFor core.old reader.old }
     requires goes_on { core.old.halted ≡ false }
     ensures sound { OnOk result (CoreIsSound core.new) }
-    ensures reading { OnOk result (IsReading reader.new) }
+    ensures reading { OnOk result (IsReadingFor core.new reader.new) }
     ensures next { OnOk result
         (view_with reader.new.bytes core.new ≡ after_signals (view_with reader.old.bytes core.old) (map Comes piece.items)) }
     ensures says { OnOk result
@@ -54,10 +54,10 @@ pub(crate) fn receive_lent<A: Allocator + Copy>(
     outputs: &mut Vec<Output<A>, A>,
 ) -> Result<(), AllocError>
     requires sound { CoreIsSound core.old }
-    requires reading { IsReading reader.old }
+    requires reading { IsReadingFor core.old reader.old }
     requires goes_on { core.old.halted ≡ false }
     ensures sound { OnOk result (CoreIsSound core.new) }
-    ensures reading { OnOk result (IsReading reader.new) }
+    ensures reading { OnOk result (IsReadingFor core.new reader.new) }
     ensures next { OnOk result
         (view_with reader.new.bytes core.new ≡ after_signals (view_with reader.old.bytes core.old) (map Comes piece.now)) }
     ensures says { OnOk result
@@ -90,14 +90,14 @@ fn take_frames<A: Allocator + Copy>(
     requires up { IsOpen core.old.session.state }
     requires heard { core.old.session.moments.heard ≡ core.old.session.moments.now }
     ensures sound { OnOk result (CoreIsSound core.new) }
-    ensures reading { OnOk result (IsReading reader.new) }
+    ensures reading { OnOk result (IsReadingFor core.new reader.new) }
     ensures next { OnOk result (view_with reader.new.bytes core.new ≡ after_signals (view_with [] core.old) (map Comes reader.old.bytes)) }
     ensures says { OnOk result
         (said outputs.new.items ≡ said outputs.old.items ++ says_signals (view_with [] core.old) (map Comes reader.old.bytes)) }
     ensures origin { origin core.new ≡ origin core.old }
 {
     while core.session.state().is_open() {
-        match reader.next_frame() {
+        match reader.next_frame(core.longest()) {
             Ok(Some(payload)) => core.read_payload(payload, outputs)?,
             Ok(None) => return Ok(()),
             Err(fault) => {

@@ -23,3 +23,10 @@ pub enum Input<A: Allocator = Global> {
     /// A caller asks. The ticket is the caller's own number, and comes back with the answer.
     Call(u64, Call<A>),
 }
+
+/// What a client is given: an input, or bytes that are lent.
+#[derive(Drop)]
+pub(crate) enum Given<'a, A: Allocator> {
+    Input(Input<A>),
+    Lent(&'a [u8]),
+}

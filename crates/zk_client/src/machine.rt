@@ -4,6 +4,7 @@ ghost use Rattle.std.specs.Prelude.{◌≡◌, ◌≤ℤ◌, ℕ, List, ◌∷�
 ghost use Rattle.zk_watches.specs.Lists.{no_lists};
 ghost use Rattle.zk_cache.specs.Cache.{no_answers, with_good};
 ghost use Rattle.zk_turns.specs.Rule.{forgotten};
+ghost use Rattle.zk_turns.specs.Taken.{longest};
 ghost use Rattle.zk_client.specs.Views.{said, output_view};
 ghost use Rattle.zk_client.specs.Seen.{cache_of, view_with};
 ghost use Rattle.zk_client.specs.inner.Seen.{origin, origin_of};
@@ -12,6 +13,8 @@ use crate::output::Output;
 use std::alloc::{AllocError, Allocator};
 use zk_cache::Cache;
 use zk_conversation::Conversation;
+use zk_frames::FrameLimits;
+use zk_limits::LONGEST_INCOMING;
 use zk_session::{Session, State};
 use zk_watches::Registry;
 
@@ -20,6 +23,8 @@ use zk_watches::Registry;
 #[derive(Drop)]
 pub(crate) struct Core<A: Allocator + Copy> {
     pub(crate) alloc: A,
+    /// How long payloads may be.
+    pub(crate) limits: FrameLimits,
     pub(crate) halted: bool,
     pub(crate) session: Session<A>,
     /// The session as it stood before this step had another one accepted.
@@ -30,6 +35,16 @@ pub(crate) struct Core<A: Allocator + Copy> {
 }
 
 impl<A: Allocator + Copy> Core<A> {
+    /// How many bytes a payload that comes may have.
+    pub(crate) fn longest(&self) -> usize
+        ensures { result ≡ longest self.now.limits self.now.session.state }
+    {
+        match self.session.state() {
+            State::Connected => self.limits.incoming,
+            _ => LONGEST_INCOMING,
+        }
+    }
+
     /// Memory was refused. Nothing is kept any more, and the session is told as this state, this zxid and what stood when the
     /// step began.
     pub(crate) fn halt(&mut self, state: State, last_zxid: i64)

@@ -7,59 +7,63 @@ ghost use Rattle.zk_turns.specs.Past.{is_final};
 ghost use Rattle.zk_turns.specs.Ranges.{IsTyped, AsksOf};
 ghost use Rattle.zk_turns.specs.Taken.{NothingIsDue};
 ghost use Rattle.zk_turns.specs.Rule.{IsOpen, after_signals, says_signals};
-ghost use Rattle.zk_client.specs.Views.{said, input_view};
+ghost use Rattle.zk_client.specs.Views.{said};
+ghost use Rattle.zk_client.specs.inner.Given.{given_view};
 ghost use Rattle.zk_client.specs.Seen.{view_with};
 ghost use Rattle.zk_client.specs.inner.Seen.{origin};
-ghost use Rattle.zk_client.specs.Sound.{CoreIsSound, IsReading};
+ghost use Rattle.zk_client.specs.Sound.{CoreIsSound, IsReadingFor};
 ghost use Rattle.zk_client.specs.Steps.{IsQuiet};
 
 use crate::calls::known_of_call;
 use crate::fault::Fault;
-use crate::frames::receive_bytes;
-use crate::input::Input;
+use crate::frames::{receive_bytes, receive_lent};
+use crate::input::{Given, Input};
 use crate::machine::Core;
 use crate::output::Output;
 use std::alloc::{AllocError, Allocator};
 use zk_frames::FrameReader;
 use zk_session::{Due, State};
 
-/// Says of the call in an input, if there is one, what its type makes sure of. It is called for its clauses; the number, the length of the
-/// path, is of no use.
-pub(crate) fn known_of_input<A: Allocator + Copy>(input: &Input<A>) -> usize
-    ensures asked { IsAsked (input_view input.now) }
-    ensures typed { AsksOf IsTyped (input_view input.now) }
+/// Says of the call in what is given, if there is one, what its type makes sure of. It is called for its clauses; the number, the length of
+/// the path, is of no use.
+pub(crate) fn known_of_given<A: Allocator + Copy>(given: &Given<'_, A>) -> usize
+    ensures asked { IsAsked (given_view given.now) }
+    ensures typed { AsksOf IsTyped (given_view given.now) }
 {
-    match input {
-        Input::Call(_, call) => known_of_call(call),
+    match given {
+        Given::Input(Input::Call(_, call)) => known_of_call(call),
         _ => 0,
     }
 }
 
-/// Takes an input.
+/// Takes what is given.
 pub(crate) fn turn<A: Allocator + Copy>(
     core: &mut Core<A>,
     reader: &mut FrameReader<A>,
-    input: Input<A>,
+    given: Given<'_, A>,
     outputs: &mut Vec<Output<A>, A>,
 ) -> Result<(), AllocError>
     requires sound { CoreIsSound core.old }
-    requires reading { IsReading reader.old }
+    requires reading { IsReadingFor core.old reader.old }
     requires goes_on { core.old.halted ≡ false }
     ensures sound { OnOk result (CoreIsSound core.new) }
-    ensures reading { OnOk result (IsReading reader.new) }
+    ensures reading { OnOk result (IsReadingFor core.new reader.new) }
     ensures next { OnOk result
-        (view_with reader.new.bytes core.new ≡ after_signals (view_with reader.old.bytes core.old) (signals_of (input_view input))) }
+        (view_with reader.new.bytes core.new ≡ after_signals (view_with reader.old.bytes core.old) (signals_of (given_view given.entry))) }
     ensures says { OnOk result (said outputs.new.items
-        ≡ said outputs.old.items ++ says_signals (view_with reader.old.bytes core.old) (signals_of (input_view input))) }
-    ensures quiet { IsQuiet (view_with reader.old.bytes core.old) (input_view input) → IsOk result }
+        ≡ said outputs.old.items ++ says_signals (view_with reader.old.bytes core.old) (signals_of (given_view given.entry))) }
+    ensures quiet { IsQuiet (view_with reader.old.bytes core.old) (given_view given.entry) → IsOk result }
     ensures origin { origin core.new ≡ origin core.old }
 {
-    match input {
-        Input::Opened => opened(core, reader, outputs),
-        Input::Bytes(piece) => receive_bytes(core, reader, piece, outputs),
-        Input::Cut => cut(core, reader, outputs),
-        Input::Now(moment) => notice_moment(core, reader, moment, outputs),
-        Input::Call(ticket, call) => core.ask(ticket, call, outputs),
+    match given {
+        Given::Lent(piece) => receive_lent(core, reader, piece, outputs),
+        Given::Input(input) => match input {
+            Input::Opened => opened(core, reader, outputs),
+            Input::Bytes(piece) => receive_bytes(core, reader, piece, outputs),
+            Input::Cut => cut(core, reader, outputs),
+            Input::Now(moment) => notice_moment(core, reader, moment, outputs),
+            Input::Call(ticket, call) => core.ask(ticket, call, outputs),
+        },
     }
 }
 
@@ -70,10 +74,10 @@ fn opened<A: Allocator + Copy>(
     outputs: &mut Vec<Output<A>, A>,
 ) -> Result<(), AllocError>
     requires sound { CoreIsSound core.old }
-    requires reading { IsReading reader.old }
+    requires reading { IsReadingFor core.old reader.old }
     requires goes_on { core.old.halted ≡ false }
     ensures sound { OnOk result (CoreIsSound core.new) }
-    ensures reading { OnOk result (IsReading reader.new) }
+    ensures reading { OnOk result (IsReadingFor core.new reader.new) }
     ensures next { OnOk result (view_with reader.new.bytes core.new ≡ after_signals (view_with reader.old.bytes core.old) (Opens ∷ [])) }
     ensures says { OnOk result
         (said outputs.new.items ≡ said outputs.old.items ++ says_signals (view_with reader.old.bytes core.old) (Opens ∷ [])) }
@@ -101,10 +105,10 @@ fn cut<A: Allocator + Copy>(
     outputs: &mut Vec<Output<A>, A>,
 ) -> Result<(), AllocError>
     requires sound { CoreIsSound core.old }
-    requires reading { IsReading reader.old }
+    requires reading { IsReadingFor core.old reader.old }
     requires goes_on { core.old.halted ≡ false }
     ensures sound { OnOk result (CoreIsSound core.new) }
-    ensures reading { OnOk result (IsReading reader.new) }
+    ensures reading { OnOk result (IsReadingFor core.new reader.new) }
     ensures next { OnOk result (view_with reader.new.bytes core.new ≡ after_signals (view_with reader.old.bytes core.old) (Cuts ∷ [])) }
     ensures says { OnOk result
         (said outputs.new.items ≡ said outputs.old.items ++ says_signals (view_with reader.old.bytes core.old) (Cuts ∷ [])) }
@@ -118,18 +122,18 @@ fn cut<A: Allocator + Copy>(
     core.lose(outputs)
 }
 
-/// The moment is told. Where nothing is due, no memory is taken.
-pub(crate) fn notice_moment<A: Allocator + Copy>(
+// The moment is told. Where nothing is due, no memory is taken.
+fn notice_moment<A: Allocator + Copy>(
     core: &mut Core<A>,
     reader: &mut FrameReader<A>,
     moment: u64,
     outputs: &mut Vec<Output<A>, A>,
 ) -> Result<(), AllocError>
     requires sound { CoreIsSound core.old }
-    requires reading { IsReading reader.old }
+    requires reading { IsReadingFor core.old reader.old }
     requires goes_on { core.old.halted ≡ false }
     ensures sound { OnOk result (CoreIsSound core.new) }
-    ensures reading { OnOk result (IsReading reader.new) }
+    ensures reading { OnOk result (IsReadingFor core.new reader.new) }
     ensures next { OnOk result
         (view_with reader.new.bytes core.new ≡ after_signals (view_with reader.old.bytes core.old) (Ticks moment ∷ [])) }
     ensures says { OnOk result

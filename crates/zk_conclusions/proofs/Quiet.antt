@@ -21,7 +21,8 @@ use Rattle.zk_turns.specs.Past.{Past, Happening, Began, Came, Took, Dropped, Los
 use Rattle.zk_turns.specs.Past.{Accepted, Expiry, Replies, Watches_set, Notifies, Pong, Skipped, Ends, Nothing, is_good, good_answer}
 use Rattle.zk_turns.specs.Past.{kept_by, kept_data, kept_names, state_of, has_halted, session_of}
 use Rattle.zk_turns.specs.View.{View, Cache, view_at}
-use Rattle.zk_turns.specs.Taken.{caused, happenings, opens, of_cutting, cut, Cutting, Unfinished, Bad, Payload, refusal, joined, past_after}
+use Rattle.zk_turns.specs.Taken.{longest_of, caused, happenings, opens, of_cutting, cut, Cutting, Unfinished, Bad, Payload, refusal, joined}
+use Rattle.zk_turns.specs.Taken.{past_after}
 use Rattle.zk_turns.specs.Taken.{past_of, comes}
 use Rattle.zk_turns.specs.Rule.{says, loss, report, due_happenings, due_signals, AllSaid, Stands}
 use Rattle.zk_turns.proofs.Cases.{by_cond, by_open, by_due}
@@ -242,7 +243,7 @@ module _ (start : Start) where
   caused_is : (view : View) (signal : Signal) → IsInput signal → AreNoHalts (caused view signal)
   caused_is view Opens i = opens_is view.standing.state
   caused_is view (Comes byte) i =
-      by_open AreNoHalts view.standing.state (comes view byte) tt (tt, cutting_is view (cut (view.held ++ byte ∷ [])))
+      by_open AreNoHalts view.standing.state (comes view byte) tt (tt, cutting_is view (cut (longest_of view) (view.held ++ byte ∷ [])))
   caused_is view Cuts i = by_open AreNoHalts view.standing.state (Lost ∷ []) tt (tt, tt)
   caused_is view (Ticks moment) i = (tt, by_open AreNoHalts view.standing.state _ tt (by_due AreNoHalts view _ (tt, tt) (tt, tt) tt))
   caused_is view (Calls ticket call) i = call_is ticket call (refusal view call)

@@ -2,7 +2,7 @@
 use Rattle.std.specs.Prelude.{ℕ, ◌≤◌, ◌<◌, ◌^◌, ◌≡◌, List, length, filter}
 use Rattle.zk_nodes.specs.declared.side.Side.TheVariants.{Data, Child}
 use Rattle.zk_conversation.specs.declared.counts.Counts.{Counts}
-use Rattle.zk_conversation.specs.Pending.{Pending, is_close, closes, calls_pending, watches_pending}
+use Rattle.zk_conversation.specs.Pending.{Pending, is_close, calls_pending, watches_pending}
 use Rattle.zk_limits.specs.declared.limits.TheConstants.{MOST_PENDING}
 
 abbrev pub counts_of : List Pending → Counts

@@ -13,7 +13,6 @@ use crate::question::Question;
 use crate::raw::RawOperation;
 use std::alloc::{AllocError, Allocator, Global};
 use zk_jute::{BytesRef, Nothing};
-use zk_limits::LONGEST_OUTGOING;
 use zk_nodes::Path;
 use zk_records::{CreateRequestRef, DeleteRef, Operation, ReadRequestRef, SetDataRef};
 
@@ -144,7 +143,7 @@ impl<A: Allocator + Copy> Call<A> {
     /// The frame of its request.
     #[tactic(auto, unfolding(crate::specs::Calls::call_payload))]
     pub(crate) fn frame(&self, alloc: A, xid: i32) -> Result<Vec<u8, A>, AllocError>
-        requires { length (call_payload xid (call_view self.now)) ≤ LONGEST_OUTGOING }
+        requires { length (call_payload xid (call_view self.now)) < 2 ^ 30 }
         ensures { IfOk result (λ out. out.items ≡ frame (call_payload xid (call_view self.now))) }
     {
         let room = 4 + self.payload_length();

@@ -185,11 +185,11 @@ impl<A: Allocator + Copy> Conversation<A> {
         Ok(self.send(ticket, call)?)
     }
 
-    /// Asks as [`ask`](Conversation::ask) does, for a caller that has seen that the call may be sent. Fails for memory alone,
-    /// and the conversation is as it was then.
+    /// Asks as [`ask`](Conversation::ask) does, for a caller that has seen that the call may be sent: the limit of its payload is
+    /// the caller's. Fails for memory alone, and the conversation is as it was then.
     pub fn send(&mut self, ticket: u64, call: Call<A>) -> Result<Asked<A>, AllocError>
         requires talking { self.old.phase ≡ Phase.Talking }
-        requires fits { length (call_payload (pos self.old.xid) (call_view call)) ≤ LONGEST_OUTGOING }
+        requires fits { length (call_payload (pos self.old.xid) (call_view call)) < 2 ^ 30 }
         requires few { calls_pending self.old.pending < MOST_PENDING }
         ensures frame { IfOk result (λ asked. asked.frame.items ≡ frame (call_payload (pos self.old.xid) (call_view call))) }
         ensures xid { IfOk result (λ asked. asked.xid ≡ pos self.old.xid) }

@@ -21,7 +21,7 @@ use Rattle.zk_turns.specs.Taken.{refusal, refusal_when_connected, is_full_on, ha
 use Rattle.zk_turns.specs.Rule.{next, after_all, says_all, Rule}
 use Rattle.zk_turns.proofs.Cases.{by_cond}
 use Rattle.zk_turns.proofs.Words.{refusal_in, calls}
-use Rattle.zk_limits.specs.declared.limits.TheConstants.{LONGEST_OUTGOING, MOST_PENDING}
+use Rattle.zk_limits.specs.declared.limits.TheConstants.{MOST_PENDING}
 use Rattle.zk_follow.specs.declared.reads.TheConstants.{MOST_READS}
 use Rattle.zk_follow.specs.declared.subject.Subject.{Subject}
 use Rattle.zk_follow.specs.declared.progress.Progress.{Progress}
@@ -48,13 +48,13 @@ OfRefusal view (Some why) = IsDenial view why
 
 of_refusal : (view : View) (call : Asked_call) → OfRefusal view (refusal_when_connected view call)
 of_refusal view call =
-    let large : Option Outcome = cond (nat_lt LONGEST_OUTGOING (length (call_payload (pos view.xid) call))) (Some TooLarge) None in
+    let large : Option Outcome = cond (nat_lt view.limits.outgoing (length (call_payload (pos view.xid) call))) (Some TooLarge) None in
     let watches : Option Outcome = cond (is_full_on view (watched_side (question_of call))) (Some TooManyWatches) large in
     let pending : Option Outcome = cond (nat_le MOST_PENDING (calls_pending view.pending)) (Some TooManyPending) watches in
     by_cond (OfRefusal view) (is_close_pending view.pending) (Some SessionClosed) pending tt
     (by_test (nat_le MOST_PENDING (calls_pending view.pending)) watches refl
     (by_cond (OfRefusal view) (is_full_on view (watched_side (question_of call))) (Some TooManyWatches) large tt
-    (by_cond (OfRefusal view) (nat_lt LONGEST_OUTGOING (length (call_payload (pos view.xid) call))) (Some TooLarge) None tt tt)))
+    (by_cond (OfRefusal view) (nat_lt view.limits.outgoing (length (call_payload (pos view.xid) call))) (Some TooLarge) None tt tt)))
   where
     by_test : (b : Bool) (rest : Option Outcome)
         → nat_le MOST_PENDING (calls_pending view.pending) ≡ b → OfRefusal view rest → OfRefusal view (cond b (Some TooManyPending) rest)

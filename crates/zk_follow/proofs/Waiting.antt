@@ -19,7 +19,8 @@ use Rattle.zk_turns.specs.Turns.{Outcome, Behind, WatchesRefused, Signal, Opens,
 use Rattle.zk_turns.specs.Turns.{Bytes, Cut, Now, Call, Output, Answer, Enters, Turn, signals_of}
 use Rattle.zk_turns.specs.Past.{Happening, Began, Came, Took, Dropped, Lost, Asked, Ticked, Halted, Accepted, Expiry, Replies, Watches_set}
 use Rattle.zk_turns.specs.View.{View}
-use Rattle.zk_turns.specs.Taken.{phase_of, taken_of, welcome_by, reading, leaves_watch, refusal, caused, happenings, opens, of_cutting, cut}
+use Rattle.zk_turns.specs.Taken.{longest_of, phase_of, taken_of, welcome_by, reading, leaves_watch, refusal, caused, happenings, opens}
+use Rattle.zk_turns.specs.Taken.{of_cutting, cut}
 use Rattle.zk_turns.specs.Taken.{Cutting, Unfinished, Bad, Payload, comes}
 use Rattle.zk_turns.specs.Rule.{next, says, loss, losses, after_all, says_all, after_signals, says_signals, Rule}
 use Rattle.zk_turns.proofs.Arriving.{First, IsOf, AreOf, of_arriving}
@@ -197,7 +198,8 @@ IsGiven _ = Unit {0}
 caused_fit : (view : View) (signal : Signal) → IsGiven signal → AllFit view (caused view signal)
 caused_fit view Opens given = opens_fit view view.standing.state
 caused_fit view (Comes byte) given =
-    by_open (AllFit view) view.standing.state (comes view byte) tt (tt, cutting_fits view (cut (view.held ++ byte ∷ [])) byte)
+    by_open (AllFit view) view.standing.state (comes view byte) tt
+    (tt, cutting_fits view (cut (longest_of view) (view.held ++ byte ∷ [])) byte)
 caused_fit view Cuts given = by_open (AllFit view) view.standing.state (Lost ∷ []) tt (tt, tt)
 caused_fit view (Ticks moment) given = (
   tt,

@@ -2,6 +2,7 @@
 pub mod Frame
 pub mod FaultText
 pub mod Held
+pub mod Limits
 pub mod Next
 pub mod Stream
 pub mod inner

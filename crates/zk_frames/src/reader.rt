@@ -10,14 +10,13 @@ ghost use Rattle.zk_frames.specs.inner.Next.{ReadsLength};
 use crate::FrameFault;
 use std::alloc::{AllocError, Allocator};
 use std::marker::Model;
-use zk_limits::LONGEST_INCOMING;
 
 /// Cuts a stream into frames. It holds what was fed and not yet given, or, once a length was wrong, that fault alone.
 ///
 /// It is one vector and a place in it: [`next_frame`](FrameReader::next_frame) only moves the place, and
 /// [`feed`](FrameReader::feed) and [`adopt`](FrameReader::adopt) let go what was given before they take a piece. So where
 /// all frames are asked for after each piece, no byte moves more than once, none of a piece that was adopted where nothing
-/// was held, and fewer than 4,194,308 bytes and the last piece are in memory.
+/// was held, and besides the last piece less than a frame of the longest payload is in memory.
 #[derive(Drop)]
 pub struct FrameReader<A: Allocator> {
     // What lies before the place was given.
@@ -99,18 +98,17 @@ impl<A: Allocator> FrameReader<A> {
         Ok(())
     }
 
-    /// Lends the next frame's payload, where all of the frame is there. A length below 0 or above
-    /// [`LONGEST_INCOMING`] is a fault as soon as its four bytes are there; from then on nothing is held, and that fault
-    /// is answered until the reader is reset.
+    /// Lends the next frame's payload, if all of the frame is there. A length below 0 or above `most` is a fault as soon
+    /// as its four bytes are there; from then on nothing is held, and that fault is answered until the reader is reset.
     ///
     /// The payload is lent until the reader is used again: a caller that keeps it over the next call doesn't compile.
-    pub fn next_frame(&mut self) -> Result<Option<&[u8]>, FrameFault>
-        ensures* after { sem 𝓛 (Rests (the_row A.row A.Allocator) self.entry (λ new. AnswersNext self.old result new)) }
+    pub fn next_frame(&mut self, most: usize) -> Result<Option<&[u8]>, FrameFault>
+        ensures* after { sem 𝓛 (Rests (the_row A.row A.Allocator) self.entry (λ new. AnswersNext most self.old result new)) }
     {
         if let Some(fault) = self.fault {
             return Err(fault);
         }
-        match first_length(&self.bytes[self.place..]) {
+        match first_length(&self.bytes[self.place..], most) {
             Ok(None) => Ok(None),
             Ok(Some(length)) => {
                 let held = &self.bytes[self.place..];
@@ -128,8 +126,8 @@ impl<A: Allocator> FrameReader<A> {
 }
 
 // The length of the payload that stands first, where all of its frame is there.
-fn first_length(held: &[u8]) -> Result<Option<usize>, FrameFault>
-    ensures { ReadsLength held.now result }
+fn first_length(held: &[u8], most: usize) -> Result<Option<usize>, FrameFault>
+    ensures { ReadsLength most held.now result }
 {
     let Some((field, rest)) = held.split_first_chunk::<4>() else {
         return Ok(None);
@@ -139,7 +137,7 @@ fn first_length(held: &[u8]) -> Result<Option<usize>, FrameFault>
         return Err(FrameFault::Negative);
     }
     let length = length as usize;
-    if length > LONGEST_INCOMING {
+    if length > most {
         return Err(FrameFault::TooLong);
     }
     if rest.len() < length {

@@ -6,7 +6,6 @@ use Rattle.std.specs.List.{AllByRecursion}
 use Rattle.std.proofs.lemmas.Int.{ints}
 use Rattle.zk_jute.specs.Layout.{Layout, Value}
 use Rattle.zk_jute.specs.Reading.{reading}
-use Rattle.zk_jute.specs.Spelling.{Fits}
 use Rattle.zk_records.specs.Layouts.{connect_request}
 use Rattle.zk_records.specs.Operations.{operation_number, request_layout}
 use Rattle.zk_records.specs.declared.operation.Operation.TheVariants.{SetWatches, Ping as Pings}

@@ -44,7 +44,6 @@ use Rattle.zk_laws.specs.Server.{Notice as Notified}
 use Rattle.zk_laws.specs.Messages.{Accepted, Expired, Replies, Watches_set, Notifies, Pong, from_zero}
 use Rattle.zk_laws.specs.Server.{HasCode}
 use Rattle.zk_turns.proofs.Words.{happening_of}
-use Rattle.zk_limits.specs.declared.limits.TheConstants.{LONGEST_INCOMING}
 
 -- ---- cutting
 
@@ -57,33 +56,34 @@ payload_by bytes p n false false true e f = ((Decides-eqb (length bytes) (4 + n)
 payload_by bytes p n false false false e f = absurd cc
 
 -- a payload is what follows a length
-cut_payload : (bytes p : List ℕ) → cut bytes ≡ Payload p → (4 ≤ length bytes) × (length bytes ≡ 4 + length_field bytes) × (p ≡ drop 4 bytes)
-cut_payload bytes p e = elim (cases_lt (length bytes) 4) [
-  | inl short ↦ absurd (let f = cut_short bytes short in cc)
+cut_payload : (most : ℕ) (bytes p : List ℕ) → cut most bytes ≡ Payload p
+    → (4 ≤ length bytes) × (length bytes ≡ 4 + length_field bytes) × (p ≡ drop 4 bytes)
+cut_payload most bytes p e = elim (cases_lt (length bytes) 4) [
+  | inl short ↦ absurd (let f = cut_short most bytes short in cc)
   | inr there ↦
-      let f : cut_at (length_field bytes) bytes ≡ Payload p = sym (cut_there bytes there) ∙ e in
-      let r = payload_by bytes p (length_field bytes) (leb (2 ^ 31) (length_field bytes)) (ltb LONGEST_INCOMING (length_field bytes))
+      let f : cut_at most (length_field bytes) bytes ≡ Payload p = sym (cut_there most bytes there) ∙ e in
+      let r = payload_by bytes p (length_field bytes) (leb (2 ^ 31) (length_field bytes)) (ltb most (length_field bytes))
       (eqb (length bytes) (4 + length_field bytes)) refl f in
       (there, r.0, r.1)
 ]
 
-bad_by : (bytes : List ℕ) (fault : FrameFault) (n : ℕ) (a b c : Bool) → leb (2 ^ 31) n ≡ a → ltb LONGEST_INCOMING n ≡ b
+bad_by : (most : ℕ) (bytes : List ℕ) (fault : FrameFault) (n : ℕ) (a b c : Bool) → leb (2 ^ 31) n ≡ a → ltb most n ≡ b
     → cond a (Bad Negative) (cond b (Bad TooLong) (cond c (Payload (drop 4 bytes)) Unfinished)) ≡ Bad fault
-    → (2 ^ 31 ≤ n) ⊎ ((fault ≡ TooLong) × (LONGEST_INCOMING < n))
-bad_by bytes fault n true b c e l f = elim (leb_tells (2 ^ 31) n) [ inl t ↦ inl t.1 | inr t ↦ absurd (let g = t.0 in cc) ]
-bad_by bytes fault n false true c e l f =
-    elim (cases_lt LONGEST_INCOMING n) [ inl lt ↦ inr (cc, lt) | inr le ↦ absurd (let g = le-ltb LONGEST_INCOMING n le in cc) ]
-bad_by bytes fault n false false true e l f = absurd cc
-bad_by bytes fault n false false false e l f = absurd cc
+    → (2 ^ 31 ≤ n) ⊎ ((fault ≡ TooLong) × (most < n))
+bad_by most bytes fault n true b c e l f = elim (leb_tells (2 ^ 31) n) [ inl t ↦ inl t.1 | inr t ↦ absurd (let g = t.0 in cc) ]
+bad_by most bytes fault n false true c e l f =
+    elim (cases_lt most n) [ inl lt ↦ inr (cc, lt) | inr le ↦ absurd (let g = le-ltb most n le in cc) ]
+bad_by most bytes fault n false false true e l f = absurd cc
+bad_by most bytes fault n false false false e l f = absurd cc
 
-cut_bad : (bytes : List ℕ) (fault : FrameFault) → cut bytes ≡ Bad fault
-    → (4 ≤ length bytes) × ((2 ^ 31 ≤ length_field bytes) ⊎ ((fault ≡ TooLong) × (LONGEST_INCOMING < length_field bytes)))
-cut_bad bytes fault e = elim (cases_lt (length bytes) 4) [
-  | inl short ↦ absurd (let f = cut_short bytes short in cc)
+cut_bad : (most : ℕ) (bytes : List ℕ) (fault : FrameFault) → cut most bytes ≡ Bad fault
+    → (4 ≤ length bytes) × ((2 ^ 31 ≤ length_field bytes) ⊎ ((fault ≡ TooLong) × (most < length_field bytes)))
+cut_bad most bytes fault e = elim (cases_lt (length bytes) 4) [
+  | inl short ↦ absurd (let f = cut_short most bytes short in cc)
   | inr there ↦
-      let f : cut_at (length_field bytes) bytes ≡ Bad fault = sym (cut_there bytes there) ∙ e in (
+      let f : cut_at most (length_field bytes) bytes ≡ Bad fault = sym (cut_there most bytes there) ∙ e in (
         there,
-        bad_by bytes fault (length_field bytes) (leb (2 ^ 31) (length_field bytes)) (ltb LONGEST_INCOMING (length_field bytes))
+        bad_by most bytes fault (length_field bytes) (leb (2 ^ 31) (length_field bytes)) (ltb most (length_field bytes))
             (eqb (length bytes) (4 + length_field bytes)) refl refl f,
       )
 ]
@@ -110,10 +110,10 @@ split_at (x ∷ a) b (y ∷ c) d e l =
     ((λ i. h i ∷ r.0 i), r.1)
 
 -- The payload that is cut off is the first one's, and the frames of the others are left.
-pub taken_first : (held coming payload more p : List ℕ)
-    → length payload < 2 ^ 31 → held ++ coming ≡ frame payload ++ more → cut held ≡ Payload p → (p ≡ payload) × (coming ≡ more)
-taken_first held coming payload more p low e c =
-    let t = cut_payload held p c in
+pub taken_first : (most : ℕ) (held coming payload more p : List ℕ)
+    → length payload < 2 ^ 31 → held ++ coming ≡ frame payload ++ more → cut most held ≡ Payload p → (p ≡ payload) × (coming ≡ more)
+taken_first most held coming payload more p low e c =
+    let t = cut_payload most held p c in
     let there : 4 ≤ length held = t.0 in
     let len : length held ≡ 4 + length_field held = t.1 in
     let f = first_field held coming payload more low there e in
@@ -122,19 +122,19 @@ taken_first held coming payload more p low e c =
     (t.2 ∙ ap (λ l. drop 4 l) s.0 ∙ drop-frame payload, s.1)
 
 -- No length is negative, and one that is refused is the first payload's and above the limit.
-pub first_too_long : (held coming payload more : List ℕ) (fault : FrameFault)
-    → length payload < 2 ^ 31 → held ++ coming ≡ frame payload ++ more → cut held ≡ Bad fault
-    → (fault ≡ TooLong) × (LONGEST_INCOMING < length payload) × (length_field held ≡ length payload)
-first_too_long held coming payload more fault low e c =
-    let t = cut_bad held fault c in
+pub first_too_long : (most : ℕ) (held coming payload more : List ℕ) (fault : FrameFault)
+    → length payload < 2 ^ 31 → held ++ coming ≡ frame payload ++ more → cut most held ≡ Bad fault
+    → (fault ≡ TooLong) × (most < length payload) × (length_field held ≡ length payload)
+first_too_long most held coming payload more fault low e c =
+    let t = cut_bad most held fault c in
     let there : 4 ≤ length held = t.0 in
     let f = first_field held coming payload more low there e in
-    elim t.1 [ inl high ↦ absurd (omega arith) | inr is ↦ (is.0, subst (λ n. LONGEST_INCOMING < n) f is.1, f) ]
+    elim t.1 [ inl high ↦ absurd (omega arith) | inr is ↦ (is.0, subst (λ n. most < n) f is.1, f) ]
 
 -- nothing is cut off where nothing is sent
-pub none_cut : (held coming : List ℕ) (c : Cutting) → held ++ coming ≡ [] → cut held ≡ c → c ≡ Unfinished
-none_cut [] coming c e f = sym f ∙ cut_short [] (omega arith)
-none_cut (x ∷ held) coming c e f = absurd cc
+pub none_cut : (most : ℕ) (held coming : List ℕ) (c : Cutting) → held ++ coming ≡ [] → cut most held ≡ c → c ≡ Unfinished
+none_cut most [] coming c e f = sym f ∙ cut_short most [] (omega arith)
+none_cut most (x ∷ held) coming c e f = absurd cc
 
 -- ---- readings
 

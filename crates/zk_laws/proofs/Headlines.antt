@@ -3,7 +3,7 @@ use Rattle.zk_laws.proofs.Outputs.{among_split, given_answers, given_drops}
 use Rattle.zk_laws.proofs.Matching.{AllAsked}
 use Rattle.zk_turns.specs.Rule.{Stands, IsOpen}
 use Rattle.zk_laws.specs.Laws.{IsTrueWrite, AreRestored}
-use Rattle.zk_laws.specs.Headline.{Headline, IsTrueOf, IsCoherentWith, IsQuietAt, tree_of}
+use Rattle.zk_laws.specs.Headline.{Headline, IsTrueOf, IsCoherentWith, IsQuietAt, IsTooLongFor, tree_of}
 use Rattle.zk_conversation.specs.Questions.{question_of, Question}
 use Rattle.zk_conversation.specs.Calls.{Call, call_payload, ping_payload}
 use Rattle.zk_nodes.specs.Path.{Text, path_of}
@@ -24,9 +24,9 @@ use Rattle.std.proofs.lemmas.List.{length-append, map-append}
 use Rattle.zk_conversation.specs.Results.{Result}
 use Rattle.zk_frames.specs.declared.fault.FrameFault.TheVariants.{TooLong}
 use Rattle.zk_nodes.specs.declared.side.Side.TheVariants.{Data, Child}
-use Rattle.zk_frames.specs.Frame.{frame}
+use Rattle.zk_frames.specs.Frame.{frame, length_field}
 use Rattle.zk_turns.specs.View.{View}
-use Rattle.zk_turns.specs.Taken.{past_of}
+use Rattle.zk_turns.specs.Taken.{past_of, longest}
 use Rattle.zk_turns.specs.Sent.{sends, outputs_of}
 use Rattle.zk_turns.proofs.Frames_sent.{sent, part_of}
 use Rattle.zk_turns.proofs.Pieces.{length-frame}
@@ -47,7 +47,6 @@ use Rattle.zk_laws.proofs.Matching.{connection, InFlight, Matches}
 use Rattle.zk_laws.proofs.Reaching.{reached_kept}
 use Rattle.zk_laws.proofs.Resumed.{replies_above}
 use Rattle.zk_laws.proofs.Moving.{schedule_here}
-use Rattle.zk_limits.specs.declared.limits.TheConstants.{LONGEST_INCOMING}
 
 -- ---- what is good
 
@@ -264,7 +263,7 @@ module _ (h : History) (is : IsHistory h) (start : Start) where
       write_before h since ticket q z r before (subst (λ p. WritesAreTrue h p) e (true_writes items asked served))
 
   pub due_drops : (items : List Item) → AllAsked items → (served : Served h start items)
-      → DropsAreDue (WasSent served.entries) (past_of start items)
+      → DropsAreDue start (WasSent served.entries) (past_of start items)
   due_drops items asked served = (served_sim items asked served).calm.0
 
   pub above_saved : (items : List Item) → AllAsked items → Served h start items
@@ -298,18 +297,19 @@ module _ (h : History) (is : IsHistory h) (start : Start) where
 
   -- the reason of a drop
   abbrev Due : (List ℕ → Type 0) → Fault → Type 0
-  Due Was fault = (fault ≡ Silent) ⊎ ((fault ≡ Framed TooLong) × ((payload : List ℕ) × Was payload × (LONGEST_INCOMING < length payload)))
+  Due Was fault = (fault ≡ Silent) ⊎ ((fault ≡ Framed TooLong) × ((payload : List ℕ) × Was payload × IsTooLongFor start.limits payload))
 
   due_head : (Was : List ℕ → Type 0) (fault : Fault) (x : Happening) (past : Past)
-      → Dropped fault ≡ x → DropsAreDue Was (x ∷ past) → Due Was fault
+      → Dropped fault ≡ x → DropsAreDue start Was (x ∷ past) → Due Was fault
   due_head Was fault x past e c =
-      elim ((subst (λ y. DropsAreDue Was (y ∷ past)) (sym e) c).0) [ inl a ↦ inl a | inr b ↦ inr (b.0, (b.1.0, b.1.1, b.1.2)) ]
+      elim ((subst (λ y. DropsAreDue start Was (y ∷ past)) (sym e) c).0) [ inl a ↦ inl a | inr b ↦ inr (b.0, (b.1.0, b.1.1, b.1.4)) ]
 
-  due_rest : (Was : List ℕ → Type 0) (x : Happening) (past : Past) → DropsAreDue Was (x ∷ past) → DropsAreDue Was past
+  due_rest : (Was : List ℕ → Type 0) (x : Happening) (past : Past) → DropsAreDue start Was (x ∷ past) → DropsAreDue start Was past
   due_rest Was (Dropped f) past c = c.1
   due_rest Was _ past c = c
 
-  due_all : (Was : List ℕ → Type 0) (past : Past) → DropsAreDue Was past → (fault : Fault) → Among (Dropped fault) past → Due Was fault
+  due_all : (Was : List ℕ → Type 0) (past : Past) → DropsAreDue start Was past → (fault : Fault) → Among (Dropped fault) past
+      → Due Was fault
   due_all Was [] c fault a = absurd a
   due_all Was (x ∷ past) c fault (inl e) = due_head Was fault x past e c
   due_all Was (x ∷ past) c fault (inr a) = due_all Was past (due_rest Was x past c) fault a
@@ -326,14 +326,28 @@ module _ (h : History) (is : IsHistory h) (start : Start) where
   signed_all (x ∷ past) c t q z r (inr a) = signed_all past (signed_rest x past c) t q z r a
 
   due_before : (Was : List ℕ → Type 0) (since : List Happening) (fault : Fault) (before : Past)
-      → DropsAreDue Was (since ++ Dropped fault ∷ before) → IsDue Was fault before
+      → DropsAreDue start Was (since ++ Dropped fault ∷ before) → IsDue start Was fault before
   due_before Was [] fault before c = c.0
   due_before Was (x ∷ since) fault before c = due_before Was since fault before (due_rest Was x (since ++ Dropped fault ∷ before) c)
 
   pub drops_before : (items : List Item) → AllAsked items → (served : Served h start items) → (since : List Happening) (fault : Fault)
-      (before : Past) → past_of start items ≡ since ++ Dropped fault ∷ before → IsDue (WasSent served.entries) fault before
+      (before : Past) → past_of start items ≡ since ++ Dropped fault ∷ before → IsDue start (WasSent served.entries) fault before
   drops_before items asked served since fault before e = due_before (WasSent served.entries) since fault before
-      (subst (λ p. DropsAreDue (WasSent served.entries) p) e (due_drops items asked served))
+      (subst (λ p. DropsAreDue start (WasSent served.entries) p) e (due_drops items asked served))
+
+  -- the same in the words of the law
+  of_law : (Was : List ℕ → Type 0) (fault : Fault) (past : Past) → IsDue start Was fault past → (fault ≡ Silent) ⊎ ((fault ≡ Framed TooLong)
+      × ((payload : List ℕ) × Was payload × (longest start.limits (state_of past) < length payload)
+      × (length_field (held_of past) ≡ length payload)))
+  of_law Was fault past (inl e) = inl e
+  of_law Was fault past (inr d) = inr (d.0, (d.1.0, d.1.1, d.1.2, d.1.3))
+
+  pub law_before : (items : List Item) → AllAsked items → (served : Served h start items) → (since : List Happening) (fault : Fault)
+      (before : Past) → past_of start items ≡ since ++ Dropped fault ∷ before → (fault ≡ Silent) ⊎ ((fault ≡ Framed TooLong)
+      × ((payload : List ℕ) × WasSent served.entries payload × (longest start.limits (state_of before) < length payload)
+      × (length_field (held_of before) ≡ length payload)))
+  law_before items asked served since fault before e =
+      of_law (WasSent served.entries) fault before (drops_before items asked served since fault before e)
 
   -- The headline.
   pub headline_here : (items : List Item) (view : View) → Stands start items view → (served : Served h start items)

@@ -17,7 +17,8 @@ use Rattle.zk_laws.proofs.Run.{Move, IsSchedule, run, start as from_start}
 use Rattle.zk_laws.proofs.Seen.{seen}
 use Rattle.zk_laws.specs.Server.{HasCode}
 use Rattle.zk_laws.specs.Served.{Sent, requests, unread, Wire, is_going, IsPayload}
-use Rattle.zk_limits.specs.declared.limits.TheConstants.{LONGEST_INCOMING}
+use Rattle.zk_turns.specs.Taken.{longest}
+use Rattle.zk_laws.specs.Headline.{IsTooLongFor}
 use Rattle.zk_turns.specs.Turns.{IsAskable, AllAskOf}
 use Rattle.zk_turns.specs.Turns.{Item}
 
@@ -128,21 +129,22 @@ NoneIsNegative (Takes_in (Answers_call ticket question zxid result) ∷ past) = 
 NoneIsNegative (_ ∷ past) = NoneIsNegative past
 
 -- Silence, or a message that is longer than is admitted: one of those that were sent has the length that stands next.
-abbrev pub IsDue : (List ℕ → Type 0) → Fault → Past → Type 0
-IsDue Was fault past =
+abbrev pub IsDue : Start → (List ℕ → Type 0) → Fault → Past → Type 0
+IsDue start Was fault past =
     (fault ≡ Silent)
     ⊎ ((fault ≡ Framed TooLong)
-    × ((payload : List ℕ) × Was payload × (LONGEST_INCOMING < length payload) × (length_field (held_of past) ≡ length payload)))
+    × ((payload : List ℕ) × Was payload × (longest start.limits (state_of past) < length payload)
+    × (length_field (held_of past) ≡ length payload) × IsTooLongFor start.limits payload))
 
 -- A connection was given up for silence alone, or for a message longer than is admitted.
-abbrev pub DropsAreDue : (List ℕ → Type 0) → Past → Type 0
-DropsAreDue Was [] = ⊤
-DropsAreDue Was (Dropped fault ∷ past) = IsDue Was fault past × DropsAreDue Was past
-DropsAreDue Was (_ ∷ past) = DropsAreDue Was past
+abbrev pub DropsAreDue : Start → (List ℕ → Type 0) → Past → Type 0
+DropsAreDue start Was [] = ⊤
+DropsAreDue start Was (Dropped fault ∷ past) = IsDue start Was fault past × DropsAreDue start Was past
+DropsAreDue start Was (_ ∷ past) = DropsAreDue start Was past
 
 -- what was dropped and taken so far is in order
-abbrev pub IsCalm : History → (List ℕ → Type 0) → Past → Type 0
-IsCalm h Was past = DropsAreDue Was past × NoneIsNegative past × WritesAreTrue h past
+abbrev pub IsCalm : History → Start → (List ℕ → Type 0) → Past → Type 0
+IsCalm h start Was past = DropsAreDue start Was past × NoneIsNegative past × WritesAreTrue h past
 
 -- A run has come as far: it has the same items, and on an open connection what is in flight and what is awaited agree. What is
 -- in flight was sent.
@@ -150,7 +152,7 @@ pub record Matches (h : History) (start : Start) (Was : List ℕ → Type 0) (pa
   pub link : Link
   pub reached : Reached h (from_zero start.last) (record { log = seen start past; link = link })
   pub going : is_going past ≡ true → (letters : List Letter) × InFlight h start Was past wire link letters
-  pub calm : IsCalm h Was past
+  pub calm : IsCalm h start Was past
   pub counted : answered past ≤ length (questions past)
 
 -- each caller asked about paths

@@ -9,7 +9,8 @@ use Rattle.zk_turns.specs.Past.{Pinged, Ticked, is_talking, state_of, has_halted
 use Rattle.zk_turns.specs.Past.{Lost as Loses_it, Accepted as Accepts, Expiry}
 use Rattle.zk_watches.specs.Lists.{Lists}
 use Rattle.zk_watches.specs.Parts.{parts}
-use Rattle.std.proofs.Common.{◌≡◌, ℕ, zero, suc, ◌≤◌, ℤ, pos, Bool, true, false, cond, ◌&&◌, List, [], ◌∷◌, ◌++◌, map, drop, length, refl}
+use Rattle.std.proofs.Common.{◌≡◌, ℕ, zero, suc, ◌≤◌, ◌<◌, ℤ, pos, Bool, true, false, cond, ◌&&◌, List, [], ◌∷◌, ◌++◌, map, drop, length}
+use Rattle.std.proofs.Common.{refl}
 use Rattle.std.proofs.Common.{sym, ap, subst, ◌∙◌, arith, inl, inr, Option, Some, None}
 use Rattle.std.specs.Prelude.{⊤, nat_lt, nat_le, is_some, if◌then◌else◌, not, ◌*◌, ◌-◌, max}
 use Rattle.std.proofs.lemmas.List.{length-append, map-append}
@@ -18,7 +19,8 @@ use Rattle.zk_session.specs.declared.states.State.TheVariants.{Idle, Connecting,
 use Rattle.zk_session.specs.SessionView.{Welcome}
 use Rattle.zk_conversation.specs.Pending.{Call_waits}
 use Rattle.zk_turns.specs.View.{View, view_at}
-use Rattle.zk_turns.specs.Taken.{reading, cut, Cutting, Unfinished, Bad, Payload, of_cutting, happenings, joined, past_after, opens}
+use Rattle.zk_turns.specs.Taken.{reading, cut, longest, Cutting, Unfinished, Bad, Payload, of_cutting, happenings, joined, past_after}
+use Rattle.zk_turns.specs.Taken.{opens}
 use Rattle.zk_turns.specs.Taken.{if_open, due, timeout_of, refusal, comes}
 use Rattle.zk_turns.specs.Rule.{IsOpen}
 use Rattle.zk_turns.proofs.Stepped.{Counted, talks_in}
@@ -33,6 +35,8 @@ use Rattle.zk_laws.proofs.Run.{Goes}
 use Rattle.zk_laws.proofs.Seen.{seen}
 use Rattle.zk_laws.specs.Served.{MayEnter, Goes_on, Sent, requests, part_requests, unread, Wire, new_wire, no_wire, is_going, IsPayload}
 use Rattle.zk_laws.specs.Served.{wire_past}
+use Rattle.zk_laws.specs.Headline.{IsTooLongFor}
+use Rattle.zk_records.specs.Response.{Response, IsPayload as IsResponse}
 use Rattle.zk_laws.proofs.More.{none_behind}
 use Rattle.zk_laws.proofs.Seeing.{last_is}
 use Rattle.zk_laws.proofs.Ordering.{are_parts}
@@ -98,7 +102,7 @@ module _ (h : History) (is : IsHistory h) (start : Start) (Was : List ℕ → Ty
   took_accepted : (past : Past) (wire : Wire) (link : Link) (xid : ℤ) (p : List ℕ) (ps : List Asking) → state_of past ≡ Connecting
       → InFlight h start Was past wire link (record { message = Accepted; payload = p; xid = xid; asked = ps } ∷ [])
       → Reached h (from_zero start.last) (record { log = seen start past; link = link })
-      → map (λ s. s.request) (unread start past wire) ≡ [] → IsCalm h Was past → wire.coming ≡ [] → (welcome : Welcome)
+      → map (λ s. s.request) (unread start past wire) ≡ [] → IsCalm h start Was past → wire.coming ≡ [] → (welcome : Welcome)
       → Matches h start Was (Takes_in (Accepts welcome) ∷ past) wire
   took_accepted past wire link xid p ps st g r none calm coming welcome =
       let l : Letter = record { message = Accepted; payload = p; xid = xid; asked = ps } in
@@ -137,7 +141,7 @@ module _ (h : History) (is : IsHistory h) (start : Start) (Was : List ℕ → Ty
   took_expiry : (past : Past) (wire : Wire) (link : Link) (xid : ℤ) (p : List ℕ) (ps : List Asking) (ls : List Letter)
       → InFlight h start Was past wire link (record { message = Expires; payload = p; xid = xid; asked = ps } ∷ ls)
       → Reached h (from_zero start.last) (record { log = seen start past; link = link })
-      → IsCalm h Was past → Counted past → Matches h start Was (Takes_in Expiry ∷ past) wire
+      → IsCalm h start Was past → Counted past → Matches h start Was (Takes_in Expiry ∷ past) wire
   took_expiry past wire link xid p ps ls g r calm counted = record {
     link = Down;
     reached = reach h (from_zero start.last) (record {
@@ -157,7 +161,7 @@ module _ (h : History) (is : IsHistory h) (start : Start) (Was : List ℕ → Ty
       → state_of past ≡ Connecting
       → InFlight h start Was past wire link (record { message = m; payload = p; xid = xid; asked = ps } ∷ ls)
       → Reached h (from_zero start.last) (record { log = seen start past; link = link })
-      → IsCalm h Was past → Counted past → wire.coming ≡ frames ls
+      → IsCalm h start Was past → Counted past → wire.coming ≡ frames ls
       → MayBeFirst (m ∷ messages ls) (map (λ s. s.request) (unread start past wire))
       → Matches h start Was (reading Connecting (pending_of past) (last_of start past) p ∷ past) wire
   opening_read past wire link Accepted xid p ps [] st g r calm counted coming first =
@@ -177,7 +181,7 @@ module _ (h : History) (is : IsHistory h) (start : Start) (Was : List ℕ → Ty
       → is_talking (state_of past) ≡ true
       → InFlight h start Was past wire link (record { message = m; payload = p; xid = xid; asked = ps } ∷ ls)
       → Reached h (from_zero start.last) (record { log = seen start past; link = link })
-      → IsCalm h Was past → Counted past → wire.coming ≡ frames ls
+      → IsCalm h start Was past → Counted past → wire.coming ≡ frames ls
       → Matches h start Was (reading Connected (pending_of past) (last_of start past) p ∷ past) wire
   talking_read past wire link Accepted xid p ps ls talks g r calm counted coming = absurd (g.later talks)
   talking_read past wire link Expires xid p ps ls talks g r calm counted coming = absurd (g.later talks)
@@ -217,7 +221,7 @@ module _ (h : History) (is : IsHistory h) (start : Start) (Was : List ℕ → Ty
   state_read : (past : Past) (wire : Wire) (link : Link) (l : Letter) (ls : List Letter) (st : State)
       → state_of past ≡ st → is_open st ≡ true
       → InFlight h start Was past wire link (l ∷ ls) → Reached h (from_zero start.last) (record { log = seen start past; link = link })
-      → IsCalm h Was past → Counted past → wire.coming ≡ frames ls
+      → IsCalm h start Was past → Counted past → wire.coming ≡ frames ls
       → Matches h start Was (reading (state_of past) (pending_of past) (last_of start past) l.payload ∷ past) wire
   state_read past wire link l ls Connecting e o g r calm counted coming =
       subst (λ s. Matches h start Was (reading s (pending_of past) (last_of start past) l.payload ∷ past) wire) (sym e)
@@ -232,28 +236,60 @@ module _ (h : History) (is : IsHistory h) (start : Start) (Was : List ℕ → Ty
   -- ---- bytes
 
   payload_read : (past : Past) (wire : Wire) (p : List ℕ) (on : is_going past ≡ true) (s : Matches h start Was past wire)
-      (letters : List Letter) → InFlight h start Was past wire s.link letters → cut (held_of past) ≡ Payload p
+      (letters : List Letter) → InFlight h start Was past wire s.link letters
+      → cut (longest start.limits (state_of past)) (held_of past) ≡ Payload p
       → Matches h start Was (reading (state_of past) (pending_of past) (last_of start past) p ∷ past) wire
-  payload_read past wire p on s [] g c = absurd (let f = none_cut (held_of past) wire.coming (Payload p) g.bytes c in cc)
+  payload_read past wire p on s [] g c =
+      absurd (let f = none_cut (longest start.limits (state_of past)) (held_of past) wire.coming (Payload p) g.bytes c in cc)
   payload_read past wire p on s (l ∷ ls) g c =
-      let t = taken_first (held_of past) wire.coming l.payload (frames ls) p g.are.0.short g.bytes c in
+      let t = taken_first (longest start.limits (state_of past)) (held_of past) wire.coming l.payload (frames ls) p g.are.0.short g.bytes c
+      in
       subst (λ b. Matches h start Was (reading (state_of past) (pending_of past) (last_of start past) b ∷ past) wire) (sym t.0)
       (state_read past wire s.link l ls (state_of past) refl
       (and_two (is_open (state_of past)) (not (has_halted past)) on).0 g s.reached s.calm s.counted t.1)
 
-  bad_read : (past : Past) (wire : Wire) (fault : FrameFault) (s : Matches h start Was past wire) (letters : List Letter)
-      → InFlight h start Was past wire s.link letters → cut (held_of past) ≡ Bad fault
+  -- a payload of more bytes than the state admits is too long for the session: before the acceptance only a response is in flight
+  first_response : (m : Message) (xid : ℤ) (p : List ℕ) (ms : List Message) (rs : List Request) → MayBeFirst (m ∷ ms) rs
+      → IsPayload xid m p → (response : Response) × (ignored : List ℕ) × IsResponse p response ignored
+  first_response Accepted xid p ms rs may is = (is.0, is.1, is.2)
+  first_response Expires xid p ms rs may is = (is.0, is.1, is.2)
+  first_response (Replies q z res) xid p ms rs may is = absurd may
+  first_response (Watches_set b z) xid p ms rs may is = absurd may
+  first_response (Notifies n) xid p ms rs may is = absurd may
+  first_response Pong xid p ms rs may is = absurd may
+
+  too_long : (past : Past) (wire : Wire) (link : Link) (l : Letter) (ls : List Letter) (st : State)
+      → state_of past ≡ st → is_open st ≡ true → InFlight h start Was past wire link (l ∷ ls)
+      → Reached h (from_zero start.last) (record { log = seen start past; link = link })
+      → longest start.limits st < length l.payload → IsTooLongFor start.limits l.payload
+  too_long past wire link l ls Connected e o g r above = inl above
+  too_long past wire link l ls Connecting e o g r above = inr (
+    above,
+    first_response l.message l.xid l.payload (messages ls) (map (λ s. s.request) (unread start past wire))
+        (first_is past wire link l ls e g r) g.are.0.spelt,
+  )
+  too_long past wire link l ls Idle e o g r above = absurd cc
+  too_long past wire link l ls Expired e o g r above = absurd cc
+  too_long past wire link l ls Closed e o g r above = absurd cc
+
+  bad_read : (past : Past) (wire : Wire) (fault : FrameFault) → is_going past ≡ true → (s : Matches h start Was past wire)
+      (letters : List Letter)
+      → InFlight h start Was past wire s.link letters → cut (longest start.limits (state_of past)) (held_of past) ≡ Bad fault
       → Matches h start Was (Dropped (Framed fault) ∷ past) wire
-  bad_read past wire fault s [] g c = absurd (let f = none_cut (held_of past) wire.coming (Bad fault) g.bytes c in cc)
-  bad_read past wire fault s (l ∷ ls) g c = let t =
-      first_too_long (held_of past) wire.coming l.payload (frames ls) fault g.are.0.short g.bytes c in
-      dropped h start Was (Framed fault) past wire (inr (ap Framed t.0, (l.payload, g.are.0.was_sent, t.1, t.2))) s
+  bad_read past wire fault on s [] g c =
+      absurd (let f = none_cut (longest start.limits (state_of past)) (held_of past) wire.coming (Bad fault) g.bytes c in cc)
+  bad_read past wire fault on s (l ∷ ls) g c =
+      let t = first_too_long (longest start.limits (state_of past)) (held_of past) wire.coming l.payload (frames ls) fault
+      g.are.0.short g.bytes c in
+      let above = too_long past wire s.link l ls (state_of past) refl
+      (and_two (is_open (state_of past)) (not (has_halted past)) on).0 g s.reached t.1 in
+      dropped h start Was (Framed fault) past wire (inr (ap Framed t.0, (l.payload, g.are.0.was_sent, t.1, t.2, above))) s
 
   cut_read : (byte : ℕ) (past : Past) (wire : Wire) → is_going past ≡ true → Matches h start Was (Came byte ∷ past) wire → (c : Cutting)
-      → cut (held_of past ++ byte ∷ []) ≡ c
+      → cut (longest start.limits (state_of past)) (held_of past ++ byte ∷ []) ≡ c
       → Matches h start Was (joined past (Came byte ∷ of_cutting (view_at start past) c)) wire
   cut_read byte past wire on s Unfinished c = s
-  cut_read byte past wire on s (Bad fault) c = bad_read (Came byte ∷ past) wire fault s (s.going on).0 (s.going on).1 c
+  cut_read byte past wire on s (Bad fault) c = bad_read (Came byte ∷ past) wire fault on s (s.going on).0 (s.going on).1 c
   cut_read byte past wire on s (Payload p) c = payload_read (Came byte ∷ past) wire p on s (s.going on).0 (s.going on).1 c
 
   comes_one : (byte : ℕ) (rest : List ℕ) (past : Past) (wire : Wire)
@@ -262,10 +298,10 @@ module _ (h : History) (is : IsHistory h) (start : Start) (Was : List ℕ → Ty
   comes_one byte rest past wire on c s =
       let two = and_two (is_open (state_of past)) (not (has_halted past)) on in
       subst (λ t. Matches h start Was (joined past t) (record wire { coming = rest }))
-      (sym (byte_happens (view_at start past) byte (cut (held_of past ++ byte ∷ []))
+      (sym (byte_happens (view_at start past) byte (cut (longest start.limits (state_of past)) (held_of past ++ byte ∷ []))
       (record { up = open_is (state_of past) two.0; goes_on = not_true (has_halted past) two.1 }) refl))
       (cut_read byte past (record wire { coming = rest }) on (came h start Was byte rest past wire c s)
-      (cut (held_of past ++ byte ∷ [])) refl)
+      (cut (longest start.limits (state_of past)) (held_of past ++ byte ∷ [])) refl)
 
   quiet_bytes : (b : Bool) (st : State) (xs : List Happening) → (is_open st && not b) ≡ false → cond b [] (if_open st xs) ≡ []
   quiet_bytes true st xs e = refl

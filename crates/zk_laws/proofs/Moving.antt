@@ -356,14 +356,14 @@ module _ (h : History) (Was More : List ℕ → Type 0) (more : (payload : List 
   letters_more (l ∷ ls) a =
       (record { was_sent = more l.payload a.0.was_sent; short = a.0.short; spelt = a.0.spelt; is_for = a.0.is_for }, letters_more ls a.1)
 
-  due_more : (fault : Fault) (past : Past) → IsDue Was fault past → IsDue More fault past
-  due_more fault past (inl e) = inl e
-  due_more fault past (inr d) = inr (d.0, (d.1.0, more d.1.0 d.1.1, d.1.2, d.1.3))
+  due_more : (start : Start) (fault : Fault) (past : Past) → IsDue start Was fault past → IsDue start More fault past
+  due_more start fault past (inl e) = inl e
+  due_more start fault past (inr d) = inr (d.0, (d.1.0, more d.1.0 d.1.1, d.1.2, d.1.3, d.1.4))
 
-  drops_more : (past : Past) → DropsAreDue Was past → DropsAreDue More past
-  drops_more [] d = tt
-  drops_more (Dropped fault ∷ past) d = (due_more fault past d.0, drops_more past d.1)
-  drops_more (_ ∷ past) d = drops_more past d
+  drops_more : (start : Start) (past : Past) → DropsAreDue start Was past → DropsAreDue start More past
+  drops_more start [] d = tt
+  drops_more start (Dropped fault ∷ past) d = (due_more start fault past d.0, drops_more start past d.1)
+  drops_more start (_ ∷ past) d = drops_more start past d
 
   matches_more : (start : Start) (past : Past) (wire : Wire) → Matches h start Was past wire → Matches h start More past wire
   matches_more start past wire s = record {
@@ -382,7 +382,7 @@ module _ (h : History) (Was More : List ℕ → Type 0) (more : (payload : List 
         later = g.1.later;
       },
     );
-    calm = (drops_more past s.calm.0, s.calm.1, s.calm.2);
+    calm = (drops_more start past s.calm.0, s.calm.1, s.calm.2);
     counted = s.counted;
   }
 

@@ -21,7 +21,8 @@ use Rattle.zk_watches.specs.Lists.{Lists}
 use Rattle.zk_watches.specs.Parts.{parts}
 use Rattle.zk_conversation.specs.Pending.{Pending, Waiting, Part_waits, Call_waits}
 use Rattle.zk_turns.specs.View.{View, view_at}
-use Rattle.zk_turns.specs.Taken.{Cutting, Unfinished, Bad, Payload, cut, of_cutting, comes, opens, if_open, due, timeout_of, refusal}
+use Rattle.zk_turns.specs.Taken.{Cutting, Unfinished, Bad, Payload, cut, longest_of, of_cutting, comes, opens, if_open, due, timeout_of}
+use Rattle.zk_turns.specs.Taken.{refusal}
 use Rattle.zk_turns.specs.Taken.{caused, happenings, joined, past_after, past_of}
 use Rattle.zk_turns.specs.Rule.{says, loss, part_frame, report, due_happenings, due_signals, AllSaid, Stands}
 use Rattle.zk_turns.specs.Sent.{outputs_of}
@@ -264,7 +265,7 @@ module _ (ticket : ℕ) (zxid : ℤ) (result : Result) where
 
   comes_plain : (view : View) (byte : ℕ) → Among the_denial (comes view byte) → ⊥
   comes_plain view byte (inl e) = cc
-  comes_plain view byte (inr a) = cutting_plain view (cut (view.held ++ byte ∷ [])) a
+  comes_plain view byte (inr a) = cutting_plain view (cut (longest_of view) (view.held ++ byte ∷ [])) a
 
   cond_plain : (b : Bool) (xs ys : List Happening) → (Among the_denial xs → ⊥) → (Among the_denial ys → ⊥)
       → Among the_denial (cond b xs ys) → ⊥

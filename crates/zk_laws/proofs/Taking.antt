@@ -98,7 +98,7 @@ module _ (h : History) (start : Start) (Was : List ℕ → Type 0) where
 
   -- what happens is a move of the run, and leaves no connection
   over_by : (now : Past) (wire : Wire) → Reached h (from_zero start.last) (record { log = seen start now; link = Down })
-      → IsCalm h Was now → answered now ≤ length (questions now)
+      → IsCalm h start Was now → answered now ≤ length (questions now)
       → is_going now ≡ false → Matches h start Was now wire
   over_by now wire r calm counted off =
       record { link = Down; reached = r; calm = calm; counted = counted; going = λ e. absurd (let f = sym off ∙ e in cc) }
@@ -108,7 +108,7 @@ module _ (h : History) (start : Start) (Was : List ℕ → Type 0) where
       (reach h (from_zero start.last) (record { log = seen start past; link = s.link }) Loses s.reached tt) s.calm s.counted refl
 
   pub dropped : (fault : Fault) (past : Past) (wire : Wire)
-      → IsDue Was fault past → Matches h start Was past wire → Matches h start Was (Dropped fault ∷ past) wire
+      → IsDue start Was fault past → Matches h start Was past wire → Matches h start Was (Dropped fault ∷ past) wire
   dropped fault past wire why s =
       over_by (Dropped fault ∷ past) wire
       (reach h (from_zero start.last) (record { log = seen start past; link = s.link }) Loses s.reached tt)
@@ -302,7 +302,7 @@ module _ (h : History) (start : Start) (Was : List ℕ → Type 0) where
       → is_talking (state_of past) ≡ true
       → InFlight h start Was past wire link (record { message = Notifies n; payload = p; xid = xid; asked = ps } ∷ ls)
       → Reached h (from_zero start.last) (record { log = seen start past; link = link })
-      → IsCalm h Was past → Counted past → wire.coming ≡ frames ls → Matches h start Was (Takes_in (Tells n.event n.path) ∷ past) wire
+      → IsCalm h start Was past → Counted past → wire.coming ≡ frames ls → Matches h start Was (Takes_in (Tells n.event n.path) ∷ past) wire
   took_notice past wire link n xid p ps ls talks g r calm counted coming = record {
     link = Up (connection start past wire ls);
     reached = took_world past wire link (Notifies n) xid p ps ls talks g r refl;
@@ -319,7 +319,7 @@ module _ (h : History) (start : Start) (Was : List ℕ → Type 0) where
       → is_talking (state_of past) ≡ true
       → InFlight h start Was past wire link (record { message = Pong; payload = p; xid = xid; asked = ps } ∷ ls)
       → Reached h (from_zero start.last) (record { log = seen start past; link = link })
-      → IsCalm h Was past → Counted past → wire.coming ≡ frames ls → Matches h start Was (Takes_in Echo ∷ past) wire
+      → IsCalm h start Was past → Counted past → wire.coming ≡ frames ls → Matches h start Was (Takes_in Echo ∷ past) wire
   took_pong past wire link xid p ps ls talks g r calm counted coming = record {
     link = Up (connection start past wire ls);
     reached = took_world past wire link Pong xid p ps ls talks g r refl;
@@ -336,7 +336,8 @@ module _ (h : History) (start : Start) (Was : List ℕ → Type 0) where
       → is_talking (state_of past) ≡ true
       → InFlight h start Was past wire link (record { message = Watches_set b z; payload = p; xid = xid; asked = ps } ∷ ls)
       → Reached h (from_zero start.last) (record { log = seen start past; link = link })
-      → IsCalm h Was past → Counted past → wire.coming ≡ frames ls → Matches h start Was (Takes_in (Sets_watches b (pos z)) ∷ past) wire
+      → IsCalm h start Was past → Counted past → wire.coming ≡ frames ls
+      → Matches h start Was (Takes_in (Sets_watches b (pos z)) ∷ past) wire
   took_part past wire link b z xid p ps ls talks g r calm counted coming =
       let x : Asking = For_part b in
       let first : awaited past ≡ x ∷ (answers ls ++ g.owed) = g.pending ∙ ap (λ l. l ++ answers ls ++ g.owed) g.are.0.is_for.1 in
@@ -357,7 +358,8 @@ module _ (h : History) (start : Start) (Was : List ℕ → Type 0) where
       → (g : InFlight h start Was past wire link (record { message = Replies q z res; payload = p; xid = xid; asked = ps } ∷ ls))
       → Reached h (from_zero start.last) (record { log = seen start past; link = link })
       → is_behind (seen start past) (Replies q z res) ≡ false
-      → IsCalm h Was past → Counted past → wire.coming ≡ frames ls → (ticket : ℕ) (x : Asking) → awaited past ≡ x ∷ (answers ls ++ g.owed)
+      → IsCalm h start Was past → Counted past → wire.coming ≡ frames ls → (ticket : ℕ) (x : Asking)
+      → awaited past ≡ x ∷ (answers ls ++ g.owed)
       → AnswersFirst h ticket q z res (x ∷ (answers ls ++ g.owed))
       → Matches h start Was (Takes_in (Answers_call ticket q (pos z) res) ∷ past) wire
   took_reply past wire link Close z res xid p ps ls talks g r behind calm counted coming ticket x first holds = record {

@@ -21,6 +21,8 @@ use Rattle.zk_laws.specs.Laws.{IsTrueWrite, AreRestored}
 use Rattle.zk_laws.specs.Messages.{from_zero}
 use Rattle.zk_laws.specs.Served.{WasSent, Entry, items_in, wire_of, is_going, unread}
 use Rattle.zk_limits.specs.declared.limits.TheConstants.{LONGEST_INCOMING}
+use Rattle.zk_frames.specs.declared.limits.FrameLimits.{FrameLimits}
+use Rattle.zk_records.specs.Response.{Response, IsPayload as IsResponse}
 
 -- Each answer marked good is what there is to see in the tree: a node's absence, its seven fields, or these with its data;
 -- the set of its children's names with the pzxid.
@@ -46,10 +48,15 @@ pub record IsQuietAt (h : History) (start : Start) (entries : List Entry) : Type
 abbrev pub tree_of : History → List Entry → Tree
 tree_of h entries = tree_held h (wire_of h entries).server.place
 
+-- A payload is longer than the session admits: than its limit, or, if it is the answer to a ConnectRequest, than that of every session.
+abbrev pub IsTooLongFor : FrameLimits → List ℕ → Type 0
+IsTooLongFor limits payload = (limits.incoming < length payload)
+    ⊎ ((LONGEST_INCOMING < length payload) × ((response : Response) × (ignored : List ℕ) × IsResponse payload response ignored))
+
 -- All of it at once, by what a client gave: its good answers are the history's at its last seen zxid; each Answer with a
 -- reply's zxid is of a reply that was taken, true there as a read, not below the zxid that the client began with, and to a
 -- call that was asked with its ticket, true there as a write; each Drop is for silence, or for a message that a server sent
--- and that is too long.
+-- and that is too long for the session.
 pub record Headline (h : History) (start : Start) (items : List Item) (view : View) (entries : List Entry) : Type 0 where
   pub coherent : IsCoherentWith h view
   pub answers : (ticket : ℕ) (zxid : ℤ) (result : Result) → Among (Answers ticket (Replied zxid result)) (outputs_of items)
@@ -58,4 +65,4 @@ pub record Headline (h : History) (start : Start) (items : List Item) (view : Vi
       × Reads (tree_at h (from_zero zxid)) (question_of call) result × IsTrueWrite h call (from_zero zxid) result
       × (from_zero start.last ≤ from_zero zxid) × (zxid ≡ pos (from_zero zxid))
   pub drops : (fault : Fault) → Among (Drop fault) (outputs_of items)
-      → (fault ≡ Silent) ⊎ ((fault ≡ Framed TooLong) × ((payload : List ℕ) × WasSent entries payload × (LONGEST_INCOMING < length payload)))
+      → (fault ≡ Silent) ⊎ ((fault ≡ Framed TooLong) × ((payload : List ℕ) × WasSent entries payload × IsTooLongFor start.limits payload))

@@ -5,11 +5,11 @@ ghost use Rattle.std.specs.Prelude.{◌⊎◌, ◌<◌, ◌++◌, false, Bool, l
 ghost use Rattle.std.specs.Prelude.{◌∷◌, [], List, if◌then◌else◌, ℤ, pos, map};
 ghost use Rattle.zk_conversation.specs.Calls.{connect_payload, Call};
 ghost use Rattle.zk_records.specs.Layouts.{connect_request};
-ghost use Rattle.zk_turns.specs.Past.{held_of, awaited, For_call, Asking};
+ghost use Rattle.zk_turns.specs.Past.{held_of, state_of, awaited, For_call, Asking};
 ghost use Rattle.zk_turns.specs.Past.{leaves_data, leaves_child};
 ghost use Rattle.zk_turns.specs.Past.{names_of, last_of, session_of, Began, Happening, Past, Dropped, Took as Takes_in};
 ghost use Rattle.zk_turns.specs.Past.{Replies as Answers_call};
-ghost use Rattle.zk_turns.specs.Taken.{past_of};
+ghost use Rattle.zk_turns.specs.Taken.{past_of, longest};
 ghost use Rattle.zk_laws.specs.Server.{Reads, sets};
 ghost use Rattle.zk_laws.specs.Messages.{from_zero};
 ghost use Rattle.zk_laws.specs.Served.{WasSent, Served, Entry, items_in, requests, IsServing};
@@ -28,7 +28,6 @@ ghost use Rattle.zk_turns.specs.View.{View};
 ghost use Rattle.zk_turns.specs.Rule.{Stands, IsOpen};
 ghost use Rattle.zk_turns.specs.Sent.{sends, outputs_of};
 ghost use Rattle.zk_frames.specs.declared.fault.FrameFault.TheVariants.{TooLong};
-ghost use Rattle.zk_limits.specs.declared.limits.TheConstants.{LONGEST_INCOMING};
 ghost use Rattle.zk_frames.specs.Frame.{length_field, frame, joined};
 ghost use Rattle.zk_laws.specs.Parsed.{AreTold, IsCutInto, IsRecord, AreReadAs, stream_of, payloads_of};
 ghost use Rattle.zk_turns.specs.Ranges.{IsResumable, IsTyped, AllAskOf};
@@ -101,7 +100,7 @@ pub fn drops_are_due()
         → (served : Served h start items)
         → (since : List Happening) (fault : Fault) (before : Past) → past_of start items ≡ since ++ Dropped fault ∷ before
         → (fault ≡ Silent) ⊎ ((fault ≡ Framed TooLong) × ((payload : List ℕ) × WasSent served.entries payload
-        × (LONGEST_INCOMING < length payload) × (length_field (held_of before) ≡ length payload))) }
+        × (longest start.limits (state_of before) < length payload) × (length_field (held_of before) ≡ length payload))) }
 {}
 
 /// Under such servers each reply has a zxid of at least the one that the client began with, a saved one or 0.

@@ -22,83 +22,84 @@ use Rattle.zk_turns.specs.Turns.{Outcome, Fault, Framed, Talked, Silent, Behind,
 use Rattle.zk_turns.specs.Turns.{Forget, Halt}
 use Rattle.zk_turns.specs.Past.{is_talking, Happening, Took, Dropped, Lost, Pinged, Replies, Watches_set}
 use Rattle.zk_turns.specs.View.{View}
-use Rattle.zk_turns.specs.Taken.{Cutting, Unfinished, Bad, Payload, cut, of_cutting, phase_of, taken_of, reading, leaves_watch, opens}
+use Rattle.zk_turns.specs.Taken.{Cutting, Unfinished, Bad, Payload, cut, longest_of, of_cutting, phase_of, taken_of, reading, leaves_watch}
+use Rattle.zk_turns.specs.Taken.{opens}
 use Rattle.zk_turns.specs.Taken.{if_open, due, timeout_of, refusal, caused, happenings, comes}
 use Rattle.zk_turns.specs.Rule.{IsOpen}
 use Rattle.zk_turns.specs.Meaning.{Among}
 use Rattle.zk_turns.specs.Causes.{EndsBy, ByteEnds, IsFrameOf, IsGivenUp}
-use Rattle.zk_turns.proofs.Pieces.{cut_there, cut_short}
+use Rattle.zk_turns.proofs.Pieces.{cut_there, cut_short, longest_low}
 use Rattle.zk_turns.proofs.Words.{happening_of, calls}
-use Rattle.zk_limits.specs.declared.limits.TheConstants.{LONGEST_INCOMING}
 
 -- ---- lengths
 
-bad_field : (bytes : List ℕ) (fault : FrameFault) (n : ℕ) (a b c : Bool)
-    → nat_le (2 ^ 31) n ≡ a → nat_lt LONGEST_INCOMING n ≡ b → 4 ≤ length bytes → n ≡ length_field bytes
-    → cond a (Bad Negative) (cond b (Bad TooLong) (cond c (Payload (drop 4 bytes)) Unfinished)) ≡ Bad fault → StandsNext fault bytes
-bad_field bytes fault n true b c e l there same f =
+bad_field : (most : ℕ) (bytes : List ℕ) (fault : FrameFault) (n : ℕ) (a b c : Bool)
+    → nat_le (2 ^ 31) n ≡ a → nat_lt most n ≡ b → 4 ≤ length bytes → n ≡ length_field bytes
+    → cond a (Bad Negative) (cond b (Bad TooLong) (cond c (Payload (drop 4 bytes)) Unfinished)) ≡ Bad fault → StandsNext most fault bytes
+bad_field most bytes fault n true b c e l there same f =
     let g : Negative ≡ fault = cc in
     let h : 2 ^ 31 ≤ n = grind (arith, nat_tests) in
-    subst (λ t. StandsNext t bytes) g (record { there = there; below = subst (λ m. 2 ^ 31 ≤ m) same h })
-bad_field bytes fault n false true c e l there same f =
+    subst (λ t. StandsNext most t bytes) g (record { there = there; below = subst (λ m. 2 ^ 31 ≤ m) same h })
+bad_field most bytes fault n false true c e l there same f =
     let g : TooLong ≡ fault = cc in
-    let h : LONGEST_INCOMING < n = grind (arith, nat_tests) in
+    let h : most < n = grind (arith, nat_tests) in
     let k : n < 2 ^ 31 = grind (arith, nat_tests) in
-    subst (λ t. StandsNext t bytes) g
-    (record { there = there; above = subst (λ m. LONGEST_INCOMING < m) same h; positive = subst (λ m. m < 2 ^ 31) same k })
-bad_field bytes fault n false false true e l there same f = absurd cc
-bad_field bytes fault n false false false e l there same f = absurd cc
+    subst (λ t. StandsNext most t bytes) g
+    (record { there = there; above = subst (λ m. most < m) same h; positive = subst (λ m. m < 2 ^ 31) same k })
+bad_field most bytes fault n false false true e l there same f = absurd cc
+bad_field most bytes fault n false false false e l there same f = absurd cc
 
-bad_stands : (bytes : List ℕ) (fault : FrameFault) → cut bytes ≡ Bad fault → StandsNext fault bytes
-bad_stands bytes fault e = elim (cases_lt (length bytes) 4) [
-  | inl short ↦ absurd (let f = cut_short bytes short in cc)
-  | inr there ↦ bad_field bytes fault (length_field bytes) (nat_le (2 ^ 31) (length_field bytes)) (nat_lt LONGEST_INCOMING
-      (length_field bytes)) (eqb (length bytes) (4 + length_field bytes)) refl refl there refl (sym (cut_there bytes there) ∙ e)
+bad_stands : (most : ℕ) (bytes : List ℕ) (fault : FrameFault) → cut most bytes ≡ Bad fault → StandsNext most fault bytes
+bad_stands most bytes fault e = elim (cases_lt (length bytes) 4) [
+  | inl short ↦ absurd (let f = cut_short most bytes short in cc)
+  | inr there ↦ bad_field most bytes fault (length_field bytes) (nat_le (2 ^ 31) (length_field bytes)) (nat_lt most
+      (length_field bytes)) (eqb (length bytes) (4 + length_field bytes)) refl refl there refl (sym (cut_there most bytes there) ∙ e)
 ]
 
-stands_cut : (bytes : List ℕ) (fault : FrameFault) → StandsNext fault bytes → cut bytes ≡ Bad fault
-stands_cut bytes Negative s =
+stands_cut : (most : ℕ) (bytes : List ℕ) (fault : FrameFault) → StandsNext most fault bytes → cut most bytes ≡ Bad fault
+stands_cut most bytes Negative s =
     let n : nat_le (2 ^ 31) (length_field bytes) ≡ true = let b = s.below in grind (arith, nat_tests) in
-    cut_there bytes s.there ∙ ap (λ b. cond b (Bad Negative) (cond (nat_lt LONGEST_INCOMING (length_field bytes)) (Bad TooLong)
+    cut_there most bytes s.there ∙ ap (λ b. cond b (Bad Negative) (cond (nat_lt most (length_field bytes)) (Bad TooLong)
     (cond (eqb (length bytes) (4 + length_field bytes)) (Payload (drop 4 bytes)) Unfinished))) n
-stands_cut bytes TooLong s =
+stands_cut most bytes TooLong s =
     let n : nat_le (2 ^ 31) (length_field bytes) ≡ false = let b = s.positive in grind (arith, nat_tests) in
-    let m : nat_lt LONGEST_INCOMING (length_field bytes) ≡ true = let b = s.above in grind (arith, nat_tests) in
-    cut_there bytes s.there ∙ ap (λ b. cond b (Bad Negative) (cond (nat_lt LONGEST_INCOMING (length_field bytes)) (Bad TooLong)
+    let m : nat_lt most (length_field bytes) ≡ true = let b = s.above in grind (arith, nat_tests) in
+    cut_there most bytes s.there ∙ ap (λ b. cond b (Bad Negative) (cond (nat_lt most (length_field bytes)) (Bad TooLong)
     (cond (eqb (length bytes) (4 + length_field bytes)) (Payload (drop 4 bytes)) Unfinished))) n
     ∙ ap (λ b. cond b (Bad TooLong) (cond (eqb (length bytes) (4 + length_field bytes)) (Payload (drop 4 bytes)) Unfinished)) m
-stands_cut bytes Memory s = absurd s
+stands_cut most bytes Memory s = absurd s
 
 -- ---- whole frames
 
-frame_field : (bytes payload : List ℕ) (n : ℕ) (a b c : Bool)
-    → nat_le (2 ^ 31) n ≡ a → nat_lt LONGEST_INCOMING n ≡ b → eqb (length bytes) (4 + n) ≡ c → n ≡ length_field bytes
-    → cond a (Bad Negative) (cond b (Bad TooLong) (cond c (Payload (drop 4 bytes)) Unfinished)) ≡ Payload payload → IsFrameOf payload bytes
-frame_field bytes payload n true b c e l w same f = absurd cc
-frame_field bytes payload n false true c e l w same f = absurd cc
-frame_field bytes payload n false false true e l w same f =
-    let h : n ≤ LONGEST_INCOMING = grind (arith, nat_tests) in
+frame_field : (most : ℕ) (bytes payload : List ℕ) (n : ℕ) (a b c : Bool)
+    → nat_le (2 ^ 31) n ≡ a → nat_lt most n ≡ b → eqb (length bytes) (4 + n) ≡ c → n ≡ length_field bytes
+    → cond a (Bad Negative) (cond b (Bad TooLong) (cond c (Payload (drop 4 bytes)) Unfinished)) ≡ Payload payload
+    → IsFrameOf most payload bytes
+frame_field most bytes payload n true b c e l w same f = absurd cc
+frame_field most bytes payload n false true c e l w same f = absurd cc
+frame_field most bytes payload n false false true e l w same f =
+    let h : n ≤ most = grind (arith, nat_tests) in
     record {
       whole = (Decides-eqb (length bytes) (4 + n)).0 w ∙ ap (λ m. 4 + m) same;
-      admitted = subst (λ m. m ≤ LONGEST_INCOMING) same h;
+      admitted = subst (λ m. m ≤ most) same h;
       is = cc;
     }
-frame_field bytes payload n false false false e l w same f = absurd cc
+frame_field most bytes payload n false false false e l w same f = absurd cc
 
-payload_frame : (bytes payload : List ℕ) → cut bytes ≡ Payload payload → IsFrameOf payload bytes
-payload_frame bytes payload e = elim (cases_lt (length bytes) 4) [
-  | inl short ↦ absurd (let f = cut_short bytes short in cc)
-  | inr there ↦ frame_field bytes payload (length_field bytes) (nat_le (2 ^ 31) (length_field bytes)) (nat_lt LONGEST_INCOMING
-      (length_field bytes)) (eqb (length bytes) (4 + length_field bytes)) refl refl refl refl (sym (cut_there bytes there) ∙ e)
+payload_frame : (most : ℕ) (bytes payload : List ℕ) → cut most bytes ≡ Payload payload → IsFrameOf most payload bytes
+payload_frame most bytes payload e = elim (cases_lt (length bytes) 4) [
+  | inl short ↦ absurd (let f = cut_short most bytes short in cc)
+  | inr there ↦ frame_field most bytes payload (length_field bytes) (nat_le (2 ^ 31) (length_field bytes)) (nat_lt most
+      (length_field bytes)) (eqb (length bytes) (4 + length_field bytes)) refl refl refl refl (sym (cut_there most bytes there) ∙ e)
 ]
 
-frame_payload : (bytes payload : List ℕ) → IsFrameOf payload bytes → cut bytes ≡ Payload payload
-frame_payload bytes payload s =
+frame_payload : (most : ℕ) → most < 2 ^ 31 → (bytes payload : List ℕ) → IsFrameOf most payload bytes → cut most bytes ≡ Payload payload
+frame_payload most low bytes payload s =
     let w = s.whole in
     let le = s.admitted in
     let n : nat_le (2 ^ 31) (length_field bytes) ≡ false = grind (arith, nat_tests) in
-    let m : nat_lt LONGEST_INCOMING (length_field bytes) ≡ false = grind (arith, nat_tests) in
-    cut_there bytes (omega arith) ∙ ap (λ b. cond b (Bad Negative) (cond (nat_lt LONGEST_INCOMING (length_field bytes)) (Bad TooLong)
+    let m : nat_lt most (length_field bytes) ≡ false = grind (arith, nat_tests) in
+    cut_there most bytes (omega arith) ∙ ap (λ b. cond b (Bad Negative) (cond (nat_lt most (length_field bytes)) (Bad TooLong)
     (cond (eqb (length bytes) (4 + length_field bytes)) (Payload (drop 4 bytes)) Unfinished))) n
     ∙ ap (λ b. cond b (Bad TooLong) (cond (eqb (length bytes) (4 + length_field bytes)) (Payload (drop 4 bytes)) Unfinished)) m
     ∙ ap (λ b. cond b (Payload (drop 4 bytes)) Unfinished) ((Decides-eqb (length bytes) (4 + length_field bytes)).1 w)
@@ -170,30 +171,33 @@ module _ (view : View) (payload : List ℕ) where
 
 -- ---- a byte
 
-cutting_ends : (view : View) (bytes : List ℕ) (fault : Fault) (c : Cutting) → cut bytes ≡ c → Among (Dropped fault) (of_cutting view c)
+cutting_ends : (view : View) (bytes : List ℕ) (fault : Fault) (c : Cutting) → cut (longest_of view) bytes ≡ c
+    → Among (Dropped fault) (of_cutting view c)
     → ByteEnds view bytes fault
 cutting_ends view bytes fault Unfinished e a = absurd a
 cutting_ends view bytes fault (Bad f) e (inl d) = let g : Framed f ≡ fault = cc in
-    subst (λ t. ByteEnds view bytes t) g (bad_stands bytes f e)
+    subst (λ t. ByteEnds view bytes t) g (bad_stands (longest_of view) bytes f e)
 cutting_ends view bytes fault (Bad f) e (inr a) = absurd a
 cutting_ends view bytes fault (Payload p) e (inr a) = absurd a
 cutting_ends view bytes fault (Payload p) e (inl d) = by fault (drop_ends view p fault d)
   where
     by : (fault : Fault) → EndsBy view p fault → ByteEnds view bytes fault
     by (Framed f) x = absurd x
-    by (Talked f) x = (p, payload_frame bytes p e, x)
+    by (Talked f) x = (p, payload_frame (longest_of view) bytes p e, x)
     by Silent x = absurd x
-    by (Behind s c) x = (p, payload_frame bytes p e, x)
-    by (WatchesRefused c) x = (p, payload_frame bytes p e, x)
+    by (Behind s c) x = (p, payload_frame (longest_of view) bytes p e, x)
+    by (WatchesRefused c) x = (p, payload_frame (longest_of view) bytes p e, x)
 
 ends_payload : (view : View) (bytes : List ℕ) (fault : Fault) (p : List ℕ)
-    → IsFrameOf p bytes → EndsBy view p fault → Among (Dropped fault) (of_cutting view (cut bytes))
+    → IsFrameOf (longest_of view) p bytes → EndsBy view p fault → Among (Dropped fault) (of_cutting view (cut (longest_of view) bytes))
 ends_payload view bytes fault p f x =
-    subst (λ c. Among (Dropped fault) (of_cutting view c)) (sym (frame_payload bytes p f)) (inl (ends_drop view p fault x))
+    subst (λ c. Among (Dropped fault) (of_cutting view c)) (sym (frame_payload (longest_of view) (longest_low view) bytes p f))
+    (inl (ends_drop view p fault x))
 
 ends_cutting : (view : View) (bytes : List ℕ) (fault : Fault)
-    → ByteEnds view bytes fault → Among (Dropped fault) (of_cutting view (cut bytes))
-ends_cutting view bytes (Framed f) s = subst (λ c. Among (Dropped (Framed f)) (of_cutting view c)) (sym (stands_cut bytes f s)) (inl refl)
+    → ByteEnds view bytes fault → Among (Dropped fault) (of_cutting view (cut (longest_of view) bytes))
+ends_cutting view bytes (Framed f) s =
+    subst (λ c. Among (Dropped (Framed f)) (of_cutting view c)) (sym (stands_cut (longest_of view) bytes f s)) (inl refl)
 ends_cutting view bytes (Talked f) s = ends_payload view bytes (Talked f) s.0 s.1 s.2
 ends_cutting view bytes Silent s = absurd s.2
 ends_cutting view bytes (Behind a b) s = ends_payload view bytes (Behind a b) s.0 s.1 s.2
@@ -273,7 +277,7 @@ caused_ends view (Comes byte) fault a = by (open_among view.standing.state (Drop
   where
     by : IsOpen view.standing.state × Among (Dropped fault) (comes view byte) → IsGivenUp view (Comes byte) fault
     by (o, inl e) = absurd cc
-    by (o, inr b) = (o, cutting_ends view (view.held ++ byte ∷ []) fault (cut (view.held ++ byte ∷ [])) refl b)
+    by (o, inr b) = (o, cutting_ends view (view.held ++ byte ∷ []) fault (cut (longest_of view) (view.held ++ byte ∷ [])) refl b)
 caused_ends view Cuts fault a = by (open_among view.standing.state (Dropped fault) (Lost ∷ []) a).1
   where
     by : Among (Dropped fault) (Lost ∷ []) → IsGivenUp view Cuts fault

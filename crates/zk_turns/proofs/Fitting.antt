@@ -27,7 +27,8 @@ use Rattle.zk_watches.specs.Parts.{parts_of_watches, parts}
 use Rattle.zk_turns.specs.Past.{path_of_read}
 use Rattle.zk_turns.specs.Ranges.{IsTyped}
 use Rattle.zk_turns.specs.Spelled.{WordingFits}
-use Rattle.zk_limits.specs.declared.limits.TheConstants.{LONGEST_OUTGOING, MOST_WEIGHT}
+use Rattle.zk_frames.specs.declared.limits.TheConstants.{HIGHEST_LIMIT}
+use Rattle.zk_limits.specs.declared.limits.TheConstants.{MOST_WEIGHT}
 
 -- ---- calls
 
@@ -52,7 +53,7 @@ raw_fits raw.GetAllChildrenNumber = record { sfits = omega arith }
 raw_fits raw.WhoAmI = record { sfits = omega arith }
 
 -- A call that is not too long, of values of their types, fits.
-pub call_fits : (xid : ℕ) (call : Call) → xid < 2 ^ 31 → IsTyped call → length (call_payload (pos xid) call) ≤ LONGEST_OUTGOING
+pub call_fits : (xid : ℕ) (call : Call) → xid < 2 ^ 31 → IsTyped call → length (call_payload (pos xid) call) ≤ HIGHEST_LIMIT
     → WordingFits (pos xid) (wording call)
 call_fits xid (Exists path watch) x t l = let n = length-exists (pos xid) path watch in
     (record { sfits = x }, (record { sfits = omega arith }, ((omega arith, t), tt)))
@@ -91,10 +92,10 @@ connect_fits last timeout session password l t s p = (record { sfits = omega ari
 
 -- a path that a request can have, with what else is known of it
 abbrev pub IsShort : (Text → Type 0) → Text → Type 0
-IsShort Q path = (4 + length path ≤ LONGEST_OUTGOING) × Q path
+IsShort Q path = (4 + length path ≤ HIGHEST_LIMIT) × Q path
 
 -- the path of a read that is not too long
-pub read_short : (Q : Text → Type 0) (xid : ℤ) (call : Call) → length (call_payload xid call) ≤ LONGEST_OUTGOING
+pub read_short : (Q : Text → Type 0) (xid : ℤ) (call : Call) → length (call_payload xid call) ≤ HIGHEST_LIMIT
     → AllByRecursion Q (path_of_read (question_of call)) → AllByRecursion (IsShort Q) (path_of_read (question_of call))
 read_short Q xid (Exists path watch) l q = let n = length-exists xid path watch in ((omega arith, q.0), tt)
 read_short Q xid (GetData path watch) l q = let n = length-get_data xid path watch in ((omega arith, q.0), tt)
@@ -129,7 +130,7 @@ part_weight part = weights part.data_watches + (weights part.exist_watches + wei
 
 -- a part whose payload a frame can tell, and each of whose paths is short
 pub record IsSmall (Q : Text → Type 0) (part : Lists) : Type 0 where
-  pub light : part_weight part ≤ LONGEST_OUTGOING
+  pub light : part_weight part ≤ HIGHEST_LIMIT
   pub known : AllByRecursion (IsShort Q) part.data_watches
   pub missing : AllByRecursion (IsShort Q) part.exist_watches
   pub parents : AllByRecursion (IsShort Q) part.child_watches
@@ -141,7 +142,7 @@ module _ (Q : Text → Type 0) where
   -- a part to which this much is still to come, and those after it
   abbrev AreSmall : ℕ → List Lists → Type 0
   AreSmall n [] = Unit {0}
-  AreSmall n (part ∷ more) = (n + part_weight part ≤ LONGEST_OUTGOING) × IsSmall Q part × AllByRecursion (IsSmall Q) more
+  AreSmall n (part ∷ more) = (n + part_weight part ≤ HIGHEST_LIMIT) × IsSmall Q part × AllByRecursion (IsSmall Q) more
 
   put_weight : (watch : Watch) (part : Lists) → part_weight (put_first watch part) ≡ weight_of watch + part_weight part
   put_weight (OnData path) part = omega arith
@@ -149,7 +150,7 @@ module _ (Q : Text → Type 0) where
   put_weight (OnChild path) part = omega arith
 
   put_small : (watch : Watch) (part : Lists)
-      → OfShort watch → weight_of watch + part_weight part ≤ LONGEST_OUTGOING → IsSmall Q part → IsSmall Q (put_first watch part)
+      → OfShort watch → weight_of watch + part_weight part ≤ HIGHEST_LIMIT → IsSmall Q part → IsSmall Q (put_first watch part)
   put_small (OnData path) part q l s = let w = put_weight (OnData path) part in
       record { light = omega arith; known = (q, s.known); missing = s.missing; parents = s.parents }
   put_small (OnExist path) part q l s = let w = put_weight (OnExist path) part in
@@ -161,37 +162,37 @@ module _ (Q : Text → Type 0) where
   none_small = record { light = omega arith; known = tt; missing = tt; parents = tt }
 
   into_small : (watch : Watch) (n m : ℕ) (ps : List Lists)
-      → OfShort watch → n + weight_of watch ≤ m → m ≤ LONGEST_OUTGOING → AreSmall m ps → AreSmall n (into_first watch ps)
+      → OfShort watch → n + weight_of watch ≤ m → m ≤ HIGHEST_LIMIT → AreSmall m ps → AreSmall n (into_first watch ps)
   into_small watch n m [] q k l s =
       let w = put_weight watch no_lists in
-      let z : weight_of watch + part_weight no_lists ≤ LONGEST_OUTGOING = omega arith in
+      let z : weight_of watch + part_weight no_lists ≤ HIGHEST_LIMIT = omega arith in
       (omega arith, put_small watch no_lists q z none_small, tt)
   into_small watch n m (part ∷ more) q k l s =
       let w = put_weight watch part in
       let h = s.0 in
-      let z : weight_of watch + part_weight part ≤ LONGEST_OUTGOING = omega arith in
+      let z : weight_of watch + part_weight part ≤ HIGHEST_LIMIT = omega arith in
       (omega arith, put_small watch part q z s.1, s.2)
 
   all_small : (n : ℕ) (ps : List Lists) → AreSmall n ps → AllByRecursion (IsSmall Q) ps
   all_small n [] s = tt
   all_small n (part ∷ more) s = (s.1, s.2)
 
-  rest_small : (n : ℕ) (watches : List Watch) → n ≤ LONGEST_OUTGOING → AllByRecursion OfShort watches → AreSmall n (rest_of_parts n watches)
+  rest_small : (n : ℕ) (watches : List Watch) → n ≤ HIGHEST_LIMIT → AllByRecursion OfShort watches → AreSmall n (rest_of_parts n watches)
   rest_small n [] l all = (omega arith, none_small, tt)
   rest_small n (watch ∷ watches) l all = by (nat_le (n + weight_of watch) MOST_WEIGHT) refl (λ m. λ k. rest_small m watches k all.1)
     where
       by : (b : Bool) → nat_le (n + weight_of watch) MOST_WEIGHT ≡ b
-          → ((m : ℕ) → m ≤ LONGEST_OUTGOING → AreSmall m (rest_of_parts m watches))
+          → ((m : ℕ) → m ≤ HIGHEST_LIMIT → AreSmall m (rest_of_parts m watches))
           → AreSmall n (cond b (into_first watch (rest_of_parts (n + weight_of watch) watches))
           (no_lists ∷ into_first watch (rest_of_parts (weight_of watch) watches)))
       by true e ih =
           let le = leb-true (n + weight_of watch) MOST_WEIGHT e in
-          let within : n + weight_of watch ≤ LONGEST_OUTGOING = omega arith in
+          let within : n + weight_of watch ≤ HIGHEST_LIMIT = omega arith in
           into_small watch n (n + weight_of watch) (rest_of_parts (n + weight_of watch) watches) all.0 (omega arith) within
           (ih (n + weight_of watch) within)
       by false e ih =
           let first = all.0.0 in
-          let within : weight_of watch ≤ LONGEST_OUTGOING = omega arith in (
+          let within : weight_of watch ≤ HIGHEST_LIMIT = omega arith in (
             omega arith,
             none_small,
             all_small 0 (into_first watch (rest_of_parts (weight_of watch) watches)) (into_small watch 0
@@ -202,7 +203,7 @@ module _ (Q : Text → Type 0) where
   cut_small [] all = tt
   cut_small (watch ∷ watches) all =
       let first = all.0.0 in
-      let within : weight_of watch ≤ LONGEST_OUTGOING = omega arith in
+      let within : weight_of watch ≤ HIGHEST_LIMIT = omega arith in
       all_small 0 (into_first watch (rest_of_parts (weight_of watch) watches)) (into_small watch 0 (weight_of watch)
       (rest_of_parts (weight_of watch) watches) all.0 (omega arith) within (rest_small (weight_of watch) watches within all.1))
 
@@ -232,7 +233,7 @@ each_fits : (texts : List Text)
 each_fits [] all = tt
 each_fits (text ∷ texts) all = let l = all.0.0 in ((omega arith, all.0.1), each_fits texts all.1)
 
-texts_fit : (texts : List Text) → weights texts ≤ LONGEST_OUTGOING → AllByRecursion (IsShort (λ path. is_utf8 path ≡ true)) texts
+texts_fit : (texts : List Text) → weights texts ≤ HIGHEST_LIMIT → AllByRecursion (IsShort (λ path. is_utf8 path ≡ true)) texts
     → Fits (vector ustring) (texts_value texts)
 texts_fit texts l all = let f = few texts in (omega arith, each_fits texts all)
 

@@ -18,9 +18,18 @@ use Rattle.zk_turns.proofs.Registered.{reply_lists, notice_lists, empty_lists}
 use Rattle.zk_turns.proofs.Cached.{reply_cache, notice_cache}
 
 pub view_ext : (a b : View) → a.standing ≡ b.standing → a.saved ≡ b.saved → a.moments ≡ b.moments → a.pending ≡ b.pending → a.held ≡ b.held
-    → a.xid ≡ b.xid → a.lists ≡ b.lists → a.cache ≡ b.cache → a ≡ b
-view_ext a b p q r s t u v w =
-    λ i. record { standing = p i; saved = q i; moments = r i; pending = s i; held = t i; xid = u i; lists = v i; cache = w i }
+    → a.xid ≡ b.xid → a.lists ≡ b.lists → a.cache ≡ b.cache → a.limits ≡ b.limits → a ≡ b
+view_ext a b p q r s t u v w x = λ i. record {
+  standing = p i;
+  saved = q i;
+  moments = r i;
+  pending = s i;
+  held = t i;
+  xid = u i;
+  lists = v i;
+  cache = w i;
+  limits = x i;
+}
 
 -- ---- questions
 
@@ -75,11 +84,11 @@ module _ (start : Start) where
   reply_next ticket Close zxid result past =
       view_ext _ _ refl refl refl refl refl refl
       (empty_lists (Took (Replies ticket Close zxid result)) past (λ q. refl) (λ q. refl))
-      refl
+      refl refl
   reply_next ticket question zxid result past =
       view_ext _ _ refl refl refl (one_answered (is_talking (state_of past)) (answered past) (questions past)) refl refl
       (reply_lists ticket question zxid result past (λ n. n))
-      (reply_cache start ticket question zxid result past (λ n. n))
+      (reply_cache start ticket question zxid result past (λ n. n)) refl
 
   pub one_happening : (happening : Happening) (past : Past)
       → MayHappen happening past → next (view_at start past) happening ≡ view_at start (happening ∷ past)
@@ -92,21 +101,21 @@ module _ (start : Start) where
   one_happening (Ticked moment) past may = refl
   one_happening Forgot past may = refl
   one_happening Halted past may =
-      view_ext _ _ refl refl refl refl refl refl (empty_lists Halted past (λ q. refl) (λ q. refl)) refl
+      view_ext _ _ refl refl refl refl refl refl (empty_lists Halted past (λ q. refl) (λ q. refl)) refl refl
   one_happening (Asked ticket question) past may =
       view_ext _ _ refl refl refl
       (one_asked (is_talking (state_of past)) (answered past) (questions past) (For_call (xid_of past) ticket question) may.0 may.1)
-      refl (next_xid_is (calls_sent past)) refl refl
+      refl (next_xid_is (calls_sent past)) refl refl refl
   one_happening (Took (Accepted welcome)) past may =
-      view_ext _ _ refl refl (any_moments (parts (lists_of past)) past) refl refl refl refl refl
+      view_ext _ _ refl refl (any_moments (parts (lists_of past)) past) refl refl refl refl refl refl
   one_happening (Took Expiry) past may =
-      view_ext _ _ refl refl refl refl refl refl (empty_lists (Took Expiry) past (λ q. refl) (λ q. refl)) refl
+      view_ext _ _ refl refl refl refl refl refl (empty_lists (Took Expiry) past (λ q. refl) (λ q. refl)) refl refl
   one_happening (Took (Replies ticket question zxid result)) past may = reply_next ticket question zxid result past
   one_happening (Took (Watches_set true zxid)) past may =
-      view_ext _ _ refl refl refl (one_answered (is_talking (state_of past)) (answered past) (questions past)) refl refl refl refl
+      view_ext _ _ refl refl refl (one_answered (is_talking (state_of past)) (answered past) (questions past)) refl refl refl refl refl
   one_happening (Took (Watches_set false zxid)) past may =
-      view_ext _ _ refl refl refl (one_answered (is_talking (state_of past)) (answered past) (questions past)) refl refl refl refl
+      view_ext _ _ refl refl refl (one_answered (is_talking (state_of past)) (answered past) (questions past)) refl refl refl refl refl
   one_happening (Took (Notifies event path)) past may =
-      view_ext _ _ refl refl refl refl refl refl (notice_lists event path past) (notice_cache start event path past)
+      view_ext _ _ refl refl refl refl refl refl (notice_lists event path past) (notice_cache start event path past) refl
   one_happening (Took Pong) past may = refl
   one_happening (Took Skipped) past may = refl

@@ -13,7 +13,7 @@ use Rattle.zk_turns.specs.Past.{Replies, Watches_set, is_final, is_over, has_hal
 use Rattle.std.specs.Int.{int_max}
 use Rattle.zk_cache.specs.Kept.{without_stale}
 use Rattle.zk_turns.specs.View.{View, view_at}
-use Rattle.zk_turns.specs.Taken.{happenings, caused, opens, if_open, of_cutting, cut, Cutting, Unfinished, Bad, Payload, due}
+use Rattle.zk_turns.specs.Taken.{happenings, caused, opens, if_open, of_cutting, cut, longest, Cutting, Unfinished, Bad, Payload, due}
 use Rattle.zk_turns.specs.Taken.{refusal_when_connected, joined, past_after, past_of}
 use Rattle.zk_turns.proofs.Cases.{by_due}
 use Rattle.zk_turns.proofs.Registered.{empty_lists}
@@ -134,8 +134,13 @@ module _ (start : Start) where
   caused_quiet : (signal : Signal) (past : Past) → has_halted past ≡ false → AllQuiet (caused (view_at start past) signal) past
   caused_quiet Opens past h = opens_quiet (state_of past) past h refl
   caused_quiet (Comes byte) past h =
-      open_quiet (state_of past) (Came byte) (of_cutting (view_at start past) (cut (held_of past ++ byte ∷ []))) past
-      (λ e. (not_over past _ h e, cutting_quiet (cut (held_of past ++ byte ∷ [])) byte past (not_over past ⊥ h e)))
+      open_quiet (state_of past) (Came byte)
+      (of_cutting (view_at start past) (cut (longest start.limits (state_of past)) (held_of past ++ byte ∷ []))) past
+      (λ e. (
+        not_over past _ h e,
+        cutting_quiet (cut (longest start.limits (state_of past)) (held_of past ++ byte ∷ [])) byte past
+            (not_over past ⊥ h e),
+      ))
   caused_quiet Cuts past h = open_quiet (state_of past) Lost [] past (λ e. (not_over past _ h e, tt))
   caused_quiet (Ticks moment) past h =
       (λ f. tt, due_open_quiet (state_of past) (view_at start past) _ moment past (λ e. not_over past ⊥ h e))

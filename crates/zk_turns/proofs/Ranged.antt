@@ -3,7 +3,7 @@
 use Rattle.std.proofs.Common.{◌≡◌, ℕ, zero, suc, ℤ, pos, negsuc, ◌+◌, ◌≤◌, ◌^◌, Bool, true, false, cond, eqb, leb, ltb, ◌&&◌, List, [], ◌∷◌}
 use Rattle.std.proofs.Common.{◌++◌, map, reverse, drop, length, Option, Some, None, Ok, Err, refl, sym, subst, ◌∙◌, arith, length-drop}
 use Rattle.std.proofs.Common.{ltb-false, ltb-true}
-use Rattle.std.specs.Prelude.{FitsSigned, int_lt, nat_le, ◌==◌, filter, not, Result as Reading}
+use Rattle.std.specs.Prelude.{◌≢◌, FitsSigned, int_lt, nat_le, ◌==◌, filter, not, Result as Reading}
 use Rattle.std.specs.List.{AllByRecursion}
 use Rattle.std.specs.Int.{w64}
 use Rattle.std.specs.Ordering.{int_eq}
@@ -17,10 +17,11 @@ use Rattle.zk_records.specs.declared.event.Event.{Event}
 use Rattle.zk_records.specs.declared.reply_header.ReplyHeader.{ReplyHeader}
 use Rattle.zk_records.specs.Layouts.{reply_header, watcher_event}
 use Rattle.zk_records.specs.Response.{Response, response_at}
+use Rattle.zk_frames.specs.declared.limits.FrameLimits.{FrameLimits}
 use Rattle.zk_frames.specs.Frame.{length_field}
 use Rattle.zk_frames.specs.declared.fault.FrameFault.TheVariants.{Negative, TooLong}
 use Rattle.zk_session.specs.declared.states.State.{State}
-use Rattle.zk_session.specs.declared.states.State.TheVariants.{Idle, Connecting, Connected}
+use Rattle.zk_session.specs.declared.states.State.TheVariants.{Idle, Connecting, Connected, Expired, Closed}
 use Rattle.zk_conversation.specs.declared.fault.TalkFault.{TalkFault}
 use Rattle.zk_conversation.specs.declared.fault.TalkFault.TheVariants.{OtherXid}
 use Rattle.zk_conversation.specs.declared.phase.Phase.{Phase}
@@ -43,7 +44,8 @@ use Rattle.zk_turns.specs.Past.{answered, awaited, pending_of, is_talking, state
 use Rattle.zk_turns.specs.Past.{session_of, path_of_read, path_of_reply, arrivals, firsts, listed}
 use Rattle.std.specs.Int.{int_max}
 use Rattle.zk_turns.specs.View.{View, view_at}
-use Rattle.zk_turns.specs.Taken.{cut, cut_at, Cutting, Unfinished, Bad, Payload, of_cutting, comes, phase_of, welcome_by, leaves_watch}
+use Rattle.zk_turns.specs.Taken.{cut, cut_at, longest, Cutting, Unfinished, Bad, Payload, of_cutting, comes, phase_of, welcome_by}
+use Rattle.zk_turns.specs.Taken.{leaves_watch}
 use Rattle.zk_turns.specs.Taken.{taken_of, is_full_on, refusal, opens, caused, happenings, joined, past_after, past_of}
 use Rattle.zk_turns.specs.Ranges.{AsksOf, AllAskOf, IsResumable}
 use Rattle.zk_turns.proofs.Cases.{by_cond, by_header, by_open, by_due}
@@ -52,7 +54,8 @@ use Rattle.zk_turns.proofs.Fitting.{IsShort, read_short}
 use Rattle.zk_turns.proofs.Lists.{reverse-cons}
 use Rattle.zk_turns.proofs.Pieces.{cut_there, cut_short}
 use Rattle.zk_turns.proofs.Words.{happening_of, refusal_in, calls}
-use Rattle.zk_limits.specs.declared.limits.TheConstants.{LONGEST_INCOMING, LONGEST_OUTGOING, MOST_PENDING}
+use Rattle.zk_frames.specs.declared.limits.TheConstants.{HIGHEST_LIMIT}
+use Rattle.zk_limits.specs.declared.limits.TheConstants.{LONGEST_INCOMING, MOST_PENDING}
 
 -- ---- all of a list
 
@@ -91,7 +94,7 @@ pub record IsOfCall (P : Call → Type 0) (question : Question) : Type 0 where
   pub xid : ℤ
   pub call : Call
   pub of : P call
-  pub short : length (call_payload xid call) ≤ LONGEST_OUTGOING
+  pub short : length (call_payload xid call) ≤ HIGHEST_LIMIT
   pub is : question_of call ≡ question
 
 module _ (P : Call → Type 0) where
@@ -102,7 +105,7 @@ module _ (P : Call → Type 0) where
   IsRangedMessage _ = Unit {0}
 
   abbrev pub IsRanged : Happening → Past → Type 0
-  IsRanged (Asked ticket call) past = P call × (length (call_payload (pos (xid_of past)) call) ≤ LONGEST_OUTGOING)
+  IsRanged (Asked ticket call) past = P call × (length (call_payload (pos (xid_of past)) call) ≤ HIGHEST_LIMIT)
   IsRanged (Took message) past = IsRangedMessage message
   IsRanged _ past = Unit {0}
 
@@ -114,7 +117,7 @@ module _ (P : Call → Type 0) where
 
   abbrev OfAsked : Asking → Type 0
   OfAsked (For_part last) = Unit {0}
-  OfAsked (For_call xid ticket call) = P call × (length (call_payload (pos xid) call) ≤ LONGEST_OUTGOING)
+  OfAsked (For_call xid ticket call) = P call × (length (call_payload (pos xid) call) ≤ HIGHEST_LIMIT)
 
   abbrev OfWaiting : Waiting → Type 0
   OfWaiting (Part_waits last) = Unit {0}
@@ -209,12 +212,26 @@ module _ (P : Call → Type 0) where
     of_first end payload (Ok found) e l = let s = response_ok end payload found e in let k = s.1 in (s.0, omega arith)
     of_first end payload (Err fault) e l = tt
 
-    of_arriving : (phase : Phase) (ps : List Pending) (payload : List ℕ)
-        → length payload ≤ n → AllByRecursion OfPending ps → OfReading (arriving phase ps payload)
+    of_talk : (ps : List Pending) (payload : List ℕ) → AllByRecursion OfPending ps → OfReading (arriving Talking ps payload)
     unfolding arriving
-    of_arriving Talking ps payload l w = of_later ps (length payload) payload (reading reply_header (length payload) payload) refl w
-    of_arriving Opening ps payload l w = of_first (length payload) payload (response_at (length payload) payload) refl l
-    of_arriving Nowhere ps payload l w = of_first (length payload) payload (response_at (length payload) payload) refl l
+    of_talk ps payload w = of_later ps (length payload) payload (reading reply_header (length payload) payload) refl w
+
+    of_welcome : (phase : Phase) → phase ≢ Talking → (ps : List Pending) (payload : List ℕ)
+        → length payload ≤ n → OfReading (arriving phase ps payload)
+    unfolding arriving
+    of_welcome Talking other ps payload l = absurd (other refl)
+    of_welcome Opening other ps payload l = of_first (length payload) payload (response_at (length payload) payload) refl l
+    of_welcome Nowhere other ps payload l = of_first (length payload) payload (response_at (length payload) payload) refl l
+
+  -- a password comes with the first payload of a connection, whose limit is that of every session
+  of_arriving : (limits : FrameLimits) (state : State) (ps : List Pending) (payload : List ℕ)
+      → length payload ≤ longest limits state → AllByRecursion OfPending ps
+      → OfReading LONGEST_INCOMING (arriving (phase_of state) ps payload)
+  of_arriving limits Connected ps payload l w = of_talk LONGEST_INCOMING ps payload w
+  of_arriving limits Connecting ps payload l w = of_welcome LONGEST_INCOMING Opening (λ e. cc) ps payload l
+  of_arriving limits Idle ps payload l w = of_welcome LONGEST_INCOMING Nowhere (λ e. cc) ps payload l
+  of_arriving limits Expired ps payload l w = of_welcome LONGEST_INCOMING Nowhere (λ e. cc) ps payload l
+  of_arriving limits Closed ps payload l w = of_welcome LONGEST_INCOMING Nowhere (λ e. cc) ps payload l
 
   -- ---- what is taken
 
@@ -246,29 +263,29 @@ module _ (P : Call → Type 0) where
 
   -- ---- what happens
 
-  short_by : (bytes payload : List ℕ) (n : ℕ) (a b c : Bool) → ltb LONGEST_INCOMING n ≡ b → eqb (length bytes) (4 + n) ≡ c
+  short_by : (most : ℕ) (bytes payload : List ℕ) (n : ℕ) (a b c : Bool) → ltb most n ≡ b → eqb (length bytes) (4 + n) ≡ c
       → cond a (Bad Negative) (cond b (Bad TooLong) (cond c (Payload (drop 4 bytes)) Unfinished)) ≡ Payload payload
-      → length payload ≤ LONGEST_INCOMING
-  short_by bytes payload n true b c e f g = absurd cc
-  short_by bytes payload n false true c e f g = absurd cc
-  short_by bytes payload n false false true e f g =
-      let l = ltb-false LONGEST_INCOMING n e in
+      → length payload ≤ most
+  short_by most bytes payload n true b c e f g = absurd cc
+  short_by most bytes payload n false true c e f g = absurd cc
+  short_by most bytes payload n false false true e f g =
+      let l = ltb-false most n e in
       let whole = (Decides-eqb (length bytes) (4 + n)).0 f in
       let is : drop 4 bytes ≡ payload = cc in
-      subst (λ p. length p ≤ LONGEST_INCOMING) is (omega (arith, length-drop 4 bytes))
-  short_by bytes payload n false false false e f g = absurd cc
+      subst (λ p. length p ≤ most) is (omega (arith, length-drop 4 bytes))
+  short_by most bytes payload n false false false e f g = absurd cc
 
   -- a payload is no longer than is admitted
-  payload_short : (bytes payload : List ℕ) → cut bytes ≡ Payload payload → length payload ≤ LONGEST_INCOMING
-  payload_short bytes payload e = by (ltb (length bytes) 4) refl
+  payload_short : (most : ℕ) (bytes payload : List ℕ) → cut most bytes ≡ Payload payload → length payload ≤ most
+  payload_short most bytes payload e = by (ltb (length bytes) 4) refl
     where
-      at : 4 ≤ length bytes → cut_at (length_field bytes) bytes ≡ Payload payload
-      at there = sym (cut_there bytes there) ∙ e
+      at : 4 ≤ length bytes → cut_at most (length_field bytes) bytes ≡ Payload payload
+      at there = sym (cut_there most bytes there) ∙ e
 
-      by : (b : Bool) → ltb (length bytes) 4 ≡ b → length payload ≤ LONGEST_INCOMING
-      by true short = let f = cut_short bytes (ltb-true (length bytes) 4 short) in absurd cc
+      by : (b : Bool) → ltb (length bytes) 4 ≡ b → length payload ≤ most
+      by true short = let f = cut_short most bytes (ltb-true (length bytes) 4 short) in absurd cc
       by false there =
-          short_by bytes payload (length_field bytes) (leb (2 ^ 31) (length_field bytes)) (ltb LONGEST_INCOMING (length_field bytes))
+          short_by most bytes payload (length_field bytes) (leb (2 ^ 31) (length_field bytes)) (ltb most (length_field bytes))
           (eqb (length bytes) (4 + length_field bytes)) refl refl
           (at (ltb-false (length bytes) 4 there))
 
@@ -282,16 +299,17 @@ module _ (P : Call → Type 0) where
 
   -- a call that is not refused is not too long
   pub sent_short : (state : State) (view : View) (call : Call)
-      → refusal_in state view call ≡ None → length (call_payload (pos view.xid) call) ≤ LONGEST_OUTGOING
+      → refusal_in state view call ≡ None → length (call_payload (pos view.xid) call) ≤ HIGHEST_LIMIT
   sent_short Connected view call e =
-      let long = ltb LONGEST_OUTGOING (length (call_payload (pos view.xid) call)) in
+      let long = ltb view.limits.outgoing (length (call_payload (pos view.xid) call)) in
       let third : Option Outcome = cond long (Some TooLarge) None in
       let second : Option Outcome = cond (is_full_on view (watched_side (question_of call))) (Some TooManyWatches) third in
       let first : Option Outcome = cond (nat_le MOST_PENDING (calls_pending view.pending)) (Some TooManyPending) second in
       let a = not_this (is_close_pending view.pending) SessionClosed first e in
       let b = not_this (nat_le MOST_PENDING (calls_pending view.pending)) TooManyPending second a in
       let c = not_this (is_full_on view (watched_side (question_of call))) TooManyWatches third b in
-      ltb-false LONGEST_OUTGOING (length (call_payload (pos view.xid) call)) (not_long long c)
+      let d = ltb-false view.limits.outgoing (length (call_payload (pos view.xid) call)) (not_long long c) in
+      omega (arith, view.limits.most_outgoing)
   sent_short _ view call e = absurd cc
 
   abbrev OfSignal : Signal → Type 0
@@ -299,14 +317,15 @@ module _ (P : Call → Type 0) where
   OfSignal _ = Unit {0}
 
   module _ (start : Start) where
-    cutting_ranged : (cutting : Cutting) (byte : ℕ) (past : Past) → AreRanged past → cut (held_of past ++ byte ∷ []) ≡ cutting
+    cutting_ranged : (cutting : Cutting) (byte : ℕ) (past : Past) → AreRanged past
+        → cut (longest start.limits (state_of past)) (held_of past ++ byte ∷ []) ≡ cutting
         → AreRanged (joined (Came byte ∷ past) (of_cutting (view_at start past) cutting))
     cutting_ranged Unfinished byte past r e = (tt, r)
     cutting_ranged (Bad fault) byte past r e = (tt, (tt, r))
     cutting_ranged (Payload payload) byte past r e = (
       result_ranged (Came byte ∷ past) (last_of start past) (arriving (phase_of (state_of past)) (pending_of past) payload)
-          (of_arriving LONGEST_INCOMING (phase_of (state_of past)) (pending_of past) payload
-          (payload_short (held_of past ++ byte ∷ []) payload e) (pending_ranged past r)),
+          (of_arriving start.limits (state_of past) (pending_of past) payload
+          (payload_short (longest start.limits (state_of past)) (held_of past ++ byte ∷ []) payload e) (pending_ranged past r)),
       (tt, r),
     )
 
@@ -320,7 +339,7 @@ module _ (P : Call → Type 0) where
     opens_ranged _ past r = r
 
     calls_ranged : (ticket : ℕ) (call : Call) (why : Option Outcome) (past : Past)
-        → P call → (why ≡ None → length (call_payload (pos (xid_of past)) call) ≤ LONGEST_OUTGOING)
+        → P call → (why ≡ None → length (call_payload (pos (xid_of past)) call) ≤ HIGHEST_LIMIT)
         → AreRanged past → AreRanged (joined past (calls ticket call why))
     calls_ranged ticket call None past p short r = ((p, short refl), r)
     calls_ranged ticket call (Some why) past p short r = (tt, r)
@@ -329,7 +348,7 @@ module _ (P : Call → Type 0) where
         → OfSignal signal → AreRanged past → AreRanged (joined past (caused (view_at start past) signal))
     caused_ranged Opens past o r = opens_ranged (state_of past) past r
     caused_ranged (Comes byte) past o r = by_open (RangedBehind past) (state_of past) (comes (view_at start past) byte) r
-        (cutting_ranged (cut (held_of past ++ byte ∷ [])) byte past r refl)
+        (cutting_ranged (cut (longest start.limits (state_of past)) (held_of past ++ byte ∷ [])) byte past r refl)
     caused_ranged Cuts past o r = by_open (RangedBehind past) (state_of past) (Lost ∷ []) r (tt, r)
     caused_ranged (Ticks moment) past o r = by_open (RangedBehind (Ticked moment ∷ past)) (state_of past) _ (tt, r)
         (by_due (RangedBehind (Ticked moment ∷ past)) (view_at start past) _ (tt, (tt, r)) (tt, (tt, r)) (tt, r))

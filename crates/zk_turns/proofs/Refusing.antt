@@ -18,7 +18,7 @@ use Rattle.zk_turns.specs.Taken.{is_full_on, refusal}
 use Rattle.zk_turns.specs.Meaning.{Among}
 use Rattle.zk_turns.specs.Causes.{IsFirstOf, in_turn}
 use Rattle.zk_turns.proofs.Words.{refusal_in}
-use Rattle.zk_limits.specs.declared.limits.TheConstants.{LONGEST_OUTGOING, MOST_PATHS, MOST_PENDING}
+use Rattle.zk_limits.specs.declared.limits.TheConstants.{MOST_PATHS, MOST_PENDING}
 
 any_close : (ps : List Pending) → list_any is_close ps ≡ true → (close : Pending) × Among close ps × (is_close close ≡ true)
 any_close [] e = absurd cc
@@ -71,9 +71,9 @@ module _ (view : View) (call : Call) where
   ]
 
   -- the tests of a connected client, one after the other
-  large : (why : Option Outcome) → why ≡ cond (nat_lt LONGEST_OUTGOING (length (call_payload (pos view.xid) call))) (Some TooLarge) None
+  large : (why : Option Outcome) → why ≡ cond (nat_lt view.limits.outgoing (length (call_payload (pos view.xid) call))) (Some TooLarge) None
       → IsFirstOf (TooLarge ∷ []) view call why
-  large why e = elim (lt_or LONGEST_OUTGOING (length (call_payload (pos view.xid) call))) [
+  large why e = elim (lt_or view.limits.outgoing (length (call_payload (pos view.xid) call))) [
     | inl t ↦ inl (t.0, e ∙ ap (λ b. cond b (Some TooLarge) None) t.1)
     | inr t ↦ inr (t.0, e ∙ ap (λ b. cond b (Some TooLarge) None) t.1)
   ]

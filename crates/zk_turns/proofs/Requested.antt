@@ -24,7 +24,7 @@ use Rattle.zk_turns.specs.Spelled.{WordingFits}
 use Rattle.zk_turns.proofs.Fitting.{IsSmall, parts_small, call_fits, connect_fits, part_fits, typed_paths, any_paths}
 use Rattle.zk_conversation.proofs.Lengths.{length-part}
 use Rattle.zk_turns.proofs.Ranged.{IsRanged, AreRanged, items_ranged, last_fits, session_ranged, listed_short}
-use Rattle.zk_limits.specs.declared.limits.TheConstants.{LONGEST_OUTGOING}
+use Rattle.zk_frames.specs.declared.limits.TheConstants.{HIGHEST_LIMIT}
 
 -- ---- premises
 
@@ -57,13 +57,13 @@ new_resumable timeout t = record {
 -- ---- one request
 
 pub told_call : (past : Past) (call : Call)
-    → length (call_payload (pos (xid_of past)) call) ≤ LONGEST_OUTGOING → length (call_payload (pos (xid_of past)) call) < 2 ^ 31
+    → length (call_payload (pos (xid_of past)) call) ≤ HIGHEST_LIMIT → length (call_payload (pos (xid_of past)) call) < 2 ^ 31
 told_call past call l = omega arith
 
 xid_small : (past : Past) → xid_of past < 2 ^ 31
 xid_small past = omega arith
 
-pub fits_call : (past : Past) (call : Call) → IsTyped call → length (call_payload (pos (xid_of past)) call) ≤ LONGEST_OUTGOING
+pub fits_call : (past : Past) (call : Call) → IsTyped call → length (call_payload (pos (xid_of past)) call) ≤ HIGHEST_LIMIT
     → WordingFits (pos (xid_of past)) (wording call)
 fits_call past call t l = call_fits (xid_of past) call (xid_small past) t l
 

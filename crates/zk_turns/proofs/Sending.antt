@@ -23,7 +23,8 @@ use Rattle.zk_turns.specs.Past.{Message, Accepted, Expiry, Replies, Watches_set,
 use Rattle.zk_turns.specs.Past.{lists_of, last_of}
 use Rattle.zk_watches.specs.Parts.{parts}
 use Rattle.zk_turns.specs.View.{View, view_at}
-use Rattle.zk_turns.specs.Taken.{reading, caused, happenings, opens, of_cutting, cut, Cutting, Unfinished, Bad, Payload, due, refusal}
+use Rattle.zk_turns.specs.Taken.{reading, caused, happenings, opens, of_cutting, cut, longest, Cutting, Unfinished, Bad, Payload, due}
+use Rattle.zk_turns.specs.Taken.{refusal}
 use Rattle.zk_turns.specs.Taken.{joined, past_after, past_of, comes, if_open}
 use Rattle.zk_turns.specs.Rule.{IsOpen, says, part_frame, loss, losses, report, due_happenings, due_signals, AllSaid, Stands}
 use Rattle.zk_turns.specs.Sent.{outputs_of, told_state, sends}
@@ -160,8 +161,10 @@ module _ (start : Start) where
 
   byte_sends : (state : State) (byte : ℕ) (past : Past) (outs : List Output) → (IsOpen state → IsOpen (state_of past))
       → Sent past outs → After (if_open state (comes (view_at start past) byte)) past outs
-  byte_sends Connecting byte past outs up s o = cutting_sends (cut (held_of past ++ byte ∷ [])) byte past outs (up refl) s o
-  byte_sends Connected byte past outs up s o = cutting_sends (cut (held_of past ++ byte ∷ [])) byte past outs (up refl) s o
+  byte_sends Connecting byte past outs up s o =
+      cutting_sends (cut (longest start.limits (state_of past)) (held_of past ++ byte ∷ [])) byte past outs (up refl) s o
+  byte_sends Connected byte past outs up s o =
+      cutting_sends (cut (longest start.limits (state_of past)) (held_of past ++ byte ∷ [])) byte past outs (up refl) s o
   byte_sends _ byte past outs up s o = s o
 
   lost_sends : (state : State) (past : Past) (outs : List Output) → Sent past outs → After (if_open state (Lost ∷ [])) past outs

@@ -5,7 +5,7 @@ use Rattle.zk_turns.proofs.Arriving.{IsOf, AreOf, of_arriving}
 use Rattle.zk_turns.specs.Past.{Asking, For_call, pending_for, awaited}
 use Rattle.zk_conversation.specs.declared.phase.Phase.{Phase}
 use Rattle.zk_conversation.specs.Calls.{Call}
-use Rattle.zk_turns.specs.Taken.{phase_of, taken_of, welcome_by}
+use Rattle.zk_turns.specs.Taken.{longest, phase_of, taken_of, welcome_by}
 use Rattle.zk_conversation.specs.Arriving.{Arrived, Connected as Welcomed, Replied, Watches_set as Part_set, Notice, Pong as Ponged}
 use Rattle.zk_conversation.specs.Arriving.{Skipped as Passed, arriving}
 use Rattle.zk_conversation.specs.declared.fault.TalkFault.{TalkFault}
@@ -138,7 +138,7 @@ module _ (start : Start) where
       by Connected = (tt, (tt, tt))
       by _ = tt
   caused_may (Comes byte) past c = by_open (MayFollow past) (state_of past) (comes (view_at start past) byte) tt
-      (tt, cutting_may (cut (held_of past ++ byte ∷ [])) byte past)
+      (tt, cutting_may (cut (longest start.limits (state_of past)) (held_of past ++ byte ∷ [])) byte past)
   caused_may Cuts past c = by_open (MayFollow past) (state_of past) (Lost ∷ []) tt (tt, tt)
   caused_may (Ticks moment) past c = (
     tt,

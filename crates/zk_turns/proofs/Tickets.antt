@@ -10,7 +10,8 @@ use Rattle.zk_turns.specs.Past.{questions, answered, pending_of, held_of, has_ha
 use Rattle.zk_conversation.specs.declared.phase.Phase.{Phase}
 use Rattle.zk_conversation.specs.Calls.{Call as Asked_call}
 use Rattle.zk_nodes.specs.Path.{Text}
-use Rattle.zk_turns.specs.Taken.{phase_of, taken_of, welcome_by, reading, leaves_watch, refusal, caused, happenings, opens, of_cutting, cut}
+use Rattle.zk_turns.specs.Taken.{longest, longest_of, phase_of, taken_of, welcome_by, reading, leaves_watch, refusal, caused, happenings}
+use Rattle.zk_turns.specs.Taken.{opens, of_cutting, cut}
 use Rattle.zk_turns.specs.Taken.{Cutting, Unfinished, Bad, Payload, due, timeout_of, joined, past_after, past_of, comes, if_open}
 use Rattle.zk_conversation.specs.Arriving.{Arrived, Connected as Welcomed, Replied, Watches_set as Part_set, Notice, Pong as Ponged}
 use Rattle.zk_conversation.specs.Arriving.{Skipped as Passed, arriving}
@@ -284,7 +285,7 @@ module _ (start : Start) where
   caused_fit : (signal : Signal) (past : Past) → AllFit (caused (view_at start past) signal) past
   caused_fit Opens past = opens_fit (state_of past) past refl
   caused_fit (Comes byte) past = by_open (FitBehind past) (state_of past) (comes (view_at start past) byte) tt
-      (tt, cutting_fits (cut (held_of past ++ byte ∷ [])) byte past)
+      (tt, cutting_fits (cut (longest start.limits (state_of past)) (held_of past ++ byte ∷ [])) byte past)
   caused_fit Cuts past = by_open (FitBehind past) (state_of past) (Lost ∷ []) tt (tt, tt)
   caused_fit (Ticks moment) past = (
     tt,
@@ -404,7 +405,8 @@ module _ (start : Start) where
   unfolding called_all called_with signal_calls
   caused_calls t view Opens = opens_calls t view.standing.state
   caused_calls t view (Comes byte) =
-      open_calls t view.standing.state (comes view byte) (let h = cutting_calls t view (cut (view.held ++ byte ∷ [])) in omega arith)
+      open_calls t view.standing.state (comes view byte)
+      (let h = cutting_calls t view (cut (longest_of view) (view.held ++ byte ∷ [])) in omega arith)
   caused_calls t view Cuts = open_calls t view.standing.state (Lost ∷ []) refl
   caused_calls t view (Ticks moment) =
       let h : called_all start t (if_open view.standing.state (due view (max moment view.moments.now))) ≡ 0 =

@@ -14,10 +14,10 @@ use Rattle.zk_conversation.specs.Arriving.{arriving, Replied, Watches_set}
 use Rattle.zk_turns.specs.Turns.{Outcome, SessionExpired, SessionClosed, NotConnected, TooManyPending, TooManyWatches, TooLarge, Fault}
 use Rattle.zk_turns.specs.Turns.{Framed, Talked, Silent, Behind, WatchesRefused, Signal, Comes, Ticks}
 use Rattle.zk_turns.specs.View.{View}
-use Rattle.zk_turns.specs.Taken.{phase_of, timeout_of, leaves_watch}
+use Rattle.zk_turns.specs.Taken.{longest_of, phase_of, timeout_of, leaves_watch}
 use Rattle.zk_turns.specs.Rule.{IsOpen}
 use Rattle.zk_turns.specs.Meaning.{Among}
-use Rattle.zk_limits.specs.declared.limits.TheConstants.{LONGEST_INCOMING, LONGEST_OUTGOING, MOST_PATHS, MOST_PENDING}
+use Rattle.zk_limits.specs.declared.limits.TheConstants.{MOST_PATHS, MOST_PENDING}
 
 -- Calls
 
@@ -31,7 +31,7 @@ Applies NotConnected view call = view.standing.state ≢ Connected
 Applies TooManyPending view call = MOST_PENDING ≤ calls_pending view.pending
 Applies TooManyWatches view call = (side : Side) × (watched_side (question_of call) ≡ Some side)
     × (MOST_PATHS ≤ count_of view.lists side + watches_pending side view.pending)
-Applies TooLarge view call = LONGEST_OUTGOING < length (call_payload (pos view.xid) call)
+Applies TooLarge view call = view.limits.outgoing < length (call_payload (pos view.xid) call)
 Applies _ view call = ⊥
 
 -- the order in which they are looked at
@@ -46,10 +46,10 @@ IsFirstOf (outcome ∷ more) view call why =
 
 -- Drops
 
--- a whole frame is there: four bytes of length, and as many bytes as they say, which are its payload
-pub record IsFrameOf (payload bytes : List ℕ) : Type 0 where
+-- a whole frame is there: four bytes of length, and as many bytes as they say, which are its payload and not above the most
+pub record IsFrameOf (most : ℕ) (payload bytes : List ℕ) : Type 0 where
   pub whole : length bytes ≡ 4 + length_field bytes
-  pub admitted : length_field bytes ≤ LONGEST_INCOMING
+  pub admitted : length_field bytes ≤ most
   pub is : payload ≡ drop 4 bytes
 
 -- Why a payload ends its connection: it has no reading; it is a reply that leaves a watch and is behind the last seen zxid; or
@@ -67,8 +67,8 @@ EndsBy view payload _ = ⊥
 
 -- Why a byte does: with it a length stands next that is not admitted, or a payload is whole that ends the connection.
 abbrev pub ByteEnds : View → List ℕ → Fault → Type 0
-ByteEnds view bytes (Framed fault) = StandsNext fault bytes
-ByteEnds view bytes fault = (payload : List ℕ) × IsFrameOf payload bytes × EndsBy view payload fault
+ByteEnds view bytes (Framed fault) = StandsNext (longest_of view) fault bytes
+ByteEnds view bytes fault = (payload : List ℕ) × IsFrameOf (longest_of view) payload bytes × EndsBy view payload fault
 
 -- When a signal makes a client give up its connection: bytes that do, or a moment at which two thirds of the timeout have passed
 -- with nothing heard.

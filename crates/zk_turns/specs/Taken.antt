@@ -5,6 +5,7 @@ use Rattle.zk_turns.specs.Turns.{Framed, Talked, Outcome, SessionExpired, Sessio
 use Rattle.zk_turns.specs.Turns.{TooManyPending, Silent, Behind, WatchesRefused, Start, Item, signals, Signal, Opens, Comes, Cuts, Ticks}
 use Rattle.zk_turns.specs.Turns.{Calls, Forget, Halt}
 use Rattle.zk_frames.specs.declared.fault.FrameFault.{FrameFault}
+use Rattle.zk_frames.specs.declared.limits.FrameLimits.{FrameLimits}
 use Rattle.zk_conversation.specs.declared.phase.Phase.TheVariants.{Opening, Talking, Closed as Nowhere}
 use Rattle.zk_conversation.specs.declared.phase.Phase.{Phase}
 use Rattle.zk_conversation.specs.Arriving.{Arrived, Connected as Welcomed, Replied, Watches_set as Part_set, Notice, Pong as Ponged}
@@ -27,7 +28,7 @@ use Rattle.zk_turns.specs.Past.{Happening, Began, Came, Took, Dropped, Lost, Ask
 use Rattle.zk_turns.specs.Past.{Accepted, Expiry, Replies, Watches_set, Notifies, Pong, Skipped, is_talking, is_open, leaves_data}
 use Rattle.zk_turns.specs.Past.{leaves_child, held_of}
 use Rattle.zk_turns.specs.View.{View, view_at}
-use Rattle.zk_limits.specs.declared.limits.TheConstants.{LONGEST_INCOMING, LONGEST_OUTGOING, MOST_PATHS, MOST_PENDING}
+use Rattle.zk_limits.specs.declared.limits.TheConstants.{LONGEST_INCOMING, MOST_PATHS, MOST_PENDING}
 
 -- Payloads
 
@@ -38,15 +39,24 @@ pub data Cutting : Type 0 where
   Payload : List ℕ → Cutting
 
 -- a length below 0 has its sign bit set
-abbrev pub cut_at : ℕ → List ℕ → Cutting
-cut_at n bytes =
+abbrev pub cut_at : (most : ℕ) → ℕ → List ℕ → Cutting
+cut_at most n bytes =
     if nat_le (2 ^ 31) n then Bad Negative
-    else (if nat_lt LONGEST_INCOMING n then Bad TooLong
+    else (if nat_lt most n then Bad TooLong
     else (if length bytes == 4 + n then Payload (drop 4 bytes) else Unfinished))
 
 -- four bytes of length, and then that many bytes; the length is looked at as soon as it is there
-unfoldable pub cut : List ℕ → Cutting
-cut bytes = if nat_lt (length bytes) 4 then Unfinished else cut_at (length_field bytes) bytes
+unfoldable pub cut : (most : ℕ) → List ℕ → Cutting
+cut most bytes = if nat_lt (length bytes) 4 then Unfinished else cut_at most (length_field bytes) bytes
+
+-- How many bytes a payload may have: once the session is accepted, as many as its limit says, and before that as many as that of
+-- every session.
+abbrev pub longest : FrameLimits → State → ℕ
+longest limits Connected = limits.incoming
+longest limits _ = LONGEST_INCOMING
+
+abbrev pub longest_of : View → ℕ
+longest_of view = longest view.limits view.standing.state
 
 -- Readings
 
@@ -90,7 +100,7 @@ of_cutting view (Payload payload) = reading view.standing.state view.pending vie
 
 -- a byte, and what it makes whole
 abbrev pub comes : View → ℕ → List Happening
-comes view byte = Came byte ∷ of_cutting view (cut (view.held ++ byte ∷ []))
+comes view byte = Came byte ∷ of_cutting view (cut (longest_of view) (view.held ++ byte ∷ []))
 
 -- Moments
 
@@ -125,7 +135,7 @@ refusal_when_connected view call =
     if is_close_pending view.pending then Some SessionClosed
     else (if nat_le MOST_PENDING (calls_pending view.pending) then Some TooManyPending
     else (if is_full_on view (watched_side (question_of call)) then Some TooManyWatches
-    else (if nat_lt LONGEST_OUTGOING (length (call_payload (pos view.xid) call)) then Some TooLarge else None)))
+    else (if nat_lt view.limits.outgoing (length (call_payload (pos view.xid) call)) then Some TooLarge else None)))
 
 -- why a call is not sent
 abbrev pub refusal : View → Call → Option Outcome
@@ -190,7 +200,7 @@ frames_of (Took message ∷ past) = frames_of past ++ held_of past ∷ []
 frames_of (_ ∷ past) = frames_of past
 
 -- The bytes that came are whole frames, and then less than one.
-pub record IsStream (past : Past) : Type 0 where
+pub record IsStream (limits : FrameLimits) (past : Past) : Type 0 where
   pub whole : received past ≡ flat_map (λ frame. frame) (frames_of past) ++ held_of past
-  pub each : AllByRecursion (λ bytes. cut bytes ≡ Payload (drop 4 bytes)) (frames_of past)
-  pub rest : cut (held_of past) ≡ Unfinished
+  pub each : AllByRecursion (λ bytes. cut limits.incoming bytes ≡ Payload (drop 4 bytes)) (frames_of past)
+  pub rest : cut limits.incoming (held_of past) ≡ Unfinished

@@ -4,6 +4,8 @@ use Rattle.zk_nodes.specs.PathFault.{IsPath}
 use Rattle.zk_conversation.specs.Results.{Result}
 use Rattle.zk_conversation.specs.declared.fault.TalkFault.{TalkFault}
 use Rattle.zk_frames.specs.declared.fault.FrameFault.{FrameFault}
+use Rattle.zk_frames.specs.declared.limits.FrameLimits.{FrameLimits}
+use Rattle.zk_frames.specs.Limits.{standard_limits}
 use Rattle.zk_nodes.specs.declared.side.Side.{Side}
 use Rattle.zk_records.specs.declared.event.Event.{Event}
 use Rattle.zk_session.specs.declared.states.State.{State}
@@ -96,15 +98,18 @@ AllAskOf P (_ ∷ items) = AllAskOf P items
 abbrev pub IsAsked : Input → Type 0
 IsAsked input = AsksOf IsAskable input
 
--- What a client begins with: the timeout to ask for, and a saved session, or 0, sixteen zero bytes and 0 for a new one.
+-- What a client begins with: the timeout to ask for, a saved session, or 0, sixteen zero bytes and 0 for a new one, and how long
+-- payloads may be.
 pub record Start : Type 0 where
   pub timeout : ℕ
   pub session : ℤ
   pub password : List ℕ
   pub last : ℤ
+  pub limits : FrameLimits
 
 abbrev pub new_start : ℕ → Start
-new_start timeout = record { timeout = timeout; session = ℤ.pos 0; password = replicate 16 0; last = ℤ.pos 0 }
+new_start timeout =
+    record { timeout = timeout; session = ℤ.pos 0; password = replicate 16 0; last = ℤ.pos 0; limits = standard_limits }
 
 -- What happens to a client, one thing at a time: bytes come one by one.
 pub data Signal : Type 0 where

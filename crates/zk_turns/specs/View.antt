@@ -1,8 +1,9 @@
--- What a client shows of itself, in eight fields, and what each field is by all that happened.
+-- What a client shows of itself, in nine fields, and what each field is by all that happened.
 use Rattle.zk_session.specs.SessionView.{Saved, Moments}
 use Rattle.std.specs.Prelude.{ℕ, Bool, List, Option}
 use Rattle.zk_nodes.specs.Path.{Text}
 use Rattle.zk_session.specs.declared.states.State.{State}
+use Rattle.zk_frames.specs.declared.limits.FrameLimits.{FrameLimits}
 use Rattle.zk_turns.specs.Turns.{Start}
 use Rattle.zk_turns.specs.Past.{Past, state_of, has_halted, session_of, last_of, now_of, heard_of, sent_of, pending_of, held_of, xid_of}
 use Rattle.zk_turns.specs.Past.{lists_of, kept_data, kept_names}
@@ -30,6 +31,7 @@ pub record View : Type 0 where
   pub xid : ℕ
   pub lists : Lists
   pub cache : Cache
+  pub limits : FrameLimits
 
 -- what the definitions give
 abbrev pub view_at : Start → Past → View
@@ -42,4 +44,5 @@ view_at start past = record {
   xid = xid_of past;
   lists = lists_of past;
   cache = record { nodes = λ path. kept_data path past; children = λ path. kept_names path past };
+  limits = start.limits;
 }

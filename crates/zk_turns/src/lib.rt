@@ -173,7 +173,7 @@ pub fn each_call_once()
 
 /// On an open connection the bytes that came are whole frames, each of them taken, and then less than one.
 pub fn whole_stream()
-    ensures { (start : Start) (items : List Item) → IsOpen (state_of (past_of start items)) → IsStream (past_of start items) }
+    ensures { (start : Start) (items : List Item) → IsOpen (state_of (past_of start items)) → IsStream start.limits (past_of start items) }
 {}
 
 /// The client's state is the one that was told last.

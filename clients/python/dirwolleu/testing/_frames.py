@@ -20,8 +20,8 @@ OK = 0
 EPHEMERAL, SEQUENTIAL, CONTAINER, TTL = 1, 2, 4, 5
 """The flags of a create, and the numbers of other kinds of nodes: one more is a sequential node with a TTL."""
 
-LONGEST = 1_048_575
-"""The greatest length of a frame that is taken, as real servers have it by default."""
+LONGEST = 4_194_304
+"""The greatest length of a frame that is taken: more than real servers take by default, which is 1,048,575."""
 
 
 class Malformed(Exception):

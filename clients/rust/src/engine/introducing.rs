@@ -4,8 +4,6 @@ use super::{Course, Engine};
 use crate::credentials::Credential;
 use crate::error::ErrorKind;
 use crate::fault::{Code, Fault, NoReply};
-use crate::hosts::chance;
-use crate::machine::Machine;
 use crate::moment::Moment;
 use crate::stats::ConnectionEnd;
 use crate::told::{Event, Found};
@@ -64,10 +62,8 @@ impl Engine {
         self.course = Course::Barred;
         self.credentials.clear();
         self.deletions.clear();
-        let (timeout, count) = (self.asked_timeout, self.hosts.len());
         let saved = self.machine.saved();
-        let other = saved.and_then(|saved| Machine::resume(timeout, count, chance(), &saved));
-        if let Ok(other) = other {
+        if let Ok(other) = saved.and_then(|saved| self.machine_of(&saved)) {
             self.machine = other; // the one before is freed, with what it knows of the session
             self.note_deadline();
         }

@@ -2,8 +2,8 @@
 
 use crate::jute::{Reader, Writer};
 
-/// The greatest length of a frame that is taken, as real servers have it by default.
-pub(super) const LONGEST: usize = 1_048_575;
+/// The greatest length of a frame that is taken: more than real servers take by default, which is 1,048,575.
+pub(super) const LONGEST: usize = 4 << 20;
 
 /// The types of requests, and of the end of a transaction.
 pub(super) mod number {

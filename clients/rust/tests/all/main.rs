@@ -48,6 +48,7 @@ mod benches;
 mod credentials;
 #[cfg(dirwolleu_bench)]
 mod cuts;
+mod limits;
 mod lock_cuts;
 mod locks;
 mod machines;

@@ -48,7 +48,8 @@ fn a_refused_call_has_its_path_and_reason() {
     let wanted = "the node has children: /a; delete them first";
     assert_eq!(printed(full), wanted);
     let large = session.set("/a", &vec![0; 1 << 20], ANY_VERSION);
-    let wanted = "the request has more than 1048575 bytes: /a; send less";
+    let wanted =
+        "the request is longer than the session may send: /a; send less, or raise longest_request";
     assert_eq!(printed(large), wanted);
 }
 

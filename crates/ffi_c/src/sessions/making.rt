@@ -1,19 +1,24 @@
 //! A handle gets a session, and gives it up.
 
 ghost use Rattle.std.specs.Prelude.{◌≡◌, ◌≢◌, ◌<ℤ◌, None, Ok, Err, pos, negsuc, unsigned_abs};
+ghost use Rattle.zk_frames.specs.Limits.{MayLimit};
+ghost use Rattle.zk_frames.specs.declared.limits.FrameLimits.{FrameLimits};
 ghost use Rattle.zk_turns.specs.Turns.{new_start};
 ghost use Rattle.zk_client.specs.SavedSessions.{PutAway, bytes_read};
 ghost use Rattle.zk_client.specs.declared.saved_fault.SavedFault.{SavedFault};
 ghost use Rattle.zk_client.specs.declared.saved_fault.SavedFault.TheVariants as saved_faults;
 ghost use Rattle.ffi_device.specs.Refused.{RefusesTimeout};
 ghost use Rattle.ffi_device.specs.Sessions.{put_start};
-ghost use Rattle.ffi_c.specs.Sessions.{Makes};
+ghost use Rattle.ffi_agent_device.specs.Steps.{within};
+ghost use Rattle.ffi_c.specs.Sessions.{Makes, MakesWithin};
 
 use crate::making::hold;
 use crate::sessions::handle::DwSession;
 use ffi_agent_device::AgentDevice;
+use ffi_device::DeviceRefusal;
 use ffi_handles::Handle;
 use std::alloc::Global;
+use zk_client::FrameLimits;
 
 /// Makes a session of no server yet, which asks for this timeout in milliseconds and has this many addresses, in an order that is random by
 /// the seed. What the handle held is freed first.
@@ -28,7 +33,7 @@ pub extern "C" fn dw_session_open(
     ensures { Makes (RefusesTimeout timeout_ms) (new_start (unsigned_abs timeout_ms)) result handle.new.slot.held }
 {
     *handle = DwSession::closed(alloc);
-    match AgentDevice::open(alloc, timeout_ms, addresses, seed) {
+    match AgentDevice::open(alloc, timeout_ms, addresses, seed, FrameLimits::standard()) {
         Ok(session) => hold(alloc, handle, session),
         Err(refusal) => refusal.code(),
     }
@@ -51,7 +56,62 @@ pub extern "C" fn dw_session_resume(
         → pos 0 <ℤ timeout_ms → result ≡ negsuc 7 }
 {
     *handle = DwSession::closed(alloc);
-    match AgentDevice::resume(alloc, timeout_ms, addresses, seed, saved) {
+    let standard = FrameLimits::standard();
+    match AgentDevice::resume(alloc, timeout_ms, addresses, seed, standard, saved) {
+        Ok(session) => hold(alloc, handle, session),
+        Err(refusal) => refusal.code(),
+    }
+}
+
+/// As `dw_session_open`, with limits of its own: the most bytes of a payload that comes, and of one that is sent.
+#[unsafe(no_mangle)]
+pub extern "C" fn dw_session_open_with_limits(
+    alloc: Global,
+    handle: &mut DwSession,
+    timeout_ms: i32,
+    addresses: usize,
+    seed: u64,
+    incoming: usize,
+    outgoing: usize,
+) -> i32
+    ensures makes { MakesWithin incoming outgoing (RefusesTimeout timeout_ms) (new_start (unsigned_abs timeout_ms)) result
+        handle.new.slot.held }
+    ensures refused { ¬ MayLimit incoming outgoing → (result ≡ negsuc 13) × (handle.new.slot.held ≡ None) }
+{
+    *handle = DwSession::closed(alloc);
+    let Some(limits) = FrameLimits::new(incoming, outgoing) else {
+        return DeviceRefusal::NoSuchLimits.code();
+    };
+    match AgentDevice::open(alloc, timeout_ms, addresses, seed, limits) {
+        Ok(session) => hold(alloc, handle, session),
+        Err(refusal) => refusal.code(),
+    }
+}
+
+/// As `dw_session_resume`, with limits of its own.
+#[unsafe(no_mangle)]
+pub extern "C" fn dw_session_resume_with_limits(
+    alloc: Global,
+    handle: &mut DwSession,
+    timeout_ms: i32,
+    addresses: usize,
+    seed: u64,
+    incoming: usize,
+    outgoing: usize,
+    saved: &[u8],
+) -> i32
+    ensures makes { (put : PutAway) → bytes_read saved.now ≡ Ok put
+        → MakesWithin incoming outgoing (RefusesTimeout timeout_ms) (put_start timeout_ms put) result handle.new.slot.held }
+    ensures broken { (fault : SavedFault) → bytes_read saved.now ≡ Err fault → (result ≢ pos 0) × (handle.new.slot.held ≡ None) }
+    ensures unread { (fault : SavedFault) → MayLimit incoming outgoing → bytes_read saved.now ≡ Err fault → fault ≢ saved_faults.Memory
+        → pos 0 <ℤ timeout_ms → result ≡ negsuc 7 }
+    ensures refused { ¬ MayLimit incoming outgoing → (result ≡ negsuc 13) × (handle.new.slot.held ≡ None) }
+{
+    *handle = DwSession::closed(alloc);
+    let Some(limits) = FrameLimits::new(incoming, outgoing) else {
+        return DeviceRefusal::NoSuchLimits.code();
+    };
+    match AgentDevice::resume(alloc, timeout_ms, addresses, seed, limits, saved) {
         Ok(session) => hold(alloc, handle, session),
         Err(refusal) => refusal.code(),
     }

@@ -3,10 +3,11 @@
 use crate::tests::checks::{Steps, holds, refuse_each};
 use crate::tests::happens::{ABSENT, ACCEPTED, Asks, Happens, MADE, input, path_of};
 use crate::tests::said::step;
+use script_replay::Recorded;
 use std::alloc::{AllocError, Allocator, Global};
 use test_refusing::Refusing;
 use zk_cache::{DataAnswer, Mark};
-use zk_client::{Client, Recorded, run};
+use zk_client::{Client, run};
 use zk_nodes::Path;
 use zk_session::State;
 

@@ -11,6 +11,7 @@ use zk_conversation::{
     Arrival, Call, Connect, Conversation, CreateMode, Pending, Phase, TalkFault,
 };
 use zk_frames::{FrameReader, put_frame};
+use zk_limits::LONGEST_INCOMING;
 use zk_nodes::Path;
 use zk_records::SetWatchesRef;
 
@@ -286,7 +287,7 @@ fn count_of(
     want: &Want,
 ) -> usize {
     let mut count = 0usize;
-    while let Ok(Some(payload)) = reader.next_frame() {
+    while let Ok(Some(payload)) = reader.next_frame(LONGEST_INCOMING) {
         count = count.saturating_add(usize::from(arrives(alloc, conversation, payload, want)));
     }
     count

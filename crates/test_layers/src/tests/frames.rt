@@ -5,6 +5,7 @@ use crate::tests::refused_memory::{Steps, refuse_each};
 use std::alloc::{Allocator, Global};
 use test_refusing::Refusing;
 use zk_frames::{FrameFault, FrameReader, PutFault, put_frame};
+use zk_limits::LONGEST_INCOMING;
 
 // The frames of `hi`, of nothing and of `abc`, and the first byte of another.
 static STREAM: [u8; 18] = [
@@ -19,7 +20,7 @@ fn take_whole<A: Allocator>(
     reader: &mut FrameReader<A>,
     out: &mut Vec<u8>,
 ) -> Result<(), FrameFault> {
-    while let Some(payload) = reader.next_frame()? {
+    while let Some(payload) = reader.next_frame(LONGEST_INCOMING)? {
         out.extend_from_slice(payload)?;
         out.extend_from_slice(b"|")?;
     }

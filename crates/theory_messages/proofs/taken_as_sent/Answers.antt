@@ -3,7 +3,7 @@ use Rattle.zk_laws.proofs.Framed.{taken_first, reads_accepted, reads_expired, re
 use Rattle.theory_messages.proofs.taken_as_sent.Goals as goal
 
 pub returns-clause-frame : goal.returns-clause-frame
-returns-clause-frame c held coming payload more taken short whole cut = taken_first held coming payload more taken short whole cut
+returns-clause-frame c most held coming payload more taken short whole cut = taken_first most held coming payload more taken short whole cut
 
 pub returns-clause-accepted : goal.returns-clause-accepted
 returns-clause-accepted c pending last xid payload is = reads_accepted pending last xid payload is

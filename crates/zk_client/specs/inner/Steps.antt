@@ -13,7 +13,7 @@ use Rattle.zk_turns.specs.Rule.{Rule}
 use Rattle.zk_session.specs.SessionView.{Welcome}
 use Rattle.zk_session.specs.declared.fields.Response.{Response}
 use Rattle.zk_turns.specs.View.{View}
-use Rattle.zk_limits.specs.declared.limits.TheConstants.{LONGEST_OUTGOING, MOST_PATHS, MOST_PENDING}
+use Rattle.zk_limits.specs.declared.limits.TheConstants.{MOST_PATHS, MOST_PENDING}
 
 -- nothing keeps a call from being sent
 pub record IsSendable (view : View) (call : Call) : Type 0 where
@@ -21,7 +21,7 @@ pub record IsSendable (view : View) (call : Call) : Type 0 where
   pub few : calls_pending view.pending < MOST_PENDING
   pub room : (side : Side)
       → watched_side (question_of call) ≡ Some side → count_of view.lists side + watches_pending side view.pending < MOST_PATHS
-  pub fits : length (call_payload (pos view.xid) call) ≤ LONGEST_OUTGOING
+  pub fits : length (call_payload (pos view.xid) call) ≤ view.limits.outgoing
 
 -- the session that an accepted response gives
 abbrev pub welcome_of : Response → Welcome

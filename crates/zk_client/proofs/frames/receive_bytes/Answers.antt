@@ -39,7 +39,8 @@ returns-clause-next g c =
     let core = c.args.core.now in
     on_ok_weaker c.take_frames.result (λ told. told
     ∙ ap (λ (h : Held). after_signals (view_with [] (record core { session = c.heard.new.self })) (map Comes h.bytes)) c.in-Ok.ensures.ok
-    ∙ whole-view c.args.reader.now.bytes c.args.piece.items core.halted core.session c.heard.new.self core.conversation core.registry
+    ∙ whole-view core.limits c.args.reader.now.bytes c.args.piece.items core.halted core.session c.heard.new.self core.conversation
+    core.registry
     core.cache (up_still g c) c.requires.goes_on c.requires.reading.less (some_came g c) c.heard.ensures) c.take_frames.ensures.next
 
 pub returns-clause-says : goal.returns-clause-says
@@ -49,5 +50,6 @@ returns-clause-says g c =
     ∙ ap (λ (h : Held). said c.args.outputs.now.items
     ++ says_signals (view_with [] (record core { session = c.heard.new.self })) (map Comes h.bytes)) c.in-Ok.ensures.ok
     ∙ ap (λ (l : List Output). said c.args.outputs.now.items ++ l)
-    (whole-says c.args.reader.now.bytes c.args.piece.items core.halted core.session c.heard.new.self core.conversation core.registry
+    (whole-says core.limits c.args.reader.now.bytes c.args.piece.items core.halted core.session c.heard.new.self core.conversation
+    core.registry
     core.cache (up_still g c) c.requires.goes_on c.requires.reading.less (some_came g c) c.heard.ensures)) c.take_frames.ensures.says

@@ -1,15 +1,17 @@
 -- By what `next_frame` gives: a whole frame is one arrival more (`frame-view`), a rest stays held
 -- (`rest-view`), and a bad length drops the connection (`bad-view`). After the loop no connection is
 -- open, so the bytes left go unheard (`unheard_view`). The same for what is said: `frame-says` and so on.
-use Rattle.std.proofs.Common.{◌≡◌, true, false, refl, List, [], ◌++◌, ap, sym, ◌∙◌, map, append_assoc}
+use Rattle.std.proofs.Common.{◌≡◌, ◌≤◌, ℕ, true, false, refl, length, List, [], ◌++◌, ap, sym, subst, ◌∙◌, map, append_assoc}
 use Rattle.zk_session.specs.States.{is_open}
 use Rattle.std.proofs.lemmas.Result.{on_ok_weaker}
 use Rattle.std.proofs.lemmas.List.{append-nil}
+use Rattle.zk_frames.specs.Frame.{IsUnfinished}
 use Rattle.zk_frames.specs.Held.{Held}
 use Rattle.zk_frames.specs.Stream.{StandsNext}
 use Rattle.zk_turns.specs.Turns.{Output, Comes}
 use Rattle.zk_turns.specs.View.{View}
 use Rattle.zk_turns.specs.Rule.{IsOpen, after_signals, says_signals, says, next}
+use Rattle.zk_turns.specs.Taken.{longest_of}
 use Rattle.zk_turns.proofs.Fed.{arrival}
 use Rattle.zk_client.specs.Views.{said}
 use Rattle.zk_client.specs.Seen.{view_with}
@@ -24,6 +26,7 @@ loop-reader-preserved g c =
     let payload = c.in-Ok-Some.payload.now in
     let rest = c.next_frame.follows.lender-at-none.bytes in
     let up : IsOpen c.loop-reader.core.session.state = ap is_open (sym c.state.ensures) ∙ sym c.loop-reader-test.ensures in
+    let admitted : length payload ≤ longest_of view = subst (λ (m : ℕ). length payload ≤ m) c.longest.ensures gives.admitted in
     let is = c.in_ok-read_payload-in-Ok-Some.ensures.next [] in
     let keeps = stays view payload in
     record {
@@ -33,7 +36,7 @@ loop-reader-preserved g c =
       heard = ap (λ (v : View). v.moments.heard) is ∙ keeps.heard ∙ c.loop-reader.invariant.heard
           ∙ sym (ap (λ (v : View). v.moments.now) is ∙ keeps.now);
       next = ap (λ (v : View). after_signals v (map Comes rest)) is ∙ sym (frame-view view up c.loop-reader.invariant.goes_on
-          c.loop-reader.invariant.heard refl c.loop-reader.reader.bytes payload rest gives.admitted gives.was)
+          c.loop-reader.invariant.heard refl c.loop-reader.reader.bytes payload rest admitted gives.was)
           ∙ c.loop-reader.invariant.next;
       says =
           ap (λ (l : List Output). l ++ says_signals (view_with [] c.read_payload.new.self) (map Comes rest))
@@ -42,7 +45,7 @@ loop-reader-preserved g c =
           ∙ append_assoc (said c.loop-reader.outputs.items) (says view (arrival view payload))
           (says_signals (next view (arrival view payload)) (map Comes rest))
           ∙ ap (λ (l : List Output). said c.loop-reader.outputs.items ++ l) (sym (frame-says view up c.loop-reader.invariant.goes_on
-          c.loop-reader.invariant.heard refl c.loop-reader.reader.bytes payload rest gives.admitted gives.was))
+          c.loop-reader.invariant.heard refl c.loop-reader.reader.bytes payload rest admitted gives.was))
           ∙ c.loop-reader.invariant.says;
       origin = c.read_payload.ensures.origin ∙ c.loop-reader.invariant.origin;
     }
@@ -54,7 +57,8 @@ returns-in-Ok-None-clause-next g c =
     let up : IsOpen c.loop-reader.core.session.state = ap is_open (sym c.state.ensures) ∙ sym c.loop-reader-test.ensures in
     ap (λ (h : Held). view_with h.bytes c.loop-reader.core) nothing.same
     ∙ sym
-    (rest-view view up c.loop-reader.invariant.goes_on c.loop-reader.invariant.heard refl c.loop-reader.reader.bytes nothing.unfinished)
+    (rest-view view up c.loop-reader.invariant.goes_on c.loop-reader.invariant.heard refl c.loop-reader.reader.bytes
+    (subst (λ (m : ℕ). IsUnfinished m c.loop-reader.reader.bytes) c.longest.ensures nothing.unfinished))
     ∙ c.loop-reader.invariant.next
 
 pub returns-in-Ok-None-clause-says : goal.returns-in-Ok-None-clause-says
@@ -64,13 +68,16 @@ returns-in-Ok-None-clause-says g c =
     let up : IsOpen c.loop-reader.core.session.state = ap is_open (sym c.state.ensures) ∙ sym c.loop-reader-test.ensures in
     sym (append-nil (said c.loop-reader.outputs.items))
     ∙ ap (λ (l : List Output). said c.loop-reader.outputs.items ++ l) (sym (rest-says view up c.loop-reader.invariant.goes_on
-    c.loop-reader.invariant.heard refl c.loop-reader.reader.bytes nothing.unfinished)) ∙ c.loop-reader.invariant.says
+    c.loop-reader.invariant.heard refl c.loop-reader.reader.bytes
+    (subst (λ (m : ℕ). IsUnfinished m c.loop-reader.reader.bytes) c.longest.ensures nothing.unfinished))) ∙ c.loop-reader.invariant.says
 
 -- a length that is not admitted stands there, while the connection is open
-bad_there : (g : _) (c : goal.After-give_up g) → StandsNext c.in-Err.fault c.loop-reader.reader.bytes
+bad_there : (g : _) (c : goal.After-give_up g)
+    → StandsNext (longest_of (view_with [] c.loop-reader.core)) c.in-Err.fault c.loop-reader.reader.bytes
 bad_there g c =
     let fails = rw c.in-Err.is at c.next_frame.follows.holds-at-none in
-    stands-there c.loop-reader.reader c.in-Err.fault c.next_frame.follows.lender-at-none c.loop-reader.invariant.clean fails
+    subst (λ (m : ℕ). StandsNext m c.in-Err.fault c.loop-reader.reader.bytes) c.longest.ensures (stands-there c.longest.result
+    c.loop-reader.reader c.in-Err.fault c.next_frame.follows.lender-at-none c.loop-reader.invariant.clean fails)
 
 up_there : (g : _) (c : goal.After-give_up g) → IsOpen c.loop-reader.core.session.state
 up_there g c = ap is_open (sym c.state.ensures) ∙ sym c.loop-reader-test.ensures

@@ -17,6 +17,9 @@ use Rattle.zk_follow.proofs.Finding.{found_visited, left_by, quiet_by_step}
 use Rattle.zk_follow.proofs.Breaking.{after_step, after_turns, beside, err_always, within_step}
 use Rattle.zk_follow.proofs.follower.advance.Goals as goal
 
+pub returns-in_default-clause-broke : goal.returns-in_default-clause-broke
+returns-in_default-clause-broke g c = beside (view_of c.args.client.now)
+
 pub returns-in_default-step_at-clause-broke : goal.returns-in_default-step_at-clause-broke
 returns-in_default-step_at-clause-broke g c =
     within_step c.args.now (view_of c.args.client.now) (view_of c.step_at.new.self) c.in_default-step_at.ensures.halt

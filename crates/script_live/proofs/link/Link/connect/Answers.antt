@@ -1,5 +1,5 @@
 -- What `end_if`, `hold`, `step` and `settle` ensure, in turn: `connects` joins what is heard, `halts_opened` and `halts_settling` the
--- halts, and `prints_after` what is printed.
+-- halts, and `prints_after` what is printed. Where no address connects, that is printed: `fails`.
 use Rattle.std.proofs.Common.{◌≡◌, [], ◌∷◌, ap, refl, rules, subst}
 use Rattle.std.specs.Prelude.{is_some, string_bytes}
 use Rattle.zk_turns.specs.Turns.{Cut, Opened}
@@ -8,7 +8,7 @@ use Rattle.zk_client.specs.Clients.{view_of}
 use Rattle.script_live.specs.Trails.{Trail}
 use Rattle.script_words.specs.Stops.{IfHalted}
 use Rattle.script_live.specs.Heard.{tape, HaltsAmong, Takes}
-use Rattle.script_live.proofs.HeardLemmas.{connects, halts_opened, halts_settling}
+use Rattle.script_live.proofs.HeardLemmas.{connects, fails, halts_opened, halts_settling}
 use Rattle.script_live.specs.Flowing.{flow_of}
 use Rattle.script_live.specs.declared.link.Link.{Link}
 use Rattle.script_live.proofs.Printing.{prints_after, prints_begin, shut_by}
@@ -26,6 +26,12 @@ returns-clause-ok g c =
     (tape (view_of new.self.joint.client) (string_bytes new.text)) c.in_ok-end_if.ensures.ok
     (subst (λ (v : View). Takes (tape v (string_bytes ended.text)) Opened after) same c.in_ok-step.ensures.ok) c.in_ok-settle.ensures.ok
     c.in_ok-settle.ensures.settled
+
+pub returns-in_default-clause-ok : goal.returns-in_default-clause-ok
+returns-in_default-clause-ok g c =
+    let ended = c.end_if.new in
+    fails (tape (view_of c.args.self.now.joint.client) (string_bytes c.args.text.now)) (view_of ended.self.joint.client)
+    (string_bytes ended.text) (string_bytes c.push_str.new.self) c.in_ok-end_if.ensures.ok c.in_ok-push_str.ensures.bytes
 
 pub returns-in_err-step-clause-halt : goal.returns-in_err-step-clause-halt
 returns-in_err-step-clause-halt g c =

@@ -1,13 +1,17 @@
--- By the kind of line: an end, a moment and a call print what the link ensures (`prints_from`); any other is a look (`prints_look`).
-use Rattle.std.proofs.Common.{◌≡◌, ℕ, [], refl}
+-- By the kind of line: an end, a moment and a call print what the link ensures (`prints_from`); any other is a look (`prints_look`). A halt
+-- is one of what the link halts at, with nothing printed before: `if_halted`.
+use Rattle.std.proofs.Common.{◌≡◌, ℕ, List, [], ◌∷◌, refl, rules, subst}
 use Rattle.std.specs.Prelude.{string_bytes}
-use Rattle.zk_turns.specs.Turns.{Now}
+use Rattle.zk_turns.specs.Turns.{Cut, Now}
 use Rattle.zk_client.specs.Clients.{view_of}
 use Rattle.script_replay.specs.Lines.{client_value_of}
 use Rattle.script_replay.specs.declared.call_line.AskedCall.{AskedCall}
 use Rattle.script_replay.specs.declared.client_line.ClientLine.{ClientLine}
 use Rattle.script_replay.specs.declared.client_line.ClientLine.TheVariants as client
+use Rattle.script_words.specs.Stops.{IfHalted}
 use Rattle.script_live.specs.Flowing.{flow_of, IsLook}
+use Rattle.script_live.specs.Heard.{tape, HaltsAmong}
+use Rattle.script_live.proofs.HeardLemmas.{if_halted}
 use Rattle.script_live.proofs.Printing.{prints_from, prints_hands, prints_look}
 use Rattle.script_live.proofs.live.Session.drive.Goals as goal
 
@@ -50,3 +54,17 @@ returns-in_default-clause-prints g c =
     let look = is_look c.args.line c.in_default.not-Cut c.in_default.not-Now c.in_default.not-Call in
     prints_look c.driven.result string_bytes (client_value_of c.args.line) old
     (record old { view = view_of c.driven.new.client }) look c.driven.ensures.ok refl refl
+
+pub returns-in_err-step-in-Now-clause-halt : goal.returns-in_err-step-in-Now-clause-halt
+returns-in_err-step-in-Now-clause-halt g c =
+    let old = view_of c.args.self.now.link.joint.client in
+    let new = view_of c.step.new.self.joint.client in
+    let inputs = Now c.in-Now.moment ∷ Cut ∷ [] in
+    let after = string_bytes c.step.new.text in
+    let stop = c.in_err-step-in-Now.field-0.0 in
+    let halted : IfHalted ((text : List ℕ) × HaltsAmong (tape old []) inputs (tape new text)) stop =
+    if_halted (HaltsAmong (tape old []) inputs (tape new after)) ((text : List ℕ) × HaltsAmong (tape old []) inputs (tape new text)) stop
+    (λ halts. (after, halts))
+    (subst (λ (before : List ℕ). IfHalted (HaltsAmong (tape old before) inputs (tape new after)) stop) c.new-text.ensures.bytes
+    c.in_err-step-in-Now.ensures.halt) in
+    search rules

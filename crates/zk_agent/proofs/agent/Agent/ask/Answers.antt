@@ -6,6 +6,7 @@ use Rattle.zk_client.specs.Clients.{view_of}
 use Rattle.zk_follow.specs.declared.follower.Follower.{Follower}
 use Rattle.zk_calls.specs.declared.entry.Entry.{Entry}
 use Rattle.zk_agent.specs.Agents.{trail_of, Asks, Hears}
+use Rattle.zk_agent.proofs.Breaking.{beside, err_always}
 use Rattle.zk_agent.proofs.Moves.{gives, ok_after, trail_eq}
 use Rattle.zk_agent.proofs.agent.Agent.ask.Goals as goal
 
@@ -30,3 +31,10 @@ returns-clause-comes g c =
           (ap (λ (f : Follower g.row.A.Denot). view_of f.client) c.ask.ensures.follower)
           (ap (λ (f : Follower g.row.A.Denot). f.subjects.items) c.ask.ensures.follower) c.in_ok-ask.ensures.line refl refl refl refl;
     })) c.step_client.ensures.comes
+
+pub returns-in_err-ask-clause-broke : goal.returns-in_err-ask-clause-broke
+returns-in_err-ask-clause-broke g c =
+    let old = c.args.self.now in
+    let view = view_of old.asker.follower.client in
+    err_always c.from_residual.result (beside old.timeout_ms view (view_of c.ask.new.self.follower.client)
+    (ap (λ (f : Follower g.row.A.Denot). view_of f.client) c.ask.ensures.follower))

@@ -4,6 +4,7 @@ use Rattle.zk_turns.specs.Turns.{Now}
 use Rattle.zk_client.specs.Clients.{view_of}
 use Rattle.zk_calls.specs.declared.line.Line.{Line}
 use Rattle.zk_agent.specs.Agents.{trail_of, Follows, Hears}
+use Rattle.zk_agent.proofs.Breaking.{beside, err_always}
 use Rattle.zk_agent.proofs.Moves.{gives, ok_after, trail_eq}
 use Rattle.zk_agent.proofs.agent.Agent.follow.Goals as goal
 
@@ -20,3 +21,10 @@ returns-clause-comes g c =
     (gives c.args.now (Follows c.args.ticket c.args.side c.args.path) old between refl tt
     (trail_eq _ between (ap view_of c.follow.ensures.client) c.in_ok-follow.ensures.subjects
     (ap (λ (l : Line g.row.A.Denot). l.entries.items) c.follow.ensures.line) refl refl refl refl)) c.step_client.ensures.comes
+
+pub returns-in_err-follow-clause-broke : goal.returns-in_err-follow-clause-broke
+returns-in_err-follow-clause-broke g c =
+    let old = c.args.self.now in
+    let view = view_of old.asker.follower.client in
+    err_always c.from_residual.result
+    (beside old.timeout_ms view (view_of c.follow.new.self.follower.client) (ap view_of c.follow.ensures.client))

@@ -5,6 +5,7 @@ use Rattle.zk_agent.specs.declared.asker.Asker.{Asker}
 use Rattle.zk_agent.specs.Agents.{trail_of}
 use Rattle.zk_agent.specs.Telling.{HangsUp}
 use Rattle.zk_agent.specs.Waits.{nothing_waits, waited_of}
+use Rattle.zk_agent.proofs.Breaking.{beside, err_always}
 use Rattle.zk_agent.proofs.Moves.{trail_eq}
 use Rattle.zk_agent.proofs.Leaving.{left_late}
 use Rattle.zk_agent.proofs.agent.Agent.leave.Goals as goal
@@ -22,3 +23,10 @@ returns-clause-tired g c =
     (ap (λ (a : Asker g.row.A.Denot). a.line.entries.items) c.hang_up.ensures.asker) refl
     c.hang_up.ensures.timeout (ap waited_of c.hang_up.ensures.waits) c.in_ok-hang_up.ensures.told)
     c.in_ok-hear_cut.ensures.hears (trail_eq (record after { waits = nothing_waits }) new refl refl refl refl refl c.clear.ensures refl)
+
+pub returns-in_err-hang_up-clause-broke : goal.returns-in_err-hang_up-clause-broke
+returns-in_err-hang_up-clause-broke g c =
+    let old = c.args.self.now in
+    let view = view_of old.asker.follower.client in
+    err_always c.from_residual.result (beside old.timeout_ms view (view_of c.hang_up.new.self.asker.follower.client)
+    (ap (λ (a : Asker g.row.A.Denot). view_of a.follower.client) c.hang_up.ensures.asker))

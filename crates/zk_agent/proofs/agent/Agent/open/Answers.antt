@@ -2,8 +2,10 @@
 use Rattle.std.proofs.Common.{◌++◌, ◌∷◌, [], refl, subst}
 use Rattle.std.specs.Prelude.{OnOk}
 use Rattle.zk_turns.specs.Turns as turns
+use Rattle.zk_client.specs.Clients.{view_of}
 use Rattle.zk_agent.specs.Agents.{over_at, trail_of, Comes, Hears, HungUp, Opened}
 use Rattle.zk_agent.specs.Telling.{told_by, HangsUp}
+use Rattle.zk_agent.proofs.Breaking.{beside, err_always}
 use Rattle.zk_agent.proofs.Moves.{gives, late_is_same, late_makes, ok_after, opened, ours_is_open, ours_makes, trail_eq}
 use Rattle.zk_agent.proofs.agent.Agent.open.Goals as goal
 
@@ -36,3 +38,9 @@ returns-clause-comes g c =
     (ok_after c.end.result c.args.now (HungUp ∷ []) (over_at c.args.now) old between new
     (gives c.args.now HungUp old between refl tt (trail_eq
     (record old { told = old.told ++ HangsUp ∷ [] }) between refl refl refl same refl refl c.in_ok-push.ensures)) c.end.ensures.comes)
+
+pub returns-in_err-push-clause-broke : goal.returns-in_err-push-clause-broke
+returns-in_err-push-clause-broke g c =
+    let old = c.args.self.now in
+    let view = view_of old.asker.follower.client in
+    err_always c.from_residual.result (beside old.timeout_ms view view refl)

@@ -1,7 +1,9 @@
 -- To change the addresses is the move `Addressed`, by what the dialler ensures (`gives`), and then the client hears the moment: `ok_after`.
 use Rattle.std.proofs.Common.{[], ◌∷◌, refl}
 use Rattle.zk_turns.specs.Turns.{Now}
+use Rattle.zk_client.specs.Clients.{view_of}
 use Rattle.zk_agent.specs.Agents.{trail_of, Addressed, Hears}
+use Rattle.zk_agent.proofs.Breaking.{beside, err_always}
 use Rattle.zk_agent.proofs.Moves.{gives, ok_after}
 use Rattle.zk_agent.proofs.agent.Agent.set_addresses.Goals as goal
 
@@ -21,3 +23,9 @@ returns-clause-comes g c =
       },
       refl,
     )) c.step_client.ensures.comes
+
+pub returns-in_err-set_addresses-clause-broke : goal.returns-in_err-set_addresses-clause-broke
+returns-in_err-set_addresses-clause-broke g c =
+    let old = c.args.self.now in
+    let view = view_of old.asker.follower.client in
+    err_always c.from_residual.result (beside old.timeout_ms view view refl)

@@ -6,5 +6,5 @@ use Rattle.zk_client.proofs.Behind.{alone, on_ok}
 use Rattle.zk_client.proofs.client.Client.tick_into.Goals as goal
 
 pub returns-else-is_err-clause-stands : goal.returns-else-is_err-clause-stands
-returns-else-is_err-clause-stands g c = on_ok c.tell_moment-taken.result _ _ c.tell_moment-taken.ensures.rule (λ adds start items s.
+returns-else-is_err-clause-stands g c = on_ok c.apply-taken.result _ _ c.apply-taken.ensures.rule (λ adds start items s.
     c.one_turn.ensures.stands start items _ _ _ s (alone _ _ (Now c.args.now) _ _ (ap said c.clear.ensures.items) adds))

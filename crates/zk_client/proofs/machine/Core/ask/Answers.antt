@@ -1,6 +1,6 @@
--- A call that is not refused may be sent: the connection talks, the payload fits and few
+-- A call that is not refused may be sent: the connection talks, the payload fits, as no limit is above 2^30, and few
 -- are pending, by what `refusal` ensures. The core is sound after it: `asked-sound`.
-use Rattle.std.proofs.Common.{ap, ◌∙◌, []}
+use Rattle.std.proofs.Common.{ap, ◌∙◌, [], arith}
 use Rattle.std.proofs.lemmas.Result.{on_ok_weaker}
 use Rattle.zk_turns.specs.Taken.{phase_of}
 use Rattle.zk_conversation.specs.Views.{call_view}
@@ -11,7 +11,10 @@ pub send-requires-clause-talking : goal.send-requires-clause-talking
 send-requires-clause-talking g c = let free = (c.in_default.ensures []).0 in c.requires.sound.tied.phase ∙ ap phase_of free.talks
 
 pub send-requires-clause-fits : goal.send-requires-clause-fits
-send-requires-clause-fits g c = let free = (c.in_default.ensures []).0 in free.fits
+send-requires-clause-fits g c =
+    let free = (c.in_default.ensures []).0 in
+    let most = c.args.self.now.limits.most_outgoing in
+    omega (arith, free.fits, most)
 
 pub send-requires-clause-few : goal.send-requires-clause-few
 send-requires-clause-few g c = let free = (c.in_default.ensures []).0 in free.few

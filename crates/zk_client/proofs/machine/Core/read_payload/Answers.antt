@@ -20,7 +20,8 @@ pub arrive-requires : goal.arrive-requires
 arrive-requires g c =
     let core = c.args.self.now in
     let are : IsBytes c.args.payload.now = λ i. omega (arith, c.type_inv.payload i) in
-    let all = comes (arrival_view c.in-Ok.arrival) core.session core.conversation core.registry c.args.payload.now c.requires.sound
+    let all = comes core.limits (arrival_view c.in-Ok.arrival) core.session core.conversation core.registry c.args.payload.now
+    c.requires.sound
     c.requires.up are c.requires.admitted c.in-Ok.ensures.answers.0 in
     rw c.in-Ok.ensures.answers.1 all.has
 
@@ -29,13 +30,14 @@ returns-in-Ok-clause-next g c = on_ok_weaker c.arrive.result (λ told. λ held.
     let core = c.args.self.now in
     let are : IsBytes c.args.payload.now = λ i. omega (arith, c.type_inv.payload i) in
     let arrived = arrival_view c.in-Ok.arrival in
-    let all = comes arrived core.session core.conversation core.registry c.args.payload.now c.requires.sound c.requires.up are
+    let all = comes core.limits arrived core.session core.conversation core.registry c.args.payload.now c.requires.sound c.requires.up are
     c.requires.admitted c.in-Ok.ensures.answers.0 in
     let left : IsLeft arrived core.conversation.pending c.arrived.new.self.pending = rw c.in-Ok.ensures.answers.1 all.left in
     told held core.conversation.pending left
-    ∙ ap (λ (v : View). next v (taken_of core.session.saved.last arrived)) (before-it held core.halted core.session core.conversation
+    ∙ ap (λ (v : View). next v (taken_of core.session.saved.last arrived))
+    (before-it {limits = core.limits} held core.halted core.session core.conversation
     c.arrived.new.self core.registry core.cache arrived c.in-Ok.ensures.answers.1)
-    ∙ ap (next (view_with held core)) (sym (arrives held core.halted core.session core.conversation core.registry core.cache
+    ∙ ap (next (view_with held core)) (sym (arrives core.limits held core.halted core.session core.conversation core.registry core.cache
     c.args.payload.now (Ok arrived) c.requires.sound c.in-Ok.ensures.answers.0))) c.arrive.ensures.next
 
 pub returns-in-Ok-clause-says : goal.returns-in-Ok-clause-says
@@ -44,13 +46,15 @@ returns-in-Ok-clause-says g c = on_ok_weaker c.arrive.result (λ told. λ held.
     let are : IsBytes c.args.payload.now = λ i. omega (arith, c.type_inv.payload i) in
     let arrived = arrival_view c.in-Ok.arrival in
     let before = said c.args.outputs.now.items in
-    let all = comes arrived core.session core.conversation core.registry c.args.payload.now c.requires.sound c.requires.up are
+    let all = comes core.limits arrived core.session core.conversation core.registry c.args.payload.now c.requires.sound c.requires.up are
     c.requires.admitted c.in-Ok.ensures.answers.0 in
     let left : IsLeft arrived core.conversation.pending c.arrived.new.self.pending = rw c.in-Ok.ensures.answers.1 all.left in
     told held core.conversation.pending left
-    ∙ ap (λ (v : View). before ++ says v (taken_of core.session.saved.last arrived)) (before-it held core.halted core.session
+    ∙ ap (λ (v : View). before ++ says v (taken_of core.session.saved.last arrived))
+    (before-it {limits = core.limits} held core.halted core.session
     core.conversation c.arrived.new.self core.registry core.cache arrived c.in-Ok.ensures.answers.1)
-    ∙ ap (λ (h : Happening). before ++ says (view_with held core) h) (sym (arrives held core.halted core.session core.conversation
+    ∙ ap (λ (h : Happening). before ++ says (view_with held core) h)
+    (sym (arrives core.limits held core.halted core.session core.conversation
     core.registry core.cache c.args.payload.now (Ok arrived) c.requires.sound c.in-Ok.ensures.answers.0))) c.arrive.ensures.says
 
 pub returns-else-is_memory-clause-next : goal.returns-else-is_memory-clause-next
@@ -59,9 +63,9 @@ returns-else-is_memory-clause-next g c = on_ok_weaker c.give_up.result (λ told.
     let fault = c.in-Err.fault in
     let read = c.in-Err.ensures.answers.0 (c.is_memory.ensures c.if-is_memory.false) in
     told held
-    ∙ ap (λ (t : Talk). next (shown held core.halted core.session t core.registry core.cache) (Dropped (Talked fault)))
+    ∙ ap (λ (t : Talk). next (shown core.limits held core.halted core.session t core.registry core.cache) (Dropped (Talked fault)))
     c.in-Err.ensures.answers.1
-    ∙ ap (next (view_with held core)) (sym (arrives held core.halted core.session core.conversation core.registry core.cache
+    ∙ ap (next (view_with held core)) (sym (arrives core.limits held core.halted core.session core.conversation core.registry core.cache
     c.args.payload.now (Err fault) c.requires.sound read))) c.give_up.ensures.next
 
 pub returns-else-is_memory-clause-says : goal.returns-else-is_memory-clause-says
@@ -71,7 +75,9 @@ returns-else-is_memory-clause-says g c = on_ok_weaker c.give_up.result (λ told.
     let before = said c.args.outputs.now.items in
     let read = c.in-Err.ensures.answers.0 (c.is_memory.ensures c.if-is_memory.false) in
     told held
-    ∙ ap (λ (t : Talk). before ++ says (shown held core.halted core.session t core.registry core.cache) (Dropped (Talked fault)))
+    ∙ ap (λ (t : Talk). before ++ says (shown core.limits held core.halted core.session t core.registry core.cache)
+    (Dropped (Talked fault)))
     c.in-Err.ensures.answers.1
-    ∙ ap (λ (h : Happening). before ++ says (view_with held core) h) (sym (arrives held core.halted core.session core.conversation
+    ∙ ap (λ (h : Happening). before ++ says (view_with held core) h)
+    (sym (arrives core.limits held core.halted core.session core.conversation
     core.registry core.cache c.args.payload.now (Err fault) c.requires.sound read))) c.give_up.ensures.says

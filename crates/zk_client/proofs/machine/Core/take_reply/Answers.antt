@@ -33,7 +33,7 @@ returns-then-closes-clause-next g c =
     core.cache pending c.args.ticket (question_view c.args.question) c.args.zxid (result_view c.args.found.now)
     c.close.new.self.halted c.saw.new.self c.close.new.self.session c.close.new.self.conversation
     c.close.new.self.registry c.close.new.self.cache
-    c.close.ensures.halted (sym c.closes.ensures ∙ c.if-closes.true) c.requires.comes
+    c.close.ensures.halted c.close.ensures.limits (sym c.closes.ensures ∙ c.if-closes.true) c.requires.comes
     (rw zxid at c.saw.ensures) session none xid lists answers) close.session close.pending close.xid close.lists close.answers
 
 pub keep-requires : goal.keep-requires

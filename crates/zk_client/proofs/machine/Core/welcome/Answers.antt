@@ -6,7 +6,8 @@ use Rattle.zk_client.proofs.machine.Core.welcome.Goals as goal
 pub returns-clause-sound : goal.returns-clause-sound
 returns-clause-sound g c =
     let core = c.args.self.now in
-    let all = welcomes [] core.halted core.session core.conversation core.registry core.cache [] c.args.response.now c.accepted.new.self
+    let all = welcomes {limits = core.limits} [] core.halted core.session core.conversation core.registry core.cache [] c.args.response.now
+    c.accepted.new.self
     c.sent_if.new.session c.send_parts.new.conversation c.in_ok-any.any
     c.requires.state c.requires.goes_on c.requires.quiet c.requires.room c.requires.short c.in_ok-accepted.ensures.ok c.sent_if.ensures
     c.in_ok-any.ensures.any c.in_ok-any.ensures.phase c.in_ok-any.ensures.pending c.in_ok-any.ensures.xid in
@@ -15,7 +16,8 @@ returns-clause-sound g c =
 pub returns-clause-next : goal.returns-clause-next
 returns-clause-next g c = λ held pending.
     let core = c.args.self.now in
-    let all = welcomes held core.halted core.session core.conversation core.registry core.cache pending c.args.response.now
+    let all = welcomes {limits = core.limits} held core.halted core.session core.conversation core.registry core.cache pending
+    c.args.response.now
     c.accepted.new.self c.sent_if.new.session c.send_parts.new.conversation c.in_ok-any.any
     c.requires.state c.requires.goes_on c.requires.quiet c.requires.room c.requires.short c.in_ok-accepted.ensures.ok c.sent_if.ensures
     c.in_ok-any.ensures.any c.in_ok-any.ensures.phase c.in_ok-any.ensures.pending c.in_ok-any.ensures.xid in

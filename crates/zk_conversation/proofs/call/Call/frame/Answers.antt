@@ -1,20 +1,15 @@
--- By the case of the call: its record has what the call has, rewritten, and the limit of payloads is below 2^30 (`small`), so
--- `request_frame` makes the frame of `call_payload`, unfolded.
-use Rattle.std.proofs.Common.{◌≡◌, ℕ, ◌<◌, ◌≤◌, ◌^◌, w32, arith}
+-- By the case of the call: its record has what the call has, rewritten, so `request_frame` makes the frame of `call_payload`, unfolded.
+use Rattle.std.proofs.Common.{◌≡◌, w32, arith}
 use mir.Val.{to_z, of_z}
 use Rattle.std.proofs.lemmas.Int.{ints}
 use Rattle.zk_conversation.specs.Calls.{call_payload}
 use Rattle.zk_conversation.proofs.call.Call.frame.Goals as goal
-use Rattle.zk_limits.specs.declared.limits.TheConstants.{LONGEST_OUTGOING}
-
-small : (n : ℕ) → n ≤ LONGEST_OUTGOING → n < 2 ^ 30
-small n le = omega arith
 
 pub request_frame-requires : goal.request_frame-requires
 unfolding call_payload
 request_frame-requires g c =
     let xid : to_z w32 (of_z w32 c.args.xid) ≡ c.args.xid = omega (arith, ints) in
-    rw (xid, c.reads-record.ensures.path, c.reads-record.ensures.watch) (small _ (rw c.in-Exists.is at c.requires))
+    rw (xid, c.reads-record.ensures.path, c.reads-record.ensures.watch) (rw c.in-Exists.is at c.requires)
 
 pub returns-in-Exists : goal.returns-in-Exists
 unfolding call_payload
@@ -26,7 +21,7 @@ pub request_frame-requires-in-GetData : goal.request_frame-requires-in-GetData
 unfolding call_payload
 request_frame-requires-in-GetData g c =
     let xid : to_z w32 (of_z w32 c.args.xid) ≡ c.args.xid = omega (arith, ints) in
-    rw (xid, c.reads-record-in-GetData.ensures.path, c.reads-record-in-GetData.ensures.watch) (small _ (rw c.in-GetData.is at c.requires))
+    rw (xid, c.reads-record-in-GetData.ensures.path, c.reads-record-in-GetData.ensures.watch) (rw c.in-GetData.is at c.requires)
 
 pub returns-in-GetData : goal.returns-in-GetData
 unfolding call_payload
@@ -40,7 +35,7 @@ unfolding call_payload
 request_frame-requires-in-GetChildren g c =
     let xid : to_z w32 (of_z w32 c.args.xid) ≡ c.args.xid = omega (arith, ints) in
     rw (xid, c.reads-record-in-GetChildren.ensures.path, c.reads-record-in-GetChildren.ensures.watch)
-    (small _ (rw c.in-GetChildren.is at c.requires))
+    (rw c.in-GetChildren.is at c.requires)
 
 pub returns-in-GetChildren : goal.returns-in-GetChildren
 unfolding call_payload
@@ -54,7 +49,7 @@ unfolding call_payload
 request_frame-requires-in-SetData g c =
     let xid : to_z w32 (of_z w32 c.args.xid) ≡ c.args.xid = omega (arith, ints) in
     let version : to_z w32 (of_z w32 c.in-SetData.version) ≡ c.in-SetData.version = omega (arith, ints) in
-    rw (xid, c.as_str.ensures.text, c.lent.ensures, version) (small _ (rw c.in-SetData.is at c.requires))
+    rw (xid, c.as_str.ensures.text, c.lent.ensures, version) (rw c.in-SetData.is at c.requires)
 
 pub returns-in-SetData : goal.returns-in-SetData
 unfolding call_payload
@@ -68,7 +63,7 @@ unfolding call_payload
 request_frame-requires-in-Create g c =
     let xid : to_z w32 (of_z w32 c.args.xid) ≡ c.args.xid = omega (arith, ints) in
     let flags : to_z w32 (of_z w32 c.flags.result) ≡ c.flags.result = omega (arith, ints) in
-    rw (xid, c.as_str-in-Create.ensures.text, c.lent-in-Create.ensures, flags, c.flags.ensures) (small _ (rw c.in-Create.is at c.requires))
+    rw (xid, c.as_str-in-Create.ensures.text, c.lent-in-Create.ensures, flags, c.flags.ensures) (rw c.in-Create.is at c.requires)
 
 pub returns-in-Create : goal.returns-in-Create
 unfolding call_payload
@@ -83,7 +78,7 @@ unfolding call_payload
 request_frame-requires-in-Delete g c =
     let xid : to_z w32 (of_z w32 c.args.xid) ≡ c.args.xid = omega (arith, ints) in
     let version : to_z w32 (of_z w32 c.in-Delete.version) ≡ c.in-Delete.version = omega (arith, ints) in
-    rw (xid, c.as_str-in-Delete.ensures.text, version) (small _ (rw c.in-Delete.is at c.requires))
+    rw (xid, c.as_str-in-Delete.ensures.text, version) (rw c.in-Delete.is at c.requires)
 
 pub returns-in-Delete : goal.returns-in-Delete
 unfolding call_payload
@@ -97,7 +92,7 @@ unfolding call_payload
 raw_frame-requires g c =
     let xid : to_z w32 (of_z w32 c.args.xid) ≡ c.args.xid = omega (arith, ints) in
     let number : to_z w32 (of_z w32 c.number.result) ≡ c.number.result = omega (arith, ints) in
-    rw (xid, number, c.number.ensures, c.as_slice.ensures.value) (small _ (rw c.in-Raw.is at c.requires))
+    rw (xid, number, c.number.ensures, c.as_slice.ensures.value) (rw c.in-Raw.is at c.requires)
 
 pub returns-in-Raw : goal.returns-in-Raw
 unfolding call_payload

@@ -1,6 +1,8 @@
 -- The exchange is one look (`looked_by`, `flow_one`), the clock changes nothing (`same_by`, `flow_same`), and what was brought is applied
--- after that: joined by `by_after` and `flow_after`.
+-- after that: joined by `by_after` and `flow_after`. Where memory runs out before that, the client stands where it stood: `beside`.
 use Rattle.std.proofs.Common.{◌≡◌, [], None, refl, sym, ap, ◌∙◌}
+use Rattle.zk_client.specs.Clients.{view_of}
+use Rattle.zk_agent.proofs.Breaking.{beside}
 use Rattle.zk_driver.specs.declared.engine.Engine.{Engine}
 use Rattle.zk_driver.specs.Driving.{channel_view, course_of}
 use Rattle.zk_driver.specs.inner.Driving.{input_of, is_nothing, look_after}
@@ -81,3 +83,9 @@ returns-clause-flows g c =
     let looked = flow_one (Made (Looked look)) old between ((c.in-Ok.ensures.looks, refl), c.in-Ok.ensures.whole, refl) in
     let new = flow_of remaining contents far state c.apply_read.new.self None in
     flow_after old between new looked (flow_after between later new (flow_same between later there) c.in_ok-told.ensures.flows)
+
+pub returns-in_default-clause-broke : goal.returns-in_default-clause-broke
+returns-in_default-clause-broke g c =
+    let agent = c.args.self.now.engine.agent in
+    let view = view_of agent.asker.follower.client in
+    beside agent.timeout_ms view view refl

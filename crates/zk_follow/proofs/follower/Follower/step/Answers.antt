@@ -1,5 +1,6 @@
 -- The slice of all subjects is written back.
 use Rattle.std.proofs.Common.{◌≡◌, arith, drop, length, sym, subst}
+use Rattle.std.specs.List.{All}
 use Rattle.zk_client.specs.Clients.{view_of}
 use Rattle.zk_client.specs.Views.{input_view, said}
 use Rattle.zk_follow.specs.Following.{IsAhead, IsCounted, IsFollowed, Steps}
@@ -49,3 +50,10 @@ invariant_of-self g c =
       rest = subst (λ subjects. AreQuietBut view c.advance.new.index.count subjects c.advance.new.awake.items) (sym whole)
           c.in-Ok.ensures.rest;
     }
+
+pub returns-in-Err-clause-broke : goal.returns-in-Err-clause-broke
+returns-in-Err-clause-broke g c = c.in-Err.ensures.broke
+
+pub advance-requires-clause-counted : goal.advance-requires-clause-counted
+advance-requires-clause-counted g c =
+    subst (All (IsCounted (view_of c.args.self.now.client))) (sym c.as_mut_slice-subjects.ensures.value) c.args.self.now.counted

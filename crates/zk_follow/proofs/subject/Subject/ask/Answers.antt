@@ -7,7 +7,7 @@ use Rattle.zk_client.specs.Views.{output_view, said}
 use Rattle.zk_follow.specs.declared.progress.Progress.TheVariants.{Reading}
 use Rattle.zk_follow.specs.Following.{heard_all, IsCounted, IsFollowed}
 use Rattle.zk_follow.proofs.Asking.{read_asked}
-use Rattle.zk_follow.proofs.Breaking.{after_turn}
+use Rattle.zk_follow.proofs.Breaking.{after_turn, within}
 use Rattle.zk_follow.proofs.subject.Subject.ask.Goals as goal
 
 pub returns-in-Ok-append-clause-followed : goal.returns-in-Ok-append-clause-followed
@@ -62,6 +62,9 @@ returns-in-Ok-append-clause-asked g c =
       ap said c.in-Ok-append.ensures.items ∙ map-append output_view c.args.made.now.items c.in-Ok.outputs.items,
       settled.4,
     )
+
+pub returns-in_default-clause-broke : goal.returns-in_default-clause-broke
+returns-in_default-clause-broke g c = within (view_of c.args.client.now) (view_of c.step.new.self) c.in_default.ensures.halt
 
 pub returns-clause-broke : goal.returns-clause-broke
 returns-clause-broke g c = after_turn _ (view_of c.args.client.now) (view_of c.step.new.self) c.in-Ok.ensures.rule

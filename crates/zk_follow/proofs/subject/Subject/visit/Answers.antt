@@ -5,6 +5,7 @@ use Rattle.zk_client.specs.Views.{said}
 use Rattle.zk_conversation.specs.Views.{call_view}
 use Rattle.zk_follow.specs.Following.{heard_all, rested, IsAhead, IsCounted}
 use Rattle.zk_follow.proofs.Asking.{not_due, nothing_more, rest_counted, asked_visits, woken_ahead, woken_counted}
+use Rattle.zk_follow.proofs.Breaking.{beside}
 use Rattle.zk_follow.proofs.subject.Subject.visit.Goals as goal
 
 pub returns-then-not-is_connected-clause-followed : goal.returns-then-not-is_connected-clause-followed
@@ -80,3 +81,6 @@ ask-requires-clause-room g c = c.has_room.ensures.yes c.if-not-has_room.false
 
 pub returns-then-not-has_room-clause-busy : goal.returns-then-not-has_room-clause-busy
 returns-then-not-has_room-clause-busy g c = λ busy. c.has_room.ensures.no c.if-not-has_room.true
+
+pub returns-in-Err-clause-broke : goal.returns-in-Err-clause-broke
+returns-in-Err-clause-broke g c = beside (view_of c.args.client.now)

@@ -12,11 +12,13 @@ returns-in-Ok-Some g c =
     let lent = c.deref.result.now in
     let again = c.deref-in-Ok-Some.result.now in
     let n = c.in-Ok-Some.length in
+    let most = c.args.most in
     let first = from_place at.bytes.items lent at.place c.deref.ensures.value in
     let second = from_place at.bytes.items again at.place c.deref-in-Ok-Some.ensures.value in
     let held = take (length again - at.place) (drop at.place again) in
-    let whole : IsWhole held n = subst (λ l. IsWhole l n) (first ∙ sym second) (rw c.in-Ok-Some.field-0-is at c.in-Ok-Some.ensures) in
-    let moves = moves_past at.bytes.items held at.place n second whole in
+    let whole : IsWhole most held n =
+    subst (λ l. IsWhole most l n) (first ∙ sym second) (rw c.in-Ok-Some.field-0-is at c.in-Ok-Some.ensures) in
+    let moves = moves_past most at.bytes.items held at.place n second whole in
     let still = c.in_default.is in (
       (
         refl,
@@ -28,6 +30,7 @@ returns-in-Ok-Some g c =
           read = sym (ap (λ (h : Held). h.fault) c.self.view_is) ∙ still;
           reads = still;
           admitted = moves.admitted;
+          positive = moves.positive;
         },
       ),
       record { after = tt },
