@@ -32,7 +32,8 @@
  *   - a reply goes to the call that has waited longest, and each call is answered once, unless the client halts before;
  *   - once the session has expired or is closed, nothing is kept or watched;
  *   - of a dw_session: each call is answered once or times out once, and each subject that is followed is kept good, or is being read, or its
- *     read was refused and is made again, or no server has accepted the connection;
+ *     turn has not come (960 others are being read, or 1,024 calls are on their way; no call is sent while it could be read), or its read was
+ *     refused and is made again, or no server has accepted the connection;
  *   - each function returns, whatever bytes a server sends.
  * The first of these rests on servers that hold beginnings of one history, fire watches before replies and admit no client that is
  * ahead of them; all of them on what the caller promises above, on the Rattle toolchain and on the C compiler.

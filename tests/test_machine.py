@@ -316,5 +316,52 @@ class PiecesTest(unittest.TestCase):
             self.assertEqual(self._answer(size, size), [size])
 
 
+class TurnTest(unittest.TestCase):
+    """A node that is followed is read before any call that is asked later, however many calls a program keeps on their way."""
+
+    NOW, NODE = 100, 1
+    """The moment of each step, and the ticket of the node."""
+    ROWS = ((0, 1), (959, 960), (960, 961), (961, 962), (1_023, 1_024), (1_024, 1_025), (2_000, 1_025))
+    """So many calls are kept, and with which reply the node is shown: where its read finds a place at once, that after theirs; else, as 1,024
+    requests may be on their way, that after the other 1,023, since it goes with the first reply."""
+
+    def setUp(self) -> None:
+        self.session, self.asked = Handle("dw_session_"), self.NODE
+        self.session.call("open", TIMEOUT_MS, 1, 1)
+        accepted = struct.pack(">iiiqi16s?", 37, 0, TIMEOUT_MS, 1, 16, b"", False)
+        steps: list[list[Any]] = [["moment"], ["opened"], ["bytes", accepted]]
+        for name, *rest in steps:
+            self._step(name, *rest)
+
+    def _step(self, name: str, *rest: Any) -> tuple[int, bool]:
+        """How many calls were answered, and whether the node was shown."""
+        self.assertEqual(self.session.call(name, self.NOW, *rest), declared.OK)
+        outputs = list(self.session.outputs())
+        return sum(output.kind == declared.ANSWER for output in outputs), any(output.kind == declared.SHOWN for output in outputs)
+
+    def _ask(self, calls: int) -> None:
+        for _ in range(calls):
+            self.asked += 1
+            self._step("get_data", self.asked, NO_LIMIT, b"/a", False)
+
+    def _shown_with(self, calls: int, most: int) -> int | None:
+        """Keeps so many calls on their way, follows a node, and answers the oldest request, one at a time: with which reply the node is shown."""
+        self._ask(calls)
+        self._step("follow_data", self.NODE, b"/b")
+        for xid in range(1, most + 1):
+            reply = struct.pack(">iqii", xid, 1, 0, 0) + bytes(68)
+            answered, is_shown = self._step("bytes", struct.pack(">i", len(reply)) + reply)
+            if is_shown:
+                return xid
+            self._ask(answered)
+        return None
+
+    def test_a_node_beside_calls(self) -> None:
+        for calls, wanted in self.ROWS:
+            with self.subTest(calls=calls):
+                self.setUp()
+                self.assertEqual(self._shown_with(calls, 3_000), wanted)
+
+
 if __name__ == "__main__":
     unittest.main()

@@ -24,6 +24,7 @@ use Rattle.zk_calls.specs.Lines.{waits_turn}
 use Rattle.zk_dialler.specs.declared.dialler.Phase.{Phase}
 use Rattle.zk_dialler.specs.declared.dialler.Phase.TheVariants.{Waiting, Dialling, Open}
 use Rattle.zk_dialler.specs.Dialling.{is_open}
+use Rattle.zk_follow.proofs.Counting.{count_map}
 use Rattle.zk_agent.specs.declared.agent.Agent.{Agent}
 use Rattle.zk_agent.specs.declared.input.AgentInput.{AgentInput}
 use Rattle.zk_agent.specs.declared.input.AgentInput.TheVariants as happens
@@ -44,13 +45,6 @@ count_cons p x xs = sum_by-cons (λ y. cond (p y) 1 0) x xs
 
 count_append : {X : Type 0} (p : X → Bool) (xs ys : List X) → count_by p (xs ++ ys) ≡ count_by p xs + count_by p ys
 count_append p xs ys = sum_by-append (λ y. cond (p y) 1 0) xs ys
-
-count_map : {X Y : Type 0} (p : Y → Bool) (q : X → Bool) (f : X → Y) → ((x : X) → p (f x) ≡ q x) → (xs : List X)
-    → count_by p (map f xs) ≡ count_by q xs
-count_map p q f same [] = refl
-count_map p q f same (x ∷ xs) =
-    count_cons p (f x) (map f xs) ∙ ap (λ b. cond b 1 0 + count_by p (map f xs)) (same x)
-    ∙ ap (λ n. cond (q x) 1 0 + n) (count_map p q f same xs) ∙ sym (count_cons q x xs)
 
 count_none : {X Y : Type 0} (p : Y → Bool) (f : X → Y) → ((x : X) → p (f x) ≡ false) → (xs : List X) → count_by p (map f xs) ≡ 0
 count_none p f none [] = refl

@@ -9,6 +9,7 @@ use Rattle.zk_session.specs.declared.states.State.TheVariants.{Connected}
 use Rattle.zk_turns.specs.Turns.{Call}
 use Rattle.zk_turns.specs.View.{View}
 use Rattle.zk_follow.specs.declared.subject.Subject.{Subject}
+use Rattle.zk_follow.specs.Following.{AreFollowed}
 use Rattle.zk_calls.specs.declared.entry.Entry.{Entry}
 use Rattle.zk_calls.specs.Lines.{first_handed, next_call}
 use Rattle.zk_agent.specs.declared.replies.Heard.{Heard}
@@ -51,6 +52,11 @@ pub hands_as : {A : Type 0} (now : ℕ) (old new : Trail A) (heard it : Option H
 hands_as now old new heard it is hands =
     subst (HandsOver now old.view old.subjects old.line old.told new.view new.subjects new.line new.told) is hands
 
+pub followed_as : {A : Type 0} (now : ℕ) (view after : View) (subjects new : List (Subject A))
+    → after ≡ view → new ≡ subjects → AreFollowed now view subjects → AreFollowed now after new
+followed_as now view after subjects new same are followed =
+    subst (λ v. AreFollowed now v new) (sym same) (subst (AreFollowed now view) (sym are) followed)
+
 pub sends_none : {A : Type 0} (now : ℕ) (old new : Trail A)
     → HandsOver now old.view old.subjects old.line old.told new.view new.subjects new.line new.told None → new.dialler ≡ old.dialler
     → new.timeout ≡ old.timeout → new.waits ≡ old.waits
@@ -68,6 +74,7 @@ goes_back_is true e = refl
 goes_back_is false e = absurd cc
 
 pub sends_one : {A : Type 0} (now : ℕ) (old between new : Trail A) (heard : Heard) → old.view.standing.state ≡ Connected
+    → AreFollowed now old.view old.subjects
     → HandsOver now old.view old.subjects old.line old.told between.view between.subjects between.line between.told (Some heard)
     → new.view ≡ between.view → new.subjects ≡ between.subjects → new.line ≡ between.line → new.timeout ≡ old.timeout
     → LetsGo heard.is_over between.view.saved.session.timeout now
@@ -75,7 +82,7 @@ pub sends_one : {A : Type 0} (now : ℕ) (old between new : Trail A) (heard : He
     between.told new.told
     → new.waits ≡ waited_after now heard.sent old.waits
     → Sends now old new (not heard.goes_back)
-sends_one {A} now old between new heard connected hands same_view same_subjects same_line same_timeout goes waits =
+sends_one {A} now old between new heard connected followed hands same_view same_subjects same_line same_timeout goes waits =
     let takes = hands.3 in
     let input = Call hands.0 hands.1 in
     let says : heard.goes_back ≡ list_any is_back takes.given = ap (λ (h : Heard). h.goes_back) takes.heard in
@@ -83,7 +90,7 @@ sends_one {A} now old between new heard connected hands same_view same_subjects 
     record {
       comes = one now (Hands now hands.0 hands.1) old new refl refl
           (taken_by now input old new between (first_handed old.line) heard
-          (connected, hands.2) refl takes same_view same_subjects same_line same_timeout goes waits);
+          (connected, hands.2, followed) refl takes same_view same_subjects same_line same_timeout goes waits);
       limits = still_in_time now old.line new.line takes.given line;
       ends = λ state final is.
           call_so state final now old.view hands.0 hands.1 old.subjects between.view takes.given takes.stepped takes.steps

@@ -23,7 +23,8 @@ use Rattle.zk_dialler.specs.Dialling.{is_due, is_open, AttemptEnds, DialsWell, E
 use Rattle.zk_dialler.specs.declared.dialler.DialDue.{DialDue}
 use Rattle.zk_dialler.specs.declared.dialler.DialDue.TheVariants.{Dial, GiveUp}
 use Rattle.zk_follow.specs.declared.subject.Subject.{Subject}
-use Rattle.zk_follow.specs.Following.{due_again, told_of, IsFollowed}
+use Rattle.zk_follow.specs.Following.{due_again, is_read_by, reads_of, told_of, AreFollowed, IsFollowed}
+use Rattle.zk_follow.proofs.Counting.{count_map}
 use Rattle.zk_calls.specs.declared.entry.Entry.{Entry}
 use Rattle.zk_calls.specs.declared.entry.Ending.TheVariants as ending
 use Rattle.zk_agent.specs.declared.agent.Agent.{Agent}
@@ -133,9 +134,10 @@ noted_phase timeout now state ends_row dialler =
     let row : (row_after ends_row dialler).phase ≡ dialler.phase = same_by ends_row _ dialler dialler.phase refl refl in
     same_by (is_connected state) _ (row_after ends_row dialler) dialler.phase row row
 
-may_open : {A : Type 0} (input : Input) (old : Trail A) → MayHear input old → is_bytes input ≡ true → is_open old.dialler.phase ≡ true
-may_open (turns.Bytes bytes) old may is = may
-may_open _ old may is = absurd cc
+may_open : {A : Type 0} (now : ℕ) (input : Input) (old : Trail A)
+    → MayHear now input old → is_bytes input ≡ true → is_open old.dialler.phase ≡ true
+may_open now (turns.Bytes bytes) old may is = may
+may_open now _ old may is = absurd cc
 
 shut_hears : {A : Type 0} (now : ℕ) (input : Input) (old new : Trail A) → HearsSo now input old new → IsShut old → IsShut new
 shut_hears {A} now input old new does shut closed =
@@ -154,7 +156,7 @@ shut_hears {A} now input old new does shut closed =
     by (inl was) = inl (same ∙ shut was)
     by (inr over) =
         inr (both does.heard.is_over (is_open dialler.phase) (ap (λ (h : Heard). h.is_over) does.takes.heard ∙ over.1)
-        (ap is_open same ∙ may_open input old does.may over.0))
+        (ap is_open same ∙ may_open now input old does.may over.0))
 
 shut_leaves : {A : Type 0} (is_lost : Bool) (now : ℕ) (old new : Trail A) → LeavesWhere is_lost now old new → IsShut old → IsShut new
 shut_leaves true now old new leaves shut = shut_hears now turns.Cut old new leaves shut
@@ -415,12 +417,12 @@ begun (Err e) timeout old new is = tt
 -- ---- the client hears
 
 -- what is heard and no call may be heard, and the line is as it was
-pub may_hear : {A : Type 0} (input : Input) (old : Trail A) → MayTake input (is_open old.dialler.phase) → MayHear input old
-may_hear (turns.Opened) old may = may
-may_hear (turns.Bytes bytes) old may = may
-may_hear (turns.Call ticket asked) old may = absurd may
-may_hear (turns.Now moment) old may = tt
-may_hear (turns.Cut) old may = tt
+pub may_hear : {A : Type 0} (now : ℕ) (input : Input) (old : Trail A) → MayTake input (is_open old.dialler.phase) → MayHear now input old
+may_hear now (turns.Opened) old may = may
+may_hear now (turns.Bytes bytes) old may = may
+may_hear now (turns.Call ticket asked) old may = absurd may
+may_hear now (turns.Now moment) old may = tt
+may_hear now (turns.Cut) old may = tt
 
 pub not_handed : {A : Type 0} (input : Input) (is_open : Bool) (line : List (Entry A)) → MayTake input is_open → line ≡ handed input line
 not_handed (turns.Opened) is_open line may = refl
@@ -432,7 +434,7 @@ not_handed (turns.Cut) is_open line may = refl
 -- The client and the line are as it left them, with what was done about the connection after it, and with whether a server says that the
 -- session is not its own.
 pub taken_and : {A : Type 0} (now : ℕ) (input : Input) (old new between : Trail A) (line : List (Entry A)) (heard : Heard)
-    → MayHear input old → line ≡ handed input old.line
+    → MayHear now input old → line ≡ handed input old.line
     → TakesSo now input old.view old.subjects line old.told between.view between.subjects between.line between.told heard
     → new.view ≡ between.view → new.subjects ≡ between.subjects → new.line ≡ between.line → new.timeout ≡ old.timeout
     → LetsGo heard.is_over between.view.saved.session.timeout now
@@ -460,7 +462,7 @@ taken_and {A} now input old new between line heard may is takes same_view same_s
 )
 
 pub taken_by : {A : Type 0} (now : ℕ) (input : Input) (old new between : Trail A) (line : List (Entry A)) (heard : Heard)
-    → MayHear input old → line ≡ handed input old.line
+    → MayHear now input old → line ≡ handed input old.line
     → TakesSo now input old.view old.subjects line old.told between.view between.subjects between.line between.told heard
     → new.view ≡ between.view → new.subjects ≡ between.subjects → new.line ≡ between.line → new.timeout ≡ old.timeout
     → LetsGo heard.is_over between.view.saved.session.timeout now
@@ -488,12 +490,19 @@ hears_then (Ok x) now input old between new is_lost hears is lost cut =
 hears_then (Err e) now input old between new is_lost hears is lost cut = tt
 
 -- to be told of leaves a subject followed
+reads_told : {A : Type 0} (view : View) (subjects : List (Subject A)) → reads_of view (map (told_of view) subjects) ≡ reads_of view subjects
+reads_told {A} view subjects = count_map is_read is_read (told_of view) (λ subject. refl) subjects
+  where
+    is_read : Subject A → Bool
+    is_read subject = list_any (is_read_by subject.ticket subject.side subject.path) view.pending
+
 pub followed_told : {A : Type 0} (now : ℕ) (view after : View) (stepped new : List (Subject A))
-    → after ≡ view → new ≡ map (told_of view) stepped → All (IsFollowed now view) stepped
-    → All (IsFollowed now after) new
-followed_told now view after stepped new is told all =
-    subst (All (IsFollowed now after)) (sym told) (subst (λ v. All (IsFollowed now v) (map (told_of view) stepped)) (sym is)
-    (All-map (IsFollowed now view) (told_of view) stepped all))
+    → after ≡ view → new ≡ map (told_of view) stepped → AreFollowed now view stepped
+    → AreFollowed now after new
+followed_told {A} now view after stepped new is told all =
+    subst (AreFollowed now after) (sym told) (subst (λ v. AreFollowed now v (map (told_of view) stepped)) (sym is)
+    (subst (λ reads. All (IsFollowed now view reads) (map (told_of view) stepped)) (sym (reads_told view stepped))
+    (All-map (IsFollowed now view (reads_of view stepped)) (told_of view) stepped all)))
 
 pub followed_ok : {X E : Type 0} (P : ℕ → Type 0) (result : Result X E) (now : ℕ)
     → OnOk result ((moment : ℕ) → P moment) → OnOk result (P now)

@@ -24,7 +24,7 @@ use Rattle.zk_dialler.specs.Chances.{state_after}
 use Rattle.zk_dialler.specs.Dialling.{first_moment, has_come, is_due, is_open, DialsWell, Ends, Opens}
 use Rattle.zk_dialler.specs.Orders.{numbers, shuffled}
 use Rattle.zk_follow.specs.declared.subject.Subject.{Subject}
-use Rattle.zk_follow.specs.Following.{due_again, first_again, fresh, news_in, told_of, unfollowed, RunsOut, Steps}
+use Rattle.zk_follow.specs.Following.{due_again, first_again, fresh, news_in, told_of, unfollowed, AreFollowed, RunsOut, Steps}
 use Rattle.zk_trees.specs.Tending.{are_at_rest, shifted, TreeTold}
 use Rattle.zk_calls.specs.declared.entry.Entry.{Entry}
 use Rattle.zk_calls.specs.declared.entry.Ending.TheVariants as ending
@@ -108,12 +108,15 @@ abbrev pub LetsGo : {A : Type 0} → (is_over : Bool) → (timeout now : ℕ) �
 LetsGo is_over timeout now old new before after = LetsGoWhere (is_over && is_open old.phase) timeout now old new before after
 
 -- Bytes come on a connection that is there, and that it begins is told once it is. A call is handed over where a server has accepted the
--- connection, and it is the one whose turn it is: the first of those that wait for theirs, in the order of asking.
-abbrev pub MayHear : {A : Type 0} → Input → Trail A → Type 0
-MayHear turns.Opened old = is_open old.dialler.phase ≡ true
-MayHear (turns.Bytes bytes) old = is_open old.dialler.phase ≡ true
-MayHear (turns.Call ticket asked) old = (old.view.standing.state ≡ Connected) × (next_call old.line ≡ Some (ticket, asked))
-MayHear _ old = ⊤
+-- connection, and it is the one whose turn it is: the first of those that wait for theirs, in the order of asking. Each subject is followed
+-- before it is: who was to be read is being read, unless its turn has not come. So no call goes out while a subject that is due could be
+-- read, and only where as many others are being read as may be is a call sent before it that was asked later.
+abbrev pub MayHear : {A : Type 0} → (now : ℕ) → Input → Trail A → Type 0
+MayHear now turns.Opened old = is_open old.dialler.phase ≡ true
+MayHear now (turns.Bytes bytes) old = is_open old.dialler.phase ≡ true
+MayHear now (turns.Call ticket asked) old =
+    (old.view.standing.state ≡ Connected) × (next_call old.line ≡ Some (ticket, asked)) × AreFollowed now old.view old.subjects
+MayHear now _ old = ⊤
 
 -- The client takes an input at a moment, and subjects are read. What it says is told, in order, and then what there is to tell of the
 -- subjects. The line, which is this one once the client takes the input, hears the answers, in the same order.
@@ -130,7 +133,7 @@ pub record TakesSo {A : Type 0} (now : ℕ) (input : Input) (old_view : View) (o
 
 -- So it hears an input. A connection is hung up where it is over with that.
 pub record HearsSo {A : Type 0} (now : ℕ) (input : Input) (old new : Trail A) : Type 0 where
-  pub may : MayHear input old
+  pub may : MayHear now input old
   pub timeout : new.timeout ≡ old.timeout
   pub heard : Heard
   pub told : List Told

@@ -5,7 +5,7 @@ ghost use Rattle.std.specs.List.{flat_map};
 ghost use Rattle.zk_turns.specs.View.{view_at};
 ghost use Rattle.zk_client.specs.Clients.{renewed_start, view_of};
 ghost use Rattle.zk_client.specs.Views.{input_view, said};
-ghost use Rattle.zk_follow.specs.Following.{due_again, news_in, told_of, BreaksOff, IsFollowed};
+ghost use Rattle.zk_follow.specs.Following.{due_again, news_in, told_of, BreaksOff, AreFollowed};
 ghost use Rattle.zk_calls.specs.Lines.{left};
 ghost use Rattle.zk_agent.specs.inner.Agents.{HandsOver};
 ghost use Rattle.zk_agent.specs.Agents.{TakesSo};
@@ -53,7 +53,7 @@ pub(crate) fn advance<A: Allocator + Copy>(
     ensures takes { IfOk result (λ heard. TakesSo now (input_view input)
         (view_of follower.old.client) follower.old.subjects.items line.old.entries.items (told_by actions.old.items)
         (view_of follower.new.client) follower.new.subjects.items line.new.entries.items (told_by actions.new.items) heard) }
-    ensures followed { OnOk result (All (IsFollowed now (view_of follower.new.client)) follower.new.subjects.items) }
+    ensures followed { OnOk result (AreFollowed now (view_of follower.new.client) follower.new.subjects.items) }
     ensures broke { OnErr result (BreaksOff (view_of follower.old.client) (view_of follower.new.client)) }
 {
     let outputs = follower.step(now, input)?;
@@ -74,7 +74,7 @@ pub(crate) fn hand_over<A: Allocator + Copy>(
         (λ heard. HandsOver now (view_of follower.old.client) follower.old.subjects.items line.old.entries.items (told_by actions.old.items)
         (view_of follower.new.client) follower.new.subjects.items line.new.entries.items (told_by actions.new.items) heard) }
     ensures followed { IfOk result
-        (λ heard. OnSome heard (All (IsFollowed now (view_of follower.new.client)) follower.new.subjects.items)) }
+        (λ heard. OnSome heard (AreFollowed now (view_of follower.new.client) follower.new.subjects.items)) }
     ensures broke { OnErr result (BreaksOff (view_of follower.old.client) (view_of follower.new.client)) }
 {
     let Some((ticket, call)) = line.next()? else {
@@ -94,7 +94,7 @@ pub(crate) fn begin<A: Allocator + Copy>(
     requires { pos 0 <ℤ timeout_ms }
     ensures client { OnOk result (view_of follower.new.client ≡ view_at (renewed_start timeout_ms (view_of follower.old.client)) []) }
     ensures subjects { OnOk result (follower.new.subjects.items ≡ map due_again follower.old.subjects.items) }
-    ensures followed { OnOk result ((now : ℕ) → All (IsFollowed now (view_of follower.new.client)) follower.new.subjects.items) }
+    ensures followed { OnOk result ((now : ℕ) → AreFollowed now (view_of follower.new.client) follower.new.subjects.items) }
     ensures line { OnOk result (line.new.entries.items ≡ left Ending.Expired line.old.entries.items) }
     ensures told { OnOk result (told_by actions.new.items ≡ told_by actions.old.items ++ endings Ending.Expired line.old.entries.items) }
     ensures same { OnErr result (view_of follower.new.client ≡ view_of follower.old.client) }

@@ -55,7 +55,7 @@ impl<A: Allocator + Copy> Agent<A> {
     ghost use Rattle.zk_dialler.specs.Dialling.{is_open};
     ghost use Rattle.zk_dialler.specs.Orders.{numbers, shuffled};
     ghost use Rattle.zk_dialler.specs.declared.dialler.Phase.TheVariants.{Waiting};
-    ghost use Rattle.zk_follow.specs.Following.{due_again, IsFollowed};
+    ghost use Rattle.zk_follow.specs.Following.{due_again, AreFollowed};
     ghost use Rattle.zk_conversation.specs.Views.{call_view};
     ghost use Rattle.zk_calls.specs.declared.entry.Ending.TheVariants as ending;
     ghost use Rattle.zk_dialler.specs.Dialling.{has_come};
@@ -156,8 +156,8 @@ impl<A: Allocator + Copy> Agent<A> {
         ensures view { view_of self.new.asker.follower.client
             ≡ record (view_of self.old.asker.follower.client) { cache = forgotten (view_of self.old.asker.follower.client).cache } }
         ensures led { IsLed (view_of self.old.asker.follower.client) → IsLed (view_of self.new.asker.follower.client) }
-        ensures followed { (now : ℕ) → All (IsFollowed now (view_of self.old.asker.follower.client)) self.old.asker.follower.subjects.items
-            → All (IsFollowed now (view_of self.new.asker.follower.client)) self.new.asker.follower.subjects.items }
+        ensures followed { (now : ℕ) → AreFollowed now (view_of self.old.asker.follower.client) self.old.asker.follower.subjects.items
+            → AreFollowed now (view_of self.new.asker.follower.client) self.new.asker.follower.subjects.items }
         ensures subjects { self.new.asker.follower.subjects ≡ self.old.asker.follower.subjects }
         ensures calls { self.new.asker.line ≡ self.old.asker.line }
         ensures dialler { self.new.dialler ≡ self.old.dialler }
@@ -212,7 +212,7 @@ impl<A: Allocator + Copy> Agent<A> {
             (moves_of (is_open self.new.dialler.phase) (max self.old.latest now) input self.old) (trail_of self.old [])
             (trail_of self.new actions.items)) }
         ensures followed { OnOk result
-            (All (IsFollowed self.new.latest (view_of self.new.asker.follower.client)) self.new.asker.follower.subjects.items) }
+            (AreFollowed self.new.latest (view_of self.new.asker.follower.client) self.new.asker.follower.subjects.items) }
         ensures calls { IfOk result (λ actions. (ticket : ℕ) → how_many ticket self.new.asker.line.entries.items + how_many_ended ticket
             (told_by actions.items) ≡ how_many ticket self.old.asker.line.entries.items + how_many_asked ticket input) }
         ensures served { OnOk result (All (IsServed (view_of self.new.asker.follower.client)) self.new.asker.line.entries.items) }
@@ -251,7 +251,7 @@ impl<A: Allocator + Copy> Agent<A> {
         ensures comes { OnOk result (Comes now (moves_of (is_open self.new.dialler.phase) now input self.old) (trail_of self.old [])
             (trail_of self.new actions.new.items)) }
         ensures followed { OnOk result
-            (All (IsFollowed now (view_of self.new.asker.follower.client)) self.new.asker.follower.subjects.items) }
+            (AreFollowed now (view_of self.new.asker.follower.client) self.new.asker.follower.subjects.items) }
         ensures served { OnOk result (All (IsServed (view_of self.new.asker.follower.client)) self.new.asker.line.entries.items) }
         ensures limits { OnOk result (All (IsInTime now) self.new.asker.line.entries.items) }
         ensures closed { OnOk result
@@ -294,7 +294,7 @@ impl<A: Allocator + Copy> Agent<A> {
         ensures papers { OnOk result (papers_of credentials.new
             ≡ all_written (is_open self.new.dialler.phase) (with_credential input (papers_of credentials.old))) }
         ensures followed { OnOk result
-            (All (IsFollowed now (view_of self.new.asker.follower.client)) self.new.asker.follower.subjects.items) }
+            (AreFollowed now (view_of self.new.asker.follower.client) self.new.asker.follower.subjects.items) }
         ensures served { OnOk result (All (IsServed (view_of self.new.asker.follower.client)) self.new.asker.line.entries.items) }
         ensures limits { OnOk result (All (IsInTime now) self.new.asker.line.entries.items) }
         ensures closed { OnOk result
@@ -326,7 +326,7 @@ impl<A: Allocator + Copy> Agent<A> {
             (trail_of self.new actions.new.items)) }
         ensures papers { OnOk result (papers_of credentials.new ≡ with_credential input (papers_of credentials.old)) }
         ensures followed { OnOk result
-            (All (IsFollowed now (view_of self.new.asker.follower.client)) self.new.asker.follower.subjects.items) }
+            (AreFollowed now (view_of self.new.asker.follower.client) self.new.asker.follower.subjects.items) }
         ensures broke { OnErr result (IsBroken self.old self.new) }
     {
         match input {
@@ -354,7 +354,7 @@ impl<A: Allocator + Copy> Agent<A> {
         ensures comes { OnOk result
             (Comes now (opened_at self.old.dialler.phase now) (trail_of self.old actions.old.items) (trail_of self.new actions.new.items)) }
         ensures followed { OnOk result
-            (All (IsFollowed now (view_of self.new.asker.follower.client)) self.new.asker.follower.subjects.items) }
+            (AreFollowed now (view_of self.new.asker.follower.client) self.new.asker.follower.subjects.items) }
         ensures broke { OnErr result (IsBroken self.old self.new) }
     {
         let timeout_ms = self.timeout_ms();
@@ -369,7 +369,7 @@ impl<A: Allocator + Copy> Agent<A> {
     fn end(&mut self, now: u64, actions: &mut Vec<Action<A>, A>) -> Result<(), FollowerStop>
         ensures comes { OnOk result (Comes now (over_at now) (trail_of self.old actions.old.items) (trail_of self.new actions.new.items)) }
         ensures followed { OnOk result
-            (All (IsFollowed now (view_of self.new.asker.follower.client)) self.new.asker.follower.subjects.items) }
+            (AreFollowed now (view_of self.new.asker.follower.client) self.new.asker.follower.subjects.items) }
         ensures broke { OnErr result (IsBroken self.old self.new) }
     {
         let timeout_ms = self.timeout_ms();
@@ -387,7 +387,7 @@ impl<A: Allocator + Copy> Agent<A> {
         ensures comes { OnOk result (Comes now (bytes_at (is_open self.old.dialler.phase) now bytes.items)
             (trail_of self.old actions.old.items) (trail_of self.new actions.new.items)) }
         ensures followed { OnOk result
-            (All (IsFollowed now (view_of self.new.asker.follower.client)) self.new.asker.follower.subjects.items) }
+            (AreFollowed now (view_of self.new.asker.follower.client) self.new.asker.follower.subjects.items) }
         ensures broke { OnErr result (IsBroken self.old self.new) }
     {
         if self.dialler.is_open() {
@@ -406,7 +406,7 @@ impl<A: Allocator + Copy> Agent<A> {
         ensures comes { OnOk result (Comes now (Addressed count ∷ Hears now (turns.Now now) ∷ []) (trail_of self.old actions.old.items)
             (trail_of self.new actions.new.items)) }
         ensures followed { OnOk result
-            (All (IsFollowed now (view_of self.new.asker.follower.client)) self.new.asker.follower.subjects.items) }
+            (AreFollowed now (view_of self.new.asker.follower.client) self.new.asker.follower.subjects.items) }
         ensures broke { OnErr result (IsBroken self.old self.new) }
     {
         self.dialler.set_addresses(self.alloc, count)?;
@@ -425,7 +425,7 @@ impl<A: Allocator + Copy> Agent<A> {
         ensures comes { OnOk result (Comes now (Asks ticket (call_view call) until ∷ Hears now (turns.Now now) ∷ [])
             (trail_of self.old actions.old.items) (trail_of self.new actions.new.items)) }
         ensures followed { OnOk result
-            (All (IsFollowed now (view_of self.new.asker.follower.client)) self.new.asker.follower.subjects.items) }
+            (AreFollowed now (view_of self.new.asker.follower.client) self.new.asker.follower.subjects.items) }
         ensures broke { OnErr result (IsBroken self.old self.new) }
     {
         self.asker.ask(ticket, call, until)?;
@@ -444,7 +444,7 @@ impl<A: Allocator + Copy> Agent<A> {
         ensures comes { OnOk result (Comes now (Follows ticket side path ∷ Hears now (turns.Now now) ∷ [])
             (trail_of self.old actions.old.items) (trail_of self.new actions.new.items)) }
         ensures followed { OnOk result
-            (All (IsFollowed now (view_of self.new.asker.follower.client)) self.new.asker.follower.subjects.items) }
+            (AreFollowed now (view_of self.new.asker.follower.client) self.new.asker.follower.subjects.items) }
         ensures broke { OnErr result (IsBroken self.old self.new) }
     {
         self.asker.follow(ticket, side, path)?;
@@ -461,7 +461,7 @@ impl<A: Allocator + Copy> Agent<A> {
         ensures comes { OnOk result (Comes now (Unfollows ticket ∷ Hears now (turns.Now now) ∷ []) (trail_of self.old actions.old.items)
             (trail_of self.new actions.new.items)) }
         ensures followed { OnOk result
-            (All (IsFollowed now (view_of self.new.asker.follower.client)) self.new.asker.follower.subjects.items) }
+            (AreFollowed now (view_of self.new.asker.follower.client) self.new.asker.follower.subjects.items) }
         ensures broke { OnErr result (IsBroken self.old self.new) }
     {
         self.asker.unfollow(ticket);
@@ -481,7 +481,7 @@ impl<A: Allocator + Copy> Agent<A> {
         ensures told { OnOk result (told_by actions.new.items
             ≡ (told_by actions.old.items ++ endings ending.Expired self.old.asker.line.entries.items) ++ Begins ∷ []) }
         ensures followed { OnOk result
-            ((now : ℕ) → All (IsFollowed now (view_of self.new.asker.follower.client)) self.new.asker.follower.subjects.items) }
+            ((now : ℕ) → AreFollowed now (view_of self.new.asker.follower.client) self.new.asker.follower.subjects.items) }
         ensures broke { OnErr result (IsBroken self.old self.new) }
     {
         self.asker.renew(self.timeout_ms, actions)?;
@@ -504,8 +504,8 @@ impl<A: Allocator + Copy> Agent<A> {
     fn renew(&mut self, actions: &mut Vec<Action<A>, A>) -> Result<(), FollowerStop>
         ensures comes { (now : ℕ) → OnOk result (Comes now [] (trail_of self.old actions.old.items) (trail_of self.new actions.new.items)) }
         ensures renewed { OnOk result ((view_of self.new.asker.follower.client).standing.state ≢ Expired) }
-        ensures followed { (now : ℕ) → All (IsFollowed now (view_of self.old.asker.follower.client)) self.old.asker.follower.subjects.items
-            → OnOk result (All (IsFollowed now (view_of self.new.asker.follower.client)) self.new.asker.follower.subjects.items) }
+        ensures followed { (now : ℕ) → AreFollowed now (view_of self.old.asker.follower.client) self.old.asker.follower.subjects.items
+            → OnOk result (AreFollowed now (view_of self.new.asker.follower.client) self.new.asker.follower.subjects.items) }
         ensures broke { OnErr result (IsBroken self.old self.new) }
     {
         if self.is_expired() {

@@ -33,7 +33,7 @@ impl<A: Allocator + Copy> Asker<A> {
     ghost use Rattle.zk_turns.specs.Rule.{forgotten, Stands};
     ghost use Rattle.zk_client.specs.Clients.{renewed_start, view_of};
     ghost use Rattle.zk_client.specs.Views.{input_view};
-    ghost use Rattle.zk_follow.specs.Following.{due_again, fresh, unfollowed, BreaksOff, IsFollowed};
+    ghost use Rattle.zk_follow.specs.Following.{due_again, fresh, unfollowed, BreaksOff, AreFollowed};
     ghost use Rattle.zk_trees.specs.Tending.{footing_in, shifted_by, trees_told, Tends};
     ghost use Rattle.zk_agent.specs.Trees.{Alters};
     ghost use Rattle.zk_calls.specs.Lines.{left};
@@ -66,7 +66,7 @@ impl<A: Allocator + Copy> Asker<A> {
             (view_of self.old.follower.client) self.old.follower.subjects.items self.old.line.entries.items (told_by actions.old.items)
             (view_of self.new.follower.client) self.new.follower.subjects.items self.new.line.entries.items
             (told_by actions.new.items) heard) }
-        ensures followed { OnOk result (All (IsFollowed now (view_of self.new.follower.client)) self.new.follower.subjects.items) }
+        ensures followed { OnOk result (AreFollowed now (view_of self.new.follower.client) self.new.follower.subjects.items) }
         ensures broke { OnErr result (BreaksOff (view_of self.old.follower.client) (view_of self.new.follower.client)) }
     {
         match advance(
@@ -96,7 +96,7 @@ impl<A: Allocator + Copy> Asker<A> {
             (view_of self.new.follower.client) self.new.follower.subjects.items self.new.line.entries.items
             (told_by actions.new.items) heard) }
         ensures followed { IfOk result
-            (λ heard. OnSome heard (All (IsFollowed now (view_of self.new.follower.client)) self.new.follower.subjects.items)) }
+            (λ heard. OnSome heard (AreFollowed now (view_of self.new.follower.client) self.new.follower.subjects.items)) }
         ensures broke { OnErr result (BreaksOff (view_of self.old.follower.client) (view_of self.new.follower.client)) }
     {
         match hand_over(self.alloc, &mut self.follower, &mut self.line, now, actions) {
@@ -141,8 +141,8 @@ impl<A: Allocator + Copy> Asker<A> {
             → Stands start (Forgets ∷ items) (view_of self.new.follower.client) }
         ensures subjects { self.new.follower.subjects ≡ self.old.follower.subjects }
         ensures line { self.new.line ≡ self.old.line }
-        ensures followed { (now : ℕ) → All (IsFollowed now (view_of self.old.follower.client)) self.old.follower.subjects.items
-            → All (IsFollowed now (view_of self.new.follower.client)) self.new.follower.subjects.items }
+        ensures followed { (now : ℕ) → AreFollowed now (view_of self.old.follower.client) self.old.follower.subjects.items
+            → AreFollowed now (view_of self.new.follower.client) self.new.follower.subjects.items }
     {
         self.follower.forget_stale();
     }
@@ -245,7 +245,7 @@ impl<A: Allocator + Copy> Asker<A> {
             (view_of self.new.follower.client ≡ view_at (renewed_start timeout_ms (view_of self.old.follower.client)) []) }
         ensures subjects { OnOk result (self.new.follower.subjects.items ≡ map due_again self.old.follower.subjects.items) }
         ensures followed { OnOk result
-            ((now : ℕ) → All (IsFollowed now (view_of self.new.follower.client)) self.new.follower.subjects.items) }
+            ((now : ℕ) → AreFollowed now (view_of self.new.follower.client) self.new.follower.subjects.items) }
         ensures line { OnOk result (self.new.line.entries.items ≡ []) }
         ensures told { OnOk result
             (told_by actions.new.items ≡ told_by actions.old.items ++ endings Ending.Expired self.old.line.entries.items) }

@@ -29,7 +29,7 @@ impl<A: Allocator + Copy> Agent<A> {
     ghost use Rattle.zk_turns.specs.Turns.{Cut};
     ghost use Rattle.zk_client.specs.Views.{input_view};
     ghost use Rattle.zk_dialler.specs.Dialling.{is_open, Ends};
-    ghost use Rattle.zk_follow.specs.Following.{IsFollowed};
+    ghost use Rattle.zk_follow.specs.Following.{AreFollowed};
     ghost use Rattle.zk_agent.specs.Agents.{noted, row_after, trail_of, Comes, Hears, HearsSo, IsBroken, LetsGo};
     ghost use Rattle.zk_agent.specs.inner.Agents.{MayTake};
     ghost use Rattle.zk_agent.specs.inner.Calls.{how_many_wait, IsDone};
@@ -142,7 +142,7 @@ impl<A: Allocator + Copy> Agent<A> {
         ensures hears { IfOk result (λ is_lost. (hears : HearsSo now (input_view input) (trail_of self.old actions.old.items)
             (trail_of self.new actions.new.items)) × (hears.heard.is_lost ≡ is_lost)) }
         ensures followed { OnOk result
-            (All (IsFollowed now (view_of self.new.asker.follower.client)) self.new.asker.follower.subjects.items) }
+            (AreFollowed now (view_of self.new.asker.follower.client) self.new.asker.follower.subjects.items) }
         ensures broke { OnErr result (IsBroken self.old self.new) }
     {
         note_answers(&mut self.waits, &input);
@@ -159,7 +159,7 @@ impl<A: Allocator + Copy> Agent<A> {
     ) -> Result<(), FollowerStop>
         ensures hears { OnOk result (HearsSo now Cut (trail_of self.old actions.old.items) (trail_of self.new actions.new.items)) }
         ensures followed { OnOk result
-            (All (IsFollowed now (view_of self.new.asker.follower.client)) self.new.asker.follower.subjects.items) }
+            (AreFollowed now (view_of self.new.asker.follower.client) self.new.asker.follower.subjects.items) }
         ensures broke { OnErr result (IsBroken self.old self.new) }
     {
         let _is_lost = self.hear_once(now, Input::Cut, actions)?;
@@ -177,7 +177,7 @@ impl<A: Allocator + Copy> Agent<A> {
         ensures comes { OnOk result
             (Comes now (Hears now (input_view input) ∷ []) (trail_of self.old actions.old.items) (trail_of self.new actions.new.items)) }
         ensures followed { OnOk result
-            (All (IsFollowed now (view_of self.new.asker.follower.client)) self.new.asker.follower.subjects.items) }
+            (AreFollowed now (view_of self.new.asker.follower.client) self.new.asker.follower.subjects.items) }
         ensures broke { OnErr result (IsBroken self.old self.new) }
     {
         let is_lost = self.hear_once(now, input, actions)?;

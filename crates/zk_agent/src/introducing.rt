@@ -16,7 +16,7 @@ impl<A: Allocator + Copy> Agent<A> {
     ghost use Rattle.zk_turns.specs.Turns as turns;
     ghost use Rattle.zk_client.specs.Clients.{view_of};
     ghost use Rattle.zk_dialler.specs.Dialling.{is_open};
-    ghost use Rattle.zk_follow.specs.Following.{IsFollowed};
+    ghost use Rattle.zk_follow.specs.Following.{AreFollowed};
     ghost use Rattle.zk_agent.specs.Agents.{trail_of, Comes, Hears, IsBroken, IsDecided, Presents};
     ghost use Rattle.zk_agent.specs.Credentials.{all_written, judging_of, papers_of, unwritten, with_judging};
 
@@ -59,7 +59,7 @@ impl<A: Allocator + Copy> Agent<A> {
         ensures comes { OnOk result (Comes now (Hears now (turns.Now now) ∷ []) (trail_of self.old actions.old.items)
             (trail_of self.new actions.new.items)) }
         ensures followed { OnOk result
-            (All (IsFollowed now (view_of self.new.asker.follower.client)) self.new.asker.follower.subjects.items) }
+            (AreFollowed now (view_of self.new.asker.follower.client) self.new.asker.follower.subjects.items) }
         ensures broke { OnErr result (IsBroken self.old self.new) }
         ensures papers { OnOk result (papers_of credentials.new
             ≡ record (papers_of credentials.old) { frames = (papers_of credentials.old).frames ++ credential.frame.items ∷ [] }) }

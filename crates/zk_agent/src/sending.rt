@@ -12,7 +12,7 @@ impl<A: Allocator + Copy> Agent<A> {
     ghost use Rattle.zk_session.specs.declared.states.State.TheVariants.{Connected};
     ghost use Rattle.zk_session.specs.States.{is_final};
     ghost use Rattle.zk_client.specs.Clients.{view_of};
-    ghost use Rattle.zk_follow.specs.Following.{IsFollowed};
+    ghost use Rattle.zk_follow.specs.Following.{AreFollowed};
     ghost use Rattle.zk_agent.specs.Agents.{trail_of, Comes, IsBroken};
     ghost use Rattle.zk_agent.specs.inner.Agents.{Sends};
     ghost use Rattle.zk_agent.specs.inner.Calls.{how_many_wait, IsDone};
@@ -21,11 +21,12 @@ impl<A: Allocator + Copy> Agent<A> {
     /// Hands the call over whose turn it is, where a server has accepted the connection. Whether another one may be: a call was handed
     /// over, and the client has not said that it cannot be sent now.
     fn send_one(&mut self, now: u64, actions: &mut Vec<Action<A>, A>) -> Result<bool, FollowerStop>
-        requires { (view_of self.old.asker.follower.client).standing.state ≡ Connected }
+        requires connected { (view_of self.old.asker.follower.client).standing.state ≡ Connected }
+        requires followed { AreFollowed now (view_of self.old.asker.follower.client) self.old.asker.follower.subjects.items }
         ensures sends { IfOk result
             (λ goes_on. Sends now (trail_of self.old actions.old.items) (trail_of self.new actions.new.items) goes_on) }
-        ensures followed { All (IsFollowed now (view_of self.old.asker.follower.client)) self.old.asker.follower.subjects.items
-            → OnOk result (All (IsFollowed now (view_of self.new.asker.follower.client)) self.new.asker.follower.subjects.items) }
+        ensures followed { OnOk result
+            (AreFollowed now (view_of self.new.asker.follower.client) self.new.asker.follower.subjects.items) }
         ensures broke { OnErr result (IsBroken self.old self.new) }
     {
         let Some(heard) = self.asker.hand_over(now, actions)? else {
@@ -37,10 +38,11 @@ impl<A: Allocator + Copy> Agent<A> {
 
     /// The same where it is not known that a server has.
     fn try_one(&mut self, now: u64, actions: &mut Vec<Action<A>, A>) -> Result<bool, FollowerStop>
+        requires followed { AreFollowed now (view_of self.old.asker.follower.client) self.old.asker.follower.subjects.items }
         ensures sends { IfOk result
             (λ goes_on. Sends now (trail_of self.old actions.old.items) (trail_of self.new actions.new.items) goes_on) }
-        ensures followed { All (IsFollowed now (view_of self.old.asker.follower.client)) self.old.asker.follower.subjects.items
-            → OnOk result (All (IsFollowed now (view_of self.new.asker.follower.client)) self.new.asker.follower.subjects.items) }
+        ensures followed { OnOk result
+            (AreFollowed now (view_of self.new.asker.follower.client) self.new.asker.follower.subjects.items) }
         ensures same { (view_of self.old.asker.follower.client).standing.state ≢ Connected → self.new.asker ≡ self.old.asker }
         ensures broke { OnErr result (IsBroken self.old self.new) }
     {
@@ -50,15 +52,16 @@ impl<A: Allocator + Copy> Agent<A> {
         Ok(false)
     }
 
-    /// Hands calls over, in the order of asking, as long as they can be.
+    /// Hands calls over, in the order of asking, as long as they can be. Before each, the subjects are read that are to be read.
     pub(crate) fn send(
         &mut self,
         now: u64,
         actions: &mut Vec<Action<A>, A>,
     ) -> Result<(), FollowerStop>
+        requires followed { AreFollowed now (view_of self.old.asker.follower.client) self.old.asker.follower.subjects.items }
         ensures comes { OnOk result (Comes now [] (trail_of self.old actions.old.items) (trail_of self.new actions.new.items)) }
-        ensures followed { All (IsFollowed now (view_of self.old.asker.follower.client)) self.old.asker.follower.subjects.items
-            → OnOk result (All (IsFollowed now (view_of self.new.asker.follower.client)) self.new.asker.follower.subjects.items) }
+        ensures followed { OnOk result
+            (AreFollowed now (view_of self.new.asker.follower.client) self.new.asker.follower.subjects.items) }
         ensures limits { All (IsInTime now) self.old.asker.line.entries.items
             → OnOk result (All (IsInTime now) self.new.asker.line.entries.items) }
         ensures done { OnOk result (IsDone (view_of self.new.asker.follower.client) self.new.asker.line.entries.items) }

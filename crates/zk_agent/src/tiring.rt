@@ -12,7 +12,7 @@ impl<A: Allocator + Copy> Agent<A> {
     ghost use Rattle.zk_session.specs.States.{is_final};
     ghost use Rattle.zk_client.specs.Clients.{view_of};
     ghost use Rattle.zk_dialler.specs.Dialling.{has_come};
-    ghost use Rattle.zk_follow.specs.Following.{IsFollowed};
+    ghost use Rattle.zk_follow.specs.Following.{AreFollowed};
     ghost use Rattle.zk_agent.specs.Agents.{ends_of, trail_of, IsBroken};
     ghost use Rattle.zk_agent.specs.inner.Agents.{Tired};
     ghost use Rattle.zk_agent.specs.Waits.{ends_at, waited_of};
@@ -22,7 +22,7 @@ impl<A: Allocator + Copy> Agent<A> {
         requires { has_come now (ends_of (trail_of self.old actions.old.items)) ≡ true }
         ensures tired { OnOk result (Tired now (trail_of self.old actions.old.items) (trail_of self.new actions.new.items)) }
         ensures followed { OnOk result
-            (All (IsFollowed now (view_of self.new.asker.follower.client)) self.new.asker.follower.subjects.items) }
+            (AreFollowed now (view_of self.new.asker.follower.client) self.new.asker.follower.subjects.items) }
         ensures broke { OnErr result (IsBroken self.old self.new) }
     {
         self.hang_up(now, actions)?;
@@ -48,8 +48,8 @@ impl<A: Allocator + Copy> Agent<A> {
         actions: &mut Vec<Action<A>, A>,
     ) -> Result<(), FollowerStop>
         ensures tired { OnOk result (Tired now (trail_of self.old actions.old.items) (trail_of self.new actions.new.items)) }
-        ensures followed { All (IsFollowed now (view_of self.old.asker.follower.client)) self.old.asker.follower.subjects.items
-            → OnOk result (All (IsFollowed now (view_of self.new.asker.follower.client)) self.new.asker.follower.subjects.items) }
+        ensures followed { AreFollowed now (view_of self.old.asker.follower.client) self.old.asker.follower.subjects.items
+            → OnOk result (AreFollowed now (view_of self.new.asker.follower.client) self.new.asker.follower.subjects.items) }
         ensures broke { OnErr result (IsBroken self.old self.new) }
     {
         if self.is_late(now) {

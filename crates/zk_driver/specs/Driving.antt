@@ -6,7 +6,7 @@ use Rattle.zk_turns.specs.Turns.{Send}
 use Rattle.zk_session.specs.declared.states.State.TheVariants.{Expired, Closed}
 use Rattle.zk_client.specs.Clients.{view_of}
 use Rattle.zk_dialler.specs.Dialling.{is_open}
-use Rattle.zk_follow.specs.Following.{IsFollowed}
+use Rattle.zk_follow.specs.Following as following
 use Rattle.zk_agent.specs.declared.action.Action.{Action}
 use Rattle.zk_agent.specs.declared.agent.Agent.{Agent}
 use Rattle.zk_agent.specs.declared.input.AgentInput.{AgentInput}
@@ -99,7 +99,7 @@ course_of engine passed =
 
 -- each subject is followed, at the latest moment
 abbrev pub AreFollowed : {A : Type 0} → Agent A → Type 0
-AreFollowed agent = All (IsFollowed agent.latest (view_of agent.asker.follower.client)) agent.asker.follower.subjects.items
+AreFollowed agent = following.AreFollowed agent.latest (view_of agent.asker.follower.client) agent.asker.follower.subjects.items
 
 -- after a close there is no connection, and none is asked for
 abbrev pub IsShutAgent : {A : Type 0} → Agent A → Type 0

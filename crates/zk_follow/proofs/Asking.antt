@@ -26,8 +26,8 @@ use Rattle.zk_follow.specs.declared.reads.TheConstants.{MOST_READS}
 use Rattle.zk_follow.specs.declared.subject.Subject.{Subject}
 use Rattle.zk_follow.specs.declared.progress.Progress.{Progress}
 use Rattle.zk_follow.specs.declared.progress.Progress.TheVariants.{Due, Reading, Refused}
-use Rattle.zk_follow.specs.Following.{progress_after, answered, heard, heard_all, is_shown, read_of, rested, rested_progress, woken}
-use Rattle.zk_follow.specs.Following.{woken_progress, IsAhead, IsBeingRead, IsBusy, IsCounted, IsRefused, IsFollowed, LeavesRoom}
+use Rattle.zk_follow.specs.Following.{progress_after, answered, heard_all, is_shown, read_of, rested, rested_progress, woken}
+use Rattle.zk_follow.specs.Following.{woken_progress, IsAhead, IsBeingRead, IsBusy, IsCounted, IsRefused, IsFollowed}
 use Rattle.zk_follow.specs.inner.Following.{Asks, VisitsAnd}
 use Rattle.zk_follow.specs.Following.{is_read_by}
 use Rattle.zk_follow.proofs.Hearing.{no_answer}
@@ -61,32 +61,15 @@ of_refusal view call =
     by_test true rest e h = e
     by_test false rest e h = h
 
-busy_by : (view : View) → nat_le MOST_PENDING (calls_pending view.pending) ≡ true → IsBusy view
-busy_by view e =
+refused_later : (now : ℕ) → now < 2 ^ 64 → (was_there : Bool) (view : View) (why : Outcome) (reads : ℕ)
+    → IsDenial view why → IsBusy view reads ⊎ IsRefused now (progress_after now was_there why)
+refused_later now fits was_there view TooManyWatches reads d = inr (omega arith)
+refused_later now fits was_there view TooManyPending reads d =
     let all : MOST_PENDING ≤ calls_pending view.pending = grind (arith, nat_tests) in
-    omega (arith, all)
-
-refused_later : (now : ℕ) → now < 2 ^ 64 → (was_there : Bool) (view : View) (why : Outcome)
-    → IsDenial view why → IsBusy view ⊎ IsRefused now (progress_after now was_there why)
-refused_later now fits was_there view TooManyWatches d = inr (omega arith)
-refused_later now fits was_there view TooManyPending d = inl (busy_by view d)
-refused_later now fits was_there view TooLarge d = inr (omega arith)
-refused_later now fits was_there view SessionClosed d = inr (omega arith)
-refused_later now fits was_there view _ d = absurd d
-
-is_due_now : Progress → Bool
-is_due_now Due = true
-is_due_now _ = false
-
--- where it is to be read at once, as many calls wait as may
-busy_where_due : (now : ℕ) (was_there : Bool) (view : View) (why : Outcome)
-    → IsDenial view why → progress_after now was_there why ≡ Due → IsBusy view
-unfolding is_due_now
-busy_where_due now was_there view TooManyWatches d e = let f : false ≡ true = ap is_due_now e in cc
-busy_where_due now was_there view TooManyPending d e = busy_by view d
-busy_where_due now was_there view TooLarge d e = let f : false ≡ true = ap is_due_now e in cc
-busy_where_due now was_there view SessionClosed d e = let f : false ≡ true = ap is_due_now e in cc
-busy_where_due now was_there view _ d e = absurd d
+    inl (inr all)
+refused_later now fits was_there view TooLarge reads d = inr (omega arith)
+refused_later now fits was_there view SessionClosed reads d = inr (omega arith)
+refused_later now fits was_there view _ reads d = absurd d
 
 -- ---- the turn of a call
 
@@ -131,8 +114,9 @@ calls_on view after asks =
     ∙ length-append (filter is_call view.pending) (filter is_call asks.more) in
     omega (arith, more)
 
-busy_on : (view after : View) → Asks view after → IsBusy view → IsBusy after
-busy_on view after asks busy = omega (arith, calls_on view after asks, busy)
+busy_on : (view after : View) (reads more : ℕ) → Asks view after → reads ≤ more → IsBusy view reads → IsBusy after more
+busy_on view after reads more asks le (inl many) = inl (omega (arith, le, many))
+busy_on view after reads more asks le (inr full) = inr (omega (arith, calls_on view after asks, full))
 
 module _ {A : Type 0} (view after : View) (asks : Asks view after) where
   pub others_counted : (subject : Subject A) → IsCounted view subject → IsCounted after subject
@@ -140,13 +124,15 @@ module _ {A : Type 0} (view after : View) (asks : Asks view after) where
       being_read_on view after asks subject.ticket subject.side subject.path
       (counted (sym (ap (λ s. s.halted) asks.standing) ∙ goes_on) reads)
 
-  pub others_followed : (now : ℕ) (subject : Subject A) → IsFollowed now view subject → IsFollowed now after subject
-  others_followed now subject (inl shown) = inl (ap (λ cache. is_shown cache subject.side subject.path) asks.cache ∙ shown)
-  others_followed now subject (inr (inl read)) = inr (inl (being_read_on view after asks subject.ticket subject.side subject.path read))
-  others_followed now subject (inr (inr (inl busy))) = inr (inr (inl (busy_on view after asks busy)))
-  others_followed now subject (inr (inr (inr (inl away)))) =
+  pub others_followed : (now reads more : ℕ) → reads ≤ more → (subject : Subject A)
+      → IsFollowed now view reads subject → IsFollowed now after more subject
+  others_followed now reads more le subject (inl shown) = inl (ap (λ cache. is_shown cache subject.side subject.path) asks.cache ∙ shown)
+  others_followed now reads more le subject (inr (inl read)) =
+      inr (inl (being_read_on view after asks subject.ticket subject.side subject.path read))
+  others_followed now reads more le subject (inr (inr (inl busy))) = inr (inr (inl (busy_on view after reads more asks le busy)))
+  others_followed now reads more le subject (inr (inr (inr (inl away)))) =
       inr (inr (inr (inl (λ there. away (sym (ap (λ s. s.state) asks.standing) ∙ there)))))
-  others_followed now subject (inr (inr (inr (inr refused)))) = inr (inr (inr (inr refused)))
+  others_followed now reads more le subject (inr (inr (inr (inr refused)))) = inr (inr (inr (inr refused)))
 
 pub no_calls : (view : View) → Asks view view
 no_calls view = record { standing = refl; cache = refl; lists = refl; more = []; pending = sym (append-nil view.pending) }
@@ -155,28 +141,17 @@ no_calls view = record { standing = refl; cache = refl; lists = refl; more = [];
 
 abbrev pub IsSettled : {A : Type 0} → ℕ → View → View → Subject A → Type 0
 IsSettled now view after subject =
-    IsFollowed now after subject × IsCounted after subject × Asks view after × (subject.progress ≡ Due → IsBusy after) × LeavesRoom after
-
-one_more : (view after : View) (made : Pending) → calls_pending (made ∷ []) ≡ 1 → after.pending ≡ view.pending ++ made ∷ []
-    → calls_pending view.pending < MOST_READS → LeavesRoom after
-one_more view after made one pending room =
-    let sum : calls_pending after.pending ≡ calls_pending view.pending + calls_pending (made ∷ []) =
-    ap calls_pending pending ∙ ap length (filter-append is_call view.pending (made ∷ []))
-    ∙ length-append (filter is_call view.pending) (filter is_call (made ∷ [])) in
-    omega (arith, sum, one)
+    ((reads : ℕ) → IsFollowed now after reads subject) × IsCounted after subject × Asks view after
 
 module _ {A : Type 0} (now : ℕ) (fits : now < 2 ^ 64) (subject : Subject A) (reads : subject.progress ≡ Reading)
     (call : Asked_call) (is_missing : Bool)
-    (read : question_of call ≡ read_of subject.side is_missing subject.path) (view after : View) (outputs : List Output)
-    (room : calls_pending view.pending < MOST_READS) where
+    (read : question_of call ≡ read_of subject.side is_missing subject.path) (view after : View) (outputs : List Output) where
   sent_read : IsSent view subject.ticket call outputs after → IsSettled now view after (heard_all now subject outputs)
   sent_read sent =
       subst (λ said. IsSettled now view after (heard_all now subject said)) (sym sent.0) (
-        inr (inl waits),
+        (λ others. inr (inl waits)),
         (λ goes_on reading. waits),
         asks,
-        (λ due. absurd (let e : Due ≡ Reading = sym due ∙ reads in cc)),
-        one_more view after call_made refl pending room,
       )
     where
       call_made : Pending
@@ -207,14 +182,12 @@ module _ {A : Type 0} (now : ℕ) (fits : now < 2 ^ 64) (subject : Subject A) (r
       subst (λ said. IsSettled now view after (heard_all now subject said)) (sym denied.2)
       (subst (IsSettled now view after)
       (sym (ap (λ b. cond b (answered now denied.0 subject) subject) (eq-eqb subject.ticket subject.ticket refl))) (
-        elim (refused_later now fits subject.is_there view denied.0 denied.1) [
-          | inl busy ↦ inr (inr (inl (subst IsBusy (sym denied.3) busy)))
+        (λ others. elim (refused_later now fits subject.is_there view denied.0 others denied.1) [
+          | inl busy ↦ inr (inr (inl (subst (λ v. IsBusy v others) (sym denied.3) busy)))
           | inr refused ↦ inr (inr (inr (inr refused)))
-        ],
+        ]),
         (λ goes_on reading. absurd (no_answer now subject.is_there denied.0 reading)),
         subst (Asks view) (sym denied.3) (no_calls view),
-        (λ due. subst IsBusy (sym denied.3) (busy_where_due now subject.is_there view denied.0 denied.1 due)),
-        subst LeavesRoom (sym denied.3) (omega arith),
       ))
 
   pub read_asked : Rule view (record { input = Call subject.ticket call; outputs = outputs }) after → view.standing.state ≡ Connected
@@ -245,12 +218,12 @@ woken_counted now view subject counted going reads = counted going (by subject.p
     by Reading e = refl
     by (Refused why until) e = absurd (past (nat_le until now) why until e)
 
-pub not_due : {A : Type 0} (now : ℕ) (view : View) (subject : Subject A)
+pub not_due : {A : Type 0} (now : ℕ) (view : View) (reads : ℕ) (subject : Subject A)
     → IsAhead now subject.progress → subject.progress ≢ Due → view.standing.halted ≡ false
-    → IsCounted view subject → IsFollowed now view subject
-not_due now view subject ahead read goes_on counted = by subject.progress refl
+    → IsCounted view subject → IsFollowed now view reads subject
+not_due now view reads subject ahead read goes_on counted = by subject.progress refl
   where
-    by : (progress : Progress) → subject.progress ≡ progress → IsFollowed now view subject
+    by : (progress : Progress) → subject.progress ≡ progress → IsFollowed now view reads subject
     by Due s = absurd (read s)
     by Reading s = inr (inl (counted goes_on s))
     by (Refused why until) s = inr (inr (inr (inr (subst (IsRefused now) (sym s) (subst (IsAhead now) s ahead)))))
@@ -260,18 +233,19 @@ not_due now view subject ahead read goes_on counted = by subject.progress refl
 pub nothing_more : (given : List Output) → given ≡ given ++ []
 nothing_more given = sym (append-nil given)
 
-pub asked_visits : {A : Type 0} (now : ℕ) (view : View) (given : List Output) (subject heard : Subject A)
-    (after : View) (given_after : List Output) (new : Subject A)
-    (call : Asked_call) → subject ≡ heard → question_of call ≡ read_of subject.side subject.is_missing subject.path
+pub asked_visits : {A : Type 0} (now : ℕ) (view : View) (given : List Output) (reads : ℕ) (subject : Subject A)
+    (after : View) (given_after : List Output) (reads_after : ℕ) (new : Subject A)
+    (call : Asked_call) → question_of call ≡ read_of subject.side subject.is_missing subject.path
     → (outputs : List Output) × Rule view (record { input = Call subject.ticket call; outputs = outputs }) after
-    × (new ≡ heard_all now (record subject { progress = Reading }) outputs) × (given_after ≡ given ++ outputs) × LeavesRoom after
-    → VisitsAnd now view given heard after given_after new
-asked_visits now view given subject heard after given_after new call same read asked =
-    let turn : Turn = record { input = Call subject.ticket call; outputs = asked.0 } in
-    subst (λ before. VisitsAnd now view given before after given_after new) same (
+    × (new ≡ heard_all now (record subject { progress = Reading }) outputs) × (given_after ≡ given ++ outputs)
+    → reads_after ≤ MOST_READS
+    → VisitsAnd now view given reads subject after given_after reads_after new
+asked_visits now view given reads subject after given_after reads_after new call read asked room =
+    let turn : Turn = record { input = Call subject.ticket call; outputs = asked.0 } in (
       turn ∷ [],
-      inr (turn, refl, (call, refl, read), asked.1, asked.2, asked.4),
+      inr (turn, refl, (call, refl, read), asked.1, asked.2),
       asked.3 ∙ ap (λ outputs. given ++ outputs) (nothing_more asked.0),
+      inr room,
     )
 
 -- ---- a subject that rests

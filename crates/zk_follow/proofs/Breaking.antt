@@ -1,6 +1,6 @@
 -- Where memory runs out within a step, the turns that were taken until then are one chain.
 use Rattle.std.proofs.Common.{◌≡◌, ◌++◌, ℕ, List, [], ◌∷◌, refl, inl, inr}
-use Rattle.std.specs.Prelude.{Result, Ok, Err, OnErr}
+use Rattle.std.specs.Prelude.{Result, Ok, Err, OnErr, OnOk}
 use Rattle.std.specs.List.{FoldsTo}
 use Rattle.zk_turns.specs.Turns.{Now, Output, Input, Turn}
 use Rattle.zk_turns.specs.View.{View}
@@ -54,3 +54,7 @@ after_steps now view input old here given subjects new steps same = record {
 pub err_always : {X E P : Type 0} (result : Result X E) → P → OnErr result P
 err_always (Ok x) p = tt
 err_always (Err e) p = p
+
+pub ok_always : {X E P : Type 0} (result : Result X E) → P → OnOk result P
+ok_always (Ok x) p = p
+ok_always (Err e) p = tt

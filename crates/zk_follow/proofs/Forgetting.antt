@@ -11,7 +11,7 @@ use Rattle.zk_cache.specs.Kept.{Answer, Names, if_good, is_good, is_marked_good,
 use Rattle.zk_turns.specs.View.{View, Cache}
 use Rattle.zk_turns.specs.Rule.{forgotten}
 use Rattle.zk_follow.specs.declared.subject.Subject.{Subject}
-use Rattle.zk_follow.specs.Following.{is_kept, is_shown, is_whole, says_none, IsCounted, IsFollowed}
+use Rattle.zk_follow.specs.Following.{is_kept, is_shown, is_whole, reads_of, says_none, AreFollowed, IsCounted, IsFollowed}
 use Rattle.zk_follow.specs.Following.{holds}
 
 by_mark : (test : Answer → Bool) (answer : Answer) (mark : Mark)
@@ -44,14 +44,15 @@ holds_still cache Child path = names_still (cache.children path)
 abbrev pub after_forgetting : View → View
 after_forgetting view = record view { cache = forgotten view.cache }
 
-followed_still : {A : Type 0} (now : ℕ) (view : View) (subject : Subject A)
-    → IsFollowed now view subject → IsFollowed now (after_forgetting view) subject
-followed_still now view subject (inl shown) = inl (shown_still view.cache subject.side subject.path ∙ shown)
-followed_still now view subject (inr rest) = inr rest
+followed_still : {A : Type 0} (now : ℕ) (view : View) (reads : ℕ) (subject : Subject A)
+    → IsFollowed now view reads subject → IsFollowed now (after_forgetting view) reads subject
+followed_still now view reads subject (inl shown) = inl (shown_still view.cache subject.side subject.path ∙ shown)
+followed_still now view reads subject (inr rest) = inr rest
 
 pub all_followed_still : {A : Type 0} (now : ℕ) (view : View) (subjects : List (Subject A))
-    → All (IsFollowed now view) subjects → All (IsFollowed now (after_forgetting view)) subjects
-all_followed_still now view subjects all k d within = followed_still now view (get_or subjects k d) (all k d within)
+    → AreFollowed now view subjects → AreFollowed now (after_forgetting view) subjects
+all_followed_still now view subjects all k d within =
+    followed_still now view (reads_of view subjects) (get_or subjects k d) (all k d within)
 
 pub all_counted_still : {A : Type 0} (view : View) (subjects : List (Subject A))
     → All (IsCounted view) subjects → All (IsCounted (after_forgetting view)) subjects

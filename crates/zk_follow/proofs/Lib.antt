@@ -15,5 +15,6 @@ pub mod Among
 pub mod Paths
 pub mod Placing
 pub mod Skipping
+pub mod Counting
 pub mod Finding
 pub mod Again

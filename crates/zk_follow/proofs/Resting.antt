@@ -1,7 +1,7 @@
 -- A subject that rests stays as it is by a visit, where outputs say nothing of it, and there is nothing more to tell of it.
 use Rattle.std.proofs.Common.{◌≡◌, ◌≢◌, ◌<◌, ◌+◌, suc, ℕ, Bool, true, false, not, cond, ◌&&◌, ◌||◌, List, [], ◌∷◌, Option}
 use Rattle.std.proofs.Common.{Some, None}
-use Rattle.std.proofs.Common.{inl, length, get_or, refl, sym, ap, ◌∙◌, arith}
+use Rattle.std.proofs.Common.{inl, length, get_or, refl, sym, ap, subst, ◌∙◌, arith}
 use Rattle.std.proofs.lemmas.List.{get_or_default}
 use Rattle.std.proofs.lemmas.Bool.Decides.{Decides-eqb}
 use Rattle.std.specs.Prelude.{◌==◌, bytes_eq}
@@ -24,10 +24,11 @@ use Rattle.zk_follow.specs.declared.subject.Subject.{Subject}
 use Rattle.zk_follow.specs.Following.{answered, heard, heard_all, is_kept, is_report_of, is_reported, is_shown, news_about, news_in}
 use Rattle.zk_follow.specs.Following.{says_none, taken}
 use Rattle.zk_follow.specs.Following.{is_quiet, told_after, told_of, was_shown, woken, woken_progress, IsCounted, IsFollowed}
-use Rattle.zk_follow.specs.inner.Following.{Asks, VisitsAnd}
-use Rattle.zk_follow.specs.Following.{holds, is_due, is_resting}
-use Rattle.zk_follow.specs.inner.Resting.{covers, is_about, is_marked, is_report, tells_fields, AreNoted}
-use Rattle.zk_follow.proofs.Asking.{nothing_more}
+use Rattle.zk_follow.specs.inner.Following.{Asks}
+use Rattle.zk_follow.specs.inner.Places.{AreSameBut}
+use Rattle.zk_follow.specs.Following.{holds, is_due, is_resting, IsVisited}
+use Rattle.zk_follow.specs.inner.Resting.{covers, is_about, is_marked, is_report, tells_fields, AreAtRest, AreDueBut, AreLeft, AreNoted}
+use Rattle.zk_follow.specs.inner.Resting.{AreUnmoved}
 use Rattle.zk_follow.proofs.Forgetting.{after_forgetting, holds_still}
 use Rattle.zk_follow.proofs.Staying.{or_false, Stays, stays_at}
 
@@ -105,8 +106,8 @@ module _ {A : Type 0} (now : ℕ) (view : View) (subject : Subject A) (rest : is
   pub rest_shown : is_shown view.cache subject.side subject.path ≡ true
   rest_shown = shown_by view.cache subject.side subject.path (parts_of view subject rest).stays.1
 
-  pub rest_followed : IsFollowed now view subject
-  rest_followed = inl rest_shown
+  pub rest_followed : (reads : ℕ) → IsFollowed now view reads subject
+  rest_followed reads = inl rest_shown
 
   pub rest_counted_as : IsCounted view subject
   rest_counted_as going reads =
@@ -119,12 +120,28 @@ module _ {A : Type 0} (now : ℕ) (view : View) (subject : Subject A) (rest : is
       ∙ ap (λ (p : Progress). record subject { progress = p }) (sym due)
 
   module _ (outputs : List Output) (silent : list_any (is_about subject.ticket subject.path) outputs ≡ false) where
-    taken_same : taken now outputs subject ≡ subject
+    pub taken_same : taken now outputs subject ≡ subject
     taken_same = ap (λ (s : Subject A). woken now s) (all_heard_same now subject outputs silent) ∙ woken_same
 
-    -- A visit leaves it as it is.
-    pub rest_visits : (given : List Output) → VisitsAnd now view given (taken now outputs subject) view given subject
-    rest_visits given = ([], inl (refl, refl, inl (sym taken_same)), nothing_more given)
+-- A visit that asks nothing may leave a subject as it is.
+pub not_visited : {A : Type 0} (now : ℕ) (view : View) (subject : Subject A) → IsVisited now subject subject
+not_visited now view subject = (view, [], view, inl (refl, refl, inl refl))
+
+-- Who is left is as it was once it has taken what was said, and rests.
+pub left_unmoved : {A : Type 0} (now : ℕ) (view : View) (outputs : List Output) (subjects : List (Subject A)) (places : List ℕ)
+    → AreLeft view outputs subjects places → AreUnmoved now outputs subjects places
+left_unmoved now view outputs subjects places left k d within none =
+    let rests = left k d within none in taken_same now view (get_or subjects k d) rests.0 outputs rests.1
+
+pub left_rests : {A : Type 0} (view : View) (outputs : List Output) (subjects new : List (Subject A)) (places : List ℕ)
+    → length new ≡ length subjects → AreLeft view outputs subjects places → AreSameBut places subjects new → AreAtRest view new places
+left_rests {A} view outputs subjects new places size left same k d within none =
+    subst (λ (s : Subject A). is_resting view s ≡ true) (sym (same k d none)) (left k d (omega (arith, within, size)) none).0
+
+-- Who rests is due.
+pub rest_due : {A : Type 0} (view : View) (subjects : List (Subject A)) (places : List ℕ)
+    → AreAtRest view subjects places → AreDueBut subjects places
+rest_due view subjects places rest k d within none = (parts_of view (get_or subjects k d) (rest k d within none)).due
 
 -- ---- from view to view
 

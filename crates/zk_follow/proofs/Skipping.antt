@@ -10,13 +10,12 @@ use Rattle.std.proofs.lemmas.Bool.Decides.{Decides-eqb, nat_tests}
 use Rattle.zk_turns.specs.Turns.{Output}
 use Rattle.zk_turns.specs.View.{View}
 use Rattle.zk_follow.specs.declared.subject.Subject.{Subject}
-use Rattle.zk_follow.specs.Following.{is_among, news_in, taken, told_of, IsCounted, IsFollowed, IsVisited}
+use Rattle.zk_follow.specs.Following.{is_among, news_in, told_of, IsCounted, IsFollowed, IsVisited}
 use Rattle.zk_follow.specs.inner.Following.{Asks}
 use Rattle.zk_follow.specs.inner.Places.{AreSameBut, IsAscending}
-use Rattle.zk_follow.specs.declared.news.News.{News}
-use Rattle.zk_follow.specs.inner.Resting.{AreLeft, AreTold}
-use Rattle.zk_follow.proofs.Visiting.{is_visited, more_visited, one_more_visited, same_after, AllBefore, SameFrom, StandsAt, VisitedBefore}
-use Rattle.zk_follow.proofs.Resting.{nothing_told, quiet_parts, rest_counted_as, rest_followed, rest_visits, rests_on, told_same}
+use Rattle.zk_follow.specs.inner.Resting.{AreAtRest, AreTold}
+use Rattle.zk_follow.proofs.Visiting.{more_visited, one_more_visited, same_after, AllBefore, SameFrom, StandsAt, VisitedBefore}
+use Rattle.zk_follow.proofs.Resting.{not_visited, nothing_told, quiet_parts, rest_counted_as, rest_followed, rests_on, told_same}
 use Rattle.zk_follow.proofs.Telling.{at_seam, flat_more}
 use Rattle.std.proofs.lemmas.Grind.{get_or_default_zero}
 
@@ -110,28 +109,28 @@ walk_to P from to le step p =
 -- ---- visits
 
 -- Those before a place are followed and were visited, and those from it on are as they were.
-pub record Seam {A : Type 0} (now : ℕ) (outputs : List Output) (view : View) (first subjects : List (Subject A)) (place : ℕ) : Type 0 where
-  pub before : AllBefore place (StandsAt now view) subjects
-  pub visited : VisitedBefore place now outputs first subjects
+pub record Seam {A : Type 0} (now : ℕ) (view : View) (reads : ℕ) (first subjects : List (Subject A)) (place : ℕ) : Type 0 where
+  pub before : AllBefore place (StandsAt now view reads) subjects
+  pub visited : VisitedBefore place now first subjects
   pub rest_of : SameFrom place subjects first
 
 -- Who is none of the places is as after a visit.
-pub skip : {A : Type 0} (now : ℕ) (outputs : List Output) (old view : View) → Asks old view → (first subjects : List (Subject A))
-    (places : List ℕ) → AreLeft old outputs first places → (from to : ℕ) → from ≤ to → to ≤ length first
+pub skip : {A : Type 0} (now : ℕ) (old view : View) (reads : ℕ) → Asks old view → (first subjects : List (Subject A))
+    (places : List ℕ) → AreAtRest old first places → (from to : ℕ) → from ≤ to → to ≤ length first
     → ((k : ℕ) → from ≤ k → k < to → is_among k places ≡ false)
-    → Seam now outputs view first subjects from → Seam now outputs view first subjects to
-skip {A} now outputs old view asks first subjects places left from to le fits none seam = record {
+    → Seam now view reads first subjects from → Seam now view reads first subjects to
+skip {A} now old view reads asks first subjects places left from to le fits none seam = record {
   before = λ k d below. (each k d below).0;
   visited = λ k d below. (each k d below).1;
   rest_of = λ k d after. seam.rest_of k d (omega (arith, le, after));
 }
   where
     each : (k : ℕ) (d : Subject A) → k < to
-        → StandsAt now view (get_or subjects k d) × IsVisited now (taken now outputs (get_or first k d)) (get_or subjects k d)
+        → StandsAt now view reads (get_or subjects k d) × IsVisited now (get_or first k d) (get_or subjects k d)
     each k d below = by (nat_lt k from) refl
       where
         by : (b : Bool) → nat_lt k from ≡ b
-            → StandsAt now view (get_or subjects k d) × IsVisited now (taken now outputs (get_or first k d)) (get_or subjects k d)
+            → StandsAt now view reads (get_or subjects k d) × IsVisited now (get_or first k d) (get_or subjects k d)
         by true e =
             let earlier : k < from = grind (arith, nat_tests) in
             (seam.before k d earlier, seam.visited k d earlier)
@@ -139,11 +138,10 @@ skip {A} now outputs old view asks first subjects places left from to le fits no
             let later : from ≤ k = grind (arith, nat_tests) in
             let within : k < length first = omega (arith, below, fits) in
             let s : Subject A = get_or first k d in
-            let rests = left k d within (none k later below) in
-            let rest = rests_on old view asks s rests.0 in
-            subst (λ (t : Subject A). StandsAt now view t × IsVisited now (taken now outputs s) t) (sym (seam.rest_of k d later)) (
-              (rest_followed now view s rest, rest_counted_as now view s rest),
-              is_visited now view [] (taken now outputs s) view [] s (rest_visits now view s rest outputs rests.1 []),
+            let rest = rests_on old view asks s (left k d within (none k later below)) in
+            subst (λ (t : Subject A). StandsAt now view reads t × IsVisited now s t) (sym (seam.rest_of k d later)) (
+              (rest_followed now view s rest reads, rest_counted_as now view s rest),
+              not_visited now view s,
             )
 
 -- ---- telling
@@ -190,7 +188,7 @@ pub same_more : {X : Type 0} (places : List ℕ) (index : ℕ) (first all : List
 same_more places index first all new within same k d none =
     get_or-set_other all (get_or places index 0) k new d (not_at places index k within none) ∙ same k d none
 
-module _ {A : Type 0} (now : ℕ) (outputs : List Output) (first subjects : List (Subject A)) (places : List ℕ) (index : ℕ)
+module _ {A : Type 0} (now : ℕ) (first subjects : List (Subject A)) (places : List ℕ) (index : ℕ)
     (ascend : IsAscending places) (below : All (λ at. at < length first) places) (within : index < length places) where
   abbrev pub place : ℕ
   place = get_or places index 0
@@ -199,73 +197,70 @@ module _ {A : Type 0} (now : ℕ) (outputs : List Output) (first subjects : List
   is_within = below index 0 within
 
   -- up to the place that is visited next
-  pub at_place : (old view : View) → Asks old view → AreLeft old outputs first places
-      → Seam now outputs view first subjects (start_of places index) → Seam now outputs view first subjects place
-  at_place old view asks left seam =
-      skip now outputs old view asks first subjects places left (start_of places index) place (start_low places ascend index within)
+  pub at_place : (old view : View) (reads : ℕ) → Asks old view → AreAtRest old first places
+      → Seam now view reads first subjects (start_of places index) → Seam now view reads first subjects place
+  at_place old view reads asks left seam =
+      skip now old view reads asks first subjects places left (start_of places index) place (start_low places ascend index within)
       (omega (arith, is_within)) (λ k low high. between places ascend index k (omega (arith, within)) low (λ has. high)) seam
 
-  pub visited_more : (old view after : View) → Asks old view → Asks view after → AreLeft old outputs first places
-      → length subjects ≡ length first → (new : Subject A) → IsFollowed now after new → IsCounted after new
-      → IsVisited now (taken now outputs (get_or subjects place new)) new
-      → Seam now outputs view first subjects (start_of places index)
-      → Seam now outputs after first (set subjects place new) (start_of places (index + 1))
-  visited_more old view after asks more left size new followed counted visited seam =
-      let here = at_place old view asks left seam in
+  pub visited_more : (old view after : View) (reads more : ℕ) → reads ≤ more → Asks old view → Asks view after
+      → AreAtRest old first places → length subjects ≡ length first → (new : Subject A) → IsFollowed now after more new
+      → IsCounted after new → IsVisited now (get_or subjects place new) new
+      → Seam now view reads first subjects (start_of places index)
+      → Seam now after more first (set subjects place new) (start_of places (index + 1))
+  visited_more old view after reads more le asks further left size new followed counted visited seam =
+      let here = at_place old view reads asks left seam in
       let fits : place < length subjects = omega (arith, is_within, size) in
-      subst (Seam now outputs after first (set subjects place new)) (sym (start_next places index)) (record {
-        before = more_visited now view after more subjects place new fits followed counted here.before;
-        visited = one_more_visited now outputs first subjects place (get_or subjects place new) new is_within fits
+      subst (Seam now after more first (set subjects place new)) (sym (start_next places index)) (record {
+        before = more_visited now view after reads more le further subjects place new fits followed counted here.before;
+        visited = one_more_visited now first subjects place (get_or subjects place new) new is_within fits
             (get_or_default subjects place new (get_or subjects place new) fits) here.rest_of visited here.visited;
         rest_of = same_after subjects first place new here.rest_of;
       })
 
 -- after the last place
-pub at_end : {A : Type 0} (now : ℕ) (outputs : List Output) (first subjects : List (Subject A)) (places : List ℕ) (index : ℕ)
+pub at_end : {A : Type 0} (now : ℕ) (first subjects : List (Subject A)) (places : List ℕ) (index : ℕ)
     → IsAscending places → All (λ at. at < length first) places → index ≡ length places
-    → (old view : View) → Asks old view → AreLeft old outputs first places
-    → Seam now outputs view first subjects (start_of places index) → Seam now outputs view first subjects (length first)
-at_end now outputs first subjects places index ascend below end old view asks left seam =
-    skip now outputs old view asks first subjects places left (start_of places index) (length first) (start_within index end)
+    → (old view : View) (reads : ℕ) → Asks old view → AreAtRest old first places
+    → Seam now view reads first subjects (start_of places index) → Seam now view reads first subjects (length first)
+at_end now first subjects places index ascend below end old view reads asks left seam =
+    skip now old view reads asks first subjects places left (start_of places index) (length first) (start_within index end)
     (omega arith) (λ k low high. between places ascend index k (omega (arith, end)) low (λ has. absurd (omega (arith, has, end)))) seam
   where
     start_within : (count : ℕ) → count ≡ length places → start_of places count ≤ length first
     start_within zero e = omega arith
     start_within (suc count) e = let fits = below count 0 (omega (arith, e)) in omega (arith, fits)
 
--- ---- one more is told of
+-- ---- one more is changed, and what there is of it is added
 
-module _ {A : Type 0} (view : View) (outputs : List Output) (first subjects : List (Subject A)) (old all : List (ℕ × News))
-    (places : List ℕ) (index : ℕ) (ascend : IsAscending places) (below : All (λ at. at < length first) places)
-    (told : AreTold view outputs first places) where
-  abbrev T : List (Subject A) → List (ℕ × News) → ℕ → Type 0
-  T now more place = Told (told_of view) (news_in view outputs) first now old more place
+module _ {X Y : Type 0} (f : X → X) (g : X → List Y) (first subjects : List X) (old all : List Y) (places : List ℕ) (index : ℕ)
+    (ascend : IsAscending places) (below : All (λ at. at < length first) places)
+    (still : (k : ℕ) (d : X) → k < length first → is_among k places ≡ false
+    → (f (get_or first k d) ≡ get_or first k d) × (g (get_or first k d) ≡ [])) where
+  abbrev T : List X → List Y → ℕ → Type 0
+  T now more place = Told f g first now old more place
 
-  -- there is nothing to tell of those between
+  -- those between are as they were, and there is nothing of them
   pass_to : (to : ℕ) → start_of places index ≤ to → to ≤ length first
       → ((k : ℕ) → start_of places index ≤ k → k < to → is_among k places ≡ false)
       → T subjects all (start_of places index) → T subjects all to
   pass_to to le fits none =
-      pass (told_of view) (news_in view outputs) first subjects old all (start_of places index) to le fits
-      (λ k d low high.
-      let its = told k d (omega (arith, high, fits)) (none k low high) in
-      let parts = quiet_parts view (get_or first k d) its.0 in
-      (told_same view (get_or first k d) parts.0 parts.1, nothing_told view (get_or first k d) parts.0 parts.1 outputs its.1))
+      pass f g first subjects old all (start_of places index) to le fits
+      (λ k d low high. still k d (omega (arith, high, fits)) (none k low high))
 
-  pub told_more : index < length places → (more : List (ℕ × News)) (item new : Subject A) → length subjects ≡ length first
-      → item ≡ get_or subjects (get_or places index 0) item → new ≡ told_of view item → more ≡ all ++ news_in view outputs item
+  pub told_more : index < length places → (more : List Y) (item new : X) → length subjects ≡ length first
+      → item ≡ get_or subjects (get_or places index 0) item → new ≡ f item → more ≡ all ++ g item
       → T subjects all (start_of places index) → T (set subjects (get_or places index 0) new) more (start_of places (index + 1))
   told_more within more item new size is its added before =
       let place : ℕ = get_or places index 0 in
       let fits : place < length first = below index 0 within in
       let here = pass_to place (start_low places ascend index within) (omega (arith, fits))
       (λ k low high. between places ascend index k (omega (arith, within)) low (λ has. high)) before in
-      let was : item ≡ get_or first place item = is ∙ at_seam (told_of view) first subjects place item fits here.subjects in
+      let was : item ≡ get_or first place item = is ∙ at_seam f first subjects place item fits here.subjects in
       subst (T (set subjects place new) more) (sym (start_next places index)) (record {
-        subjects = ap (set subjects place) its ∙ map_over_more (told_of view) first subjects place item fits here.subjects is;
-        all = added ∙ ap (λ news. news ++ news_in view outputs item) here.all
-            ∙ append_assoc old (flat_map (news_in view outputs) (take place first)) (news_in view outputs item)
-            ∙ ap (λ news. old ++ news) (sym (flat_more (news_in view outputs) first place item fits was));
+        subjects = ap (set subjects place) its ∙ map_over_more f first subjects place item fits here.subjects is;
+        all = added ∙ ap (λ news. news ++ g item) here.all ∙ append_assoc old (flat_map g (take place first)) (g item)
+            ∙ ap (λ news. old ++ news) (sym (flat_more g first place item fits was));
       })
 
   pub told_end : index ≡ length places → T subjects all (start_of places index) → T subjects all (length first)
@@ -276,3 +271,12 @@ module _ {A : Type 0} (view : View) (outputs : List Output) (first subjects : Li
       start_within : (count : ℕ) → count ≡ length places → start_of places count ≤ length first
       start_within zero e = omega arith
       start_within (suc count) e = let fits = below count 0 (omega (arith, e)) in omega (arith, fits)
+
+-- of those that are quiet there is nothing to tell
+pub quiet_still_told : {A : Type 0} (view : View) (outputs : List Output) (first : List (Subject A)) (places : List ℕ)
+    → AreTold view outputs first places → (k : ℕ) (d : Subject A) → k < length first → is_among k places ≡ false
+    → (told_of view (get_or first k d) ≡ get_or first k d) × (news_in view outputs (get_or first k d) ≡ [])
+quiet_still_told view outputs first places told k d within none =
+    let its = told k d within none in
+    let parts = quiet_parts view (get_or first k d) its.0 in
+    (told_same view (get_or first k d) parts.0 parts.1, nothing_told view (get_or first k d) parts.0 parts.1 outputs its.1)

@@ -1,12 +1,12 @@
 -- Subjects are visited one after the other: those before are followed, and those after it are as they were.
 use Rattle.std.proofs.Common.{◌≡◌, ◌≢◌, ◌≤◌, ◌<◌, ◌^◌, ◌+◌, ◌++◌, ◌⊎◌, append_assoc, cond, ℕ, ℤ, Bool, true, false, List, [], ◌∷◌, inl, inr}
 use Rattle.std.proofs.Common.{length, get_or, map, set, take, refl, sym, ap, subst, ◌∙◌, arith}
-use Rattle.std.proofs.lemmas.List.{append-nil, get_or_default, get_or-set_same, get_or-set_other}
+use Rattle.std.proofs.lemmas.List.{append-nil, get_or_default, get_or-map, get_or-set_same, get_or-set_other, length-map, nil_from_length}
 use Rattle.std.proofs.Math.Seq.{take-append_seam}
 use Rattle.std.proofs.lemmas.Grind.{flat_map-append}
 use Rattle.std.proofs.lemmas.List.Elements.{All-map}
 use Rattle.std.proofs.lemmas.Bool.Decides.{Decides-eqb}
-use Rattle.std.specs.Prelude.{◌==◌, All, bytes_eq, slice_index_or}
+use Rattle.std.specs.Prelude.{◌==◌, All, Result, Ok, Err, OnOk, bytes_eq, slice_index_or}
 use Rattle.std.specs.List.{FoldsTo}
 use Rattle.zk_conversation.specs.Results.{NoNode, Refused as Refused_by}
 use Rattle.zk_turns.specs.Turns.{Outcome, Replied, TooManyWatches, TooLarge, SessionClosed, Output, Answer, Enters, Report, Turn, Input}
@@ -18,10 +18,12 @@ use Rattle.zk_turns.specs.Rule.{Rule, RuleAt}
 use Rattle.zk_follow.specs.declared.subject.Subject.{Subject}
 use Rattle.zk_follow.specs.declared.progress.Progress.{Progress}
 use Rattle.zk_follow.specs.declared.progress.Progress.TheVariants.{Due, Reading, Refused}
-use Rattle.zk_follow.specs.Following.{heard_all, outputs_in, due_again, progress_after, read_of, rested_progress, taken, AreReads}
-use Rattle.zk_follow.specs.Following.{AreVisited, IsAhead, IsCounted, IsFollowed, IsReadOf, IsVisited, LeavesRoom, Steps, Visits}
-use Rattle.zk_follow.specs.inner.Following.{Asks, Reads}
+use Rattle.zk_follow.specs.declared.reads.TheConstants.{MOST_READS}
+use Rattle.zk_follow.specs.Following.{heard_all, how_many_reading, outputs_in, due_again, progress_after, read_of, rested_progress, taken}
+use Rattle.zk_follow.specs.Following.{AreFollowed, AreReads, AreVisited, IsAhead, IsCounted, IsFollowed, IsReadOf, IsVisited, Steps, Visits}
+use Rattle.zk_follow.specs.inner.Following.{AreSeen, Asks, Reads}
 use Rattle.zk_follow.specs.inner.Following.{VisitsAnd}
+use Rattle.zk_follow.specs.inner.Places.{AreSameBut}
 use Rattle.zk_follow.specs.Following.{answered, heard}
 use Rattle.zk_follow.proofs.Waiting.{still_going}
 use Rattle.zk_follow.proofs.Hearing.{all_same_path, all_same_side, all_same_ticket, counted_at}
@@ -51,39 +53,37 @@ same_after xs ys index x same k d rest_of =
     let later : index ≤ k = omega arith in
     get_or-set_other xs index k x d other ∙ same k d later
 
-abbrev pub StandsAt : {A : Type 0} → ℕ → View → Subject A → Type 0
-StandsAt now view subject = IsFollowed now view subject × IsCounted view subject
+-- where so many are being read
+abbrev pub StandsAt : {A : Type 0} → ℕ → View → (reads : ℕ) → Subject A → Type 0
+StandsAt now view reads subject = IsFollowed now view reads subject × IsCounted view subject
 
-module _ {A : Type 0} (now : ℕ) (view after : View) (asks : Asks view after) where
-  stands_on : (subject : Subject A) → StandsAt now view subject → StandsAt now after subject
-  stands_on subject stands = (others_followed view after asks now subject stands.0, others_counted view after asks subject stands.1)
+module _ {A : Type 0} (now : ℕ) (view after : View) (reads more : ℕ) (le : reads ≤ more) (asks : Asks view after) where
+  stands_on : (subject : Subject A) → StandsAt now view reads subject → StandsAt now after more subject
+  stands_on subject stands =
+      (others_followed view after asks now reads more le subject stands.0, others_counted view after asks subject stands.1)
 
   pub more_visited : (subjects : List (Subject A)) (index : ℕ) (visited : Subject A)
-      → index < length subjects → IsFollowed now after visited → IsCounted after visited
-      → AllBefore index (StandsAt now view) subjects → AllBefore (index + 1) (StandsAt now after) (set subjects index visited)
+      → index < length subjects → IsFollowed now after more visited → IsCounted after visited
+      → AllBefore index (StandsAt now view reads) subjects → AllBefore (index + 1) (StandsAt now after more) (set subjects index visited)
   more_visited subjects index visited within followed counted before k d below = by (k == index) refl
     where
-      by : (same : Bool) → (k == index) ≡ same → StandsAt now after (get_or (set subjects index visited) k d)
+      by : (same : Bool) → (k == index) ≡ same → StandsAt now after more (get_or (set subjects index visited) k d)
       by true e =
           let is : k ≡ index = (Decides-eqb k index).0 e in
-          subst (StandsAt now after) (sym
+          subst (StandsAt now after more) (sym
           (ap (λ n. get_or (set subjects index visited) n d) is ∙ get_or-set_same subjects index visited d within)) (followed, counted)
       by false e =
           let other : k ≢ index = λ same. let t : (k == index) ≡ true = (Decides-eqb k index).1 same in cc in
           let earlier : k < index = omega arith in
-          subst (StandsAt now after) (sym (get_or-set_other subjects index k visited d other))
+          subst (StandsAt now after more) (sym (get_or-set_other subjects index k visited d other))
           (stands_on (get_or subjects k d) (before k d earlier))
 
-  -- the subject that is visited next counts as it did, once it has heard the outputs
-  pub next_counted : (subjects first : List (Subject A)) (index : ℕ) (element : Subject A) (outputs : List Output) → index < length first
-      → All (λ subject. IsCounted view (heard_all now subject outputs)) first → element ≡ get_or subjects index element
-      → SameFrom index subjects first
-      → IsCounted after (heard_all now element outputs)
-  next_counted subjects first index element outputs within all is same =
-      let whole : element ≡ get_or first index element = is ∙ same index element (omega arith) in
-      let counted : IsCounted view (heard_all now (get_or first index element) outputs) = all index element within in
-      others_counted view after asks (heard_all now element outputs)
-      (subst (λ subject. IsCounted view (heard_all now subject outputs)) (sym whole) counted)
+-- what holds of each of the first list holds of the one that is visited next
+pub holds_next : {X : Type 0} (P : X → Type 0) (subjects first : List X) (index : ℕ) (element : X) → index < length first
+    → All P first → element ≡ get_or subjects index element → SameFrom index subjects first → P element
+holds_next P subjects first index element within all is same =
+    let whole : element ≡ get_or first index element = is ∙ same index element (omega arith) in
+    subst P (sym whole) (all index element within)
 
 -- ---- a turn
 
@@ -109,7 +109,7 @@ pub new_counted : {A : Type 0} (view : View) (subject : Subject A) → subject.p
 new_counted view subject due going reads = absurd (let e : Due ≡ Reading = sym due ∙ reads in cc)
 
 pub begun_followed : {A : Type 0} (now : ℕ) (view : View) (subjects : List (Subject A))
-    → view.standing.state ≢ Connected → All (IsFollowed now view) subjects
+    → view.standing.state ≢ Connected → AreFollowed now view subjects
 begun_followed now view subjects away k d within = inr (inr (inr (inl away)))
 
 pub begun_counted : {A : Type 0} (view : View) (subjects : List (Subject A)) → All (IsCounted view) (map due_again subjects)
@@ -122,30 +122,37 @@ not_connected timeout before e = let f : Idle ≡ Connected = e in absurd cc
 
 -- ---- each was visited
 
-abbrev pub VisitedBefore : {A : Type 0} → (count now : ℕ) → List Output → (old new : List (Subject A)) → Type 0
-VisitedBefore {A} count now outputs old new =
-    (k : ℕ) (d : Subject A) → k < count → IsVisited now (taken now outputs (get_or old k d)) (get_or new k d)
+abbrev pub VisitedBefore : {A : Type 0} → (count now : ℕ) → (old new : List (Subject A)) → Type 0
+VisitedBefore {A} count now old new = (k : ℕ) (d : Subject A) → k < count → IsVisited now (get_or old k d) (get_or new k d)
 
-pub one_more_visited : {A : Type 0} (now : ℕ) (outputs : List Output) (first subjects : List (Subject A)) (index : ℕ)
+pub one_more_visited : {A : Type 0} (now : ℕ) (first subjects : List (Subject A)) (index : ℕ)
     (element new : Subject A) → index < length first → index < length subjects
-    → element ≡ get_or subjects index element → SameFrom index subjects first → IsVisited now (taken now outputs element) new
-    → VisitedBefore index now outputs first subjects → VisitedBefore (index + 1) now outputs first (set subjects index new)
-one_more_visited {A} now outputs first subjects index element new within fits is same visited before k d below = by (k == index) refl
+    → element ≡ get_or subjects index element → SameFrom index subjects first → IsVisited now element new
+    → VisitedBefore index now first subjects → VisitedBefore (index + 1) now first (set subjects index new)
+one_more_visited {A} now first subjects index element new within fits is same visited before k d below = by (k == index) refl
   where
     here : element ≡ get_or first index d
     here = is ∙ same index element (omega arith) ∙ get_or_default first index element d within
 
-    by : (equal : Bool) → (k == index) ≡ equal → IsVisited now (taken now outputs (get_or first k d)) (get_or (set subjects index new) k d)
+    by : (equal : Bool) → (k == index) ≡ equal → IsVisited now (get_or first k d) (get_or (set subjects index new) k d)
     by true e =
         let at : k ≡ index = (Decides-eqb k index).0 e in
-        subst (λ n. IsVisited now (taken now outputs (get_or first n d)) (get_or (set subjects index new) n d)) (sym at)
-        (subst (IsVisited now (taken now outputs (get_or first index d))) (sym (get_or-set_same subjects index new d fits))
-        (subst (λ subject. IsVisited now (taken now outputs subject) new) here visited))
+        subst (λ n. IsVisited now (get_or first n d) (get_or (set subjects index new) n d)) (sym at)
+        (subst (IsVisited now (get_or first index d)) (sym (get_or-set_same subjects index new d fits))
+        (subst (λ subject. IsVisited now subject new) here visited))
     by false e =
         let other : k ≢ index = λ equal. let t : (k == index) ≡ true = (Decides-eqb k index).1 equal in cc in
         let earlier : k < index = omega arith in
-        subst (IsVisited now (taken now outputs (get_or first k d)))
-        (sym (get_or-set_other subjects index k new d other)) (before k d earlier)
+        subst (IsVisited now (get_or first k d)) (sym (get_or-set_other subjects index k new d other)) (before k d earlier)
+
+-- Those that were visited had taken what was said.
+pub taken_visited : {A : Type 0} (now : ℕ) (outputs : List Output) (old middle new : List (Subject A))
+    → middle ≡ map (taken now outputs) old → AreSeen now middle new → AreVisited now outputs old new
+taken_visited {A} now outputs old middle new is seen k d within =
+    let fits : k < length middle = subst (λ (ss : List (Subject A)). k < length ss) (sym is)
+    (subst (λ n. k < n) (sym (length-map old (taken now outputs))) within) in
+    subst (λ (s : Subject A). IsVisited now s (get_or new k d))
+    (ap (λ (ss : List (Subject A)). get_or ss k d) is ∙ get_or-map (taken now outputs) old k d d within) (seen k d fits)
 
 pub whole_written : {X : Type 0} (count : ℕ) (written rest : List X) → count ≡ length written → take count (written ++ rest) ≡ written
 whole_written count written rest size = ap (λ n. take n (written ++ rest)) size ∙ take-append_seam written rest
@@ -207,8 +214,10 @@ module _ {A : Type 0} (now : ℕ) (fits : now < 2 ^ 64) where
 
 -- ---- the turns of the calls
 
-pub no_reads : {A : Type 0} (subjects : List (Subject A)) (view : View) (given : List Output) → Reads subjects view given view given
-no_reads subjects view given = record { calls = []; chain = refl; reads = tt; said = sym (append-nil given); room = inl refl }
+pub no_reads : {A : Type 0} (subjects : List (Subject A)) (view : View) (given : List Output) (reads : ℕ)
+    → Reads subjects view given view given reads
+no_reads subjects view given reads =
+    record { calls = []; chain = refl; reads = tt; said = sym (append-nil given); room = inl refl }
 
 pub chain_on : (calls more : List Turn) (view between after : View)
     → FoldsTo Rule view calls between → FoldsTo Rule between more after → FoldsTo Rule view (calls ++ more) after
@@ -223,78 +232,113 @@ reads_on subjects (turn ∷ calls) more reads rest = (reads.0, reads_on subjects
 outputs_on : (calls more : List Turn) → outputs_in (calls ++ more) ≡ outputs_in calls ++ outputs_in more
 outputs_on calls more = flat_map-append (λ (turn : Turn). turn.outputs) calls more
 
-room_on : (calls more : List Turn) (view after : View) → (calls ≡ []) ⊎ LeavesRoom view
-    → ((more ≡ []) × (after ≡ view)) ⊎ LeavesRoom after → (calls ++ more ≡ []) ⊎ LeavesRoom after
-room_on calls more view after (inl none) (inl kept) = inl (ap (λ cs. cs ++ more) none ∙ kept.0)
-room_on calls more view after (inr room) (inl kept) = inr (subst LeavesRoom (sym kept.1) room)
-room_on calls more view after room (inr leaves) = inr leaves
-
-visit_room : {A : Type 0} (now : ℕ) (view : View) (subject : Subject A) (calls : List Turn) (after : View) (new : Subject A)
-    → Visits now view subject calls after new → ((calls ≡ []) × (after ≡ view)) ⊎ LeavesRoom after
-visit_room now view subject calls after new (inl kept) = inl (kept.1, kept.0)
-visit_room now view subject calls after new (inr asked) = inr asked.5
+room_on : (calls more : List Turn) (reads after : ℕ) → (calls ≡ []) ⊎ (reads ≤ MOST_READS)
+    → ((more ≡ []) × (after ≡ reads)) ⊎ (after ≤ MOST_READS) → (calls ++ more ≡ []) ⊎ (after ≤ MOST_READS)
+room_on calls more reads after (inl none) (inl kept) = inl (ap (λ cs. cs ++ more) none ∙ kept.0)
+room_on calls more reads after (inr room) (inl kept) = inr (subst (λ n. n ≤ MOST_READS) (sym kept.1) room)
+room_on calls more reads after room (inr leaves) = inr leaves
 
 -- what is asked by a visit of the subject at this place
-visit_calls : {A : Type 0} (now : ℕ) (subjects : List (Subject A)) (index : ℕ) (element : Subject A) (outputs : List Output) (view : View)
+visit_calls : {A : Type 0} (now : ℕ) (subjects : List (Subject A)) (index : ℕ) (element : Subject A) (view : View)
     (calls : List Turn) (after : View) (new : Subject A)
-    → index < length subjects → element ≡ get_or subjects index element → Visits now view (taken now outputs element) calls after new
+    → index < length subjects → element ≡ get_or subjects index element → Visits now view element calls after new
     → FoldsTo Rule view calls after × AreReads subjects calls
-visit_calls {A} now subjects index element outputs view calls after new within is (inl kept) =
+visit_calls {A} now subjects index element view calls after new within is (inl kept) =
     (subst (λ cs. FoldsTo Rule view cs after) (sym kept.1) (sym kept.0), subst (AreReads subjects) (sym kept.1) tt)
-visit_calls {A} now subjects index element outputs view calls after new within is (inr asked) = (
+visit_calls {A} now subjects index element view calls after new within is (inr asked) = (
   subst (λ cs. FoldsTo Rule view cs after) (sym asked.1) (after, asked.3, refl),
-  subst (AreReads subjects) (sym asked.1) ((index, element, it.is_missing, within, read), tt),
+  subst (AreReads subjects) (sym asked.1) ((index, element, element.is_missing, within, read), tt),
 )
   where
-    it : Subject A
-    it = taken now outputs element
+    read : IsReadOf (get_or subjects index element) element.is_missing asked.0
+    read = subst (λ (s : Subject A). IsReadOf s element.is_missing asked.0) is asked.2
 
-    ticket : it.ticket ≡ (get_or subjects index element).ticket
-    ticket = all_same_ticket now outputs element ∙ ap (λ (s : Subject A). s.ticket) is
-
-    side : it.side ≡ (get_or subjects index element).side
-    side = all_same_side now outputs element ∙ ap (λ (s : Subject A). s.side) is
-
-    path : it.path ≡ (get_or subjects index element).path
-    path = all_same_path now outputs element ∙ ap (λ (s : Subject A). s.path) is
-
-    read : IsReadOf (get_or subjects index element) it.is_missing asked.0
-    read = (
-      asked.2.0,
-      asked.2.1 ∙ ap (λ t. Call t asked.2.0) ticket,
-      asked.2.2 ∙ ap (λ s. read_of s it.is_missing it.path) side
-          ∙ ap (λ p. read_of (get_or subjects index element).side it.is_missing p) path,
-    )
-
-pub more_reads : {A : Type 0} (now : ℕ) (first subjects : List (Subject A)) (index : ℕ) (element : Subject A) (outputs : List Output)
-    (view0 view after : View) (given0 given given_after : List Output)
+pub more_reads : {A : Type 0} (now : ℕ) (first subjects : List (Subject A)) (index : ℕ) (element : Subject A)
+    (view0 view after : View) (given0 given given_after : List Output) (reads_before reads_after : ℕ)
     (new : Subject A) → index < length first → element ≡ get_or subjects index element → SameFrom index subjects first
-    → Reads first view0 given0 view given → VisitsAnd now view given (taken now outputs element) after given_after new
-    → Reads first view0 given0 after given_after
-more_reads now first subjects index element outputs view0 view after given0 given given_after new within is same reads visits =
+    → Reads first view0 given0 view given reads_before
+    → VisitsAnd now view given reads_before element after given_after reads_after new
+    → Reads first view0 given0 after given_after reads_after
+more_reads now first subjects index element view0 view after given0 given given_after reads_before reads_after new within is same reads
+    visits =
     let whole : element ≡ get_or first index element = is ∙ same index element (omega arith) in
-    let asked = visit_calls now first index element outputs view visits.0 after new within whole visits.1 in
+    let asked = visit_calls now first index element view visits.0 after new within whole visits.1 in
     record {
       calls = reads.calls ++ visits.0;
       chain = chain_on reads.calls visits.0 view0 view after reads.chain asked.0;
       reads = reads_on first reads.calls visits.0 reads.reads asked.1;
       said = visits.2 ∙ ap (λ g. g ++ outputs_in visits.0) reads.said ∙ append_assoc given0 (outputs_in reads.calls) (outputs_in visits.0)
           ∙ ap (λ os. given0 ++ os) (sym (outputs_on reads.calls visits.0));
-      room = room_on reads.calls visits.0 view after reads.room
-          (visit_room now view (taken now outputs element) visits.0 after new visits.1);
+      room = room_on reads.calls visits.0 reads_before reads_after reads.room visits.3;
     }
 
 -- a visit, of which the turns are not asked about
-pub is_visited : {A : Type 0} (now : ℕ) (view : View) (given : List Output) (subject : Subject A) (after : View)
-    (given_after : List Output) (new : Subject A)
-    → VisitsAnd now view given subject after given_after new → IsVisited now subject new
-is_visited now view given subject after given_after new visits = (view, visits.0, after, visits.1)
+pub is_visited : {A : Type 0} (now : ℕ) (view : View) (given : List Output) (reads : ℕ) (subject : Subject A) (after : View)
+    (given_after : List Output) (reads_after : ℕ) (new : Subject A)
+    → VisitsAnd now view given reads subject after given_after reads_after new → IsVisited now subject new
+is_visited now view given reads subject after given_after reads_after new visits = (view, visits.0, after, visits.1)
+
+-- What is asked of those that have taken what was said is asked of those subjects.
+asked_of_taken : {A : Type 0} (now : ℕ) (outputs : List Output) (old : List (Subject A)) (calls : List Turn)
+    → AreReads (map (taken now outputs) old) calls → AreReads old calls
+asked_of_taken now outputs old [] reads = tt
+asked_of_taken {A} now outputs old (turn ∷ more) reads = (one reads.0, asked_of_taken now outputs old more reads.1)
+  where
+    one : (k : ℕ) × (d : Subject A) × (is_missing : Bool) × (k < length (map (taken now outputs) old))
+        × IsReadOf (get_or (map (taken now outputs) old) k d) is_missing turn
+        → (k : ℕ) × (d : Subject A) × (is_missing : Bool) × (k < length old) × IsReadOf (get_or old k d) is_missing turn
+    one (k, d, is_missing, within, asked) =
+        let fits : k < length old = subst (λ n. k < n) (length-map old (taken now outputs)) within in
+        let it : Subject A = get_or old k d in
+        let is : get_or (map (taken now outputs) old) k d ≡ taken now outputs it = get_or-map (taken now outputs) old k d d fits in
+        let read : IsReadOf (taken now outputs it) is_missing turn = subst (λ (s : Subject A). IsReadOf s is_missing turn) is asked in (
+          k,
+          d,
+          is_missing,
+          fits,
+          (
+            read.0,
+            read.1 ∙ ap (λ t. Call t read.0) (all_same_ticket now outputs it),
+            read.2 ∙ ap (λ s. read_of s is_missing (taken now outputs it).path) (all_same_side now outputs it)
+                ∙ ap (λ p. read_of it.side is_missing p) (all_same_path now outputs it),
+          ),
+        )
+
+pub reads_of_taken : {A : Type 0} (now : ℕ) (outputs : List Output) (old middle : List (Subject A)) (view : View) (given : List Output)
+    (after : View) (given_after : List Output) (reads_after : ℕ) → middle ≡ map (taken now outputs) old
+    → Reads middle view given after given_after reads_after → Reads old view given after given_after reads_after
+reads_of_taken now outputs old middle view given after given_after reads_after is reads = record {
+  calls = reads.calls;
+  chain = reads.chain;
+  reads = asked_of_taken now outputs old reads.calls (subst (λ ss. AreReads ss reads.calls) is reads.reads);
+  said = reads.said;
+  room = reads.room;
+}
+
+-- The same where memory may have run out.
+pub left_by_both : {X E Y : Type 0} (result : Result X E) (places : List ℕ) (old middle new : List Y)
+    → AreSameBut places old middle → OnOk result (AreSameBut places middle new) → OnOk result (AreSameBut places old new)
+left_by_both (Ok x) places old middle new first second = λ k d none. second k d none ∙ first k d none
+left_by_both (Err e) places old middle new first second = tt
+
+pub read_all : {A X E : Type 0} (result : Result X E) (now : ℕ) (outputs : List Output) (old middle : List (Subject A)) (view : View)
+    (given : List Output) (after : View) (given_after : List Output) (new : List (Subject A)) → middle ≡ map (taken now outputs) old
+    → OnOk result (Reads middle view given after given_after (how_many_reading new))
+    → OnOk result (Reads old view given after given_after (how_many_reading new))
+read_all (Ok x) now outputs old middle view given after given_after new is reads =
+    reads_of_taken now outputs old middle view given after given_after (how_many_reading new) is reads
+read_all (Err e) now outputs old middle view given after given_after new is reads = tt
+
+pub all_visited : {A X E : Type 0} (result : Result X E) (now : ℕ) (outputs : List Output) (old middle new : List (Subject A))
+    → middle ≡ map (taken now outputs) old → OnOk result (AreSeen now middle new) → OnOk result (AreVisited now outputs old new)
+all_visited (Ok x) now outputs old middle new is seen = taken_visited now outputs old middle new is seen
+all_visited (Err e) now outputs old middle new is seen = tt
 
 -- ---- a whole step
 
 pub steps : {A : Type 0} (now : ℕ) (view : View) (input : Input) (outputs : List Output) (between : View) (old : List (Subject A))
     (after : View) (made given : List Output) (new : List (Subject A))
-    → RuleAt now view (record { input = input; outputs = outputs }) between → Reads old between [] after made
+    → RuleAt now view (record { input = input; outputs = outputs }) between → Reads old between [] after made (how_many_reading new)
     → AreVisited now outputs old new → given ≡ outputs ++ made
     → Steps now view input old after given new
 steps now view input outputs between old after made given new rule reads visited said = record {
@@ -307,3 +351,11 @@ steps now view input outputs between old after made given new rule reads visited
   room = reads.room;
   visited = subst (λ os. AreVisited now os old new) rule.outputs visited;
 }
+
+-- of no subjects
+pub steps_alone : {A : Type 0} (now : ℕ) (view : View) (input : Input) (outputs : List Output) (after : View) (none : List (Subject A))
+    → length none ≡ 0 → RuleAt now view (record { input = input; outputs = outputs }) after → Steps now view input none after outputs none
+steps_alone {A} now view input outputs after none size rule =
+    subst (λ (ss : List (Subject A)). Steps now view input ss after outputs ss) (sym (nil_from_length none size))
+    (steps now view input outputs after [] after [] outputs [] rule (no_reads [] after [] 0)
+    (λ k d within. absurd (omega (arith, within))) (sym (append-nil outputs)))

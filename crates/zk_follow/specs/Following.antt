@@ -1,7 +1,7 @@
 -- What it is to follow a subject, and what becomes of its reading.
 use Rattle.std.specs.Prelude.{◌≡◌, ◌≢◌, ◌≤◌, ◌<◌, ◌⊎◌, ◌==◌, ◌+◌, ◌-◌, ◌^◌, ◌||◌, ◌&&◌, not, ⊤, min, ℕ, negsuc, Bool, true, false, List, []}
-use Rattle.std.specs.Prelude.{◌∷◌, ◌++◌, fold, Option, Some, None, if◌then◌else◌, nat_le, length, slice_index_or, bytes_eq}
-use Rattle.std.specs.List.{filter, list_any, flat_map, FoldsTo}
+use Rattle.std.specs.Prelude.{◌∷◌, ◌++◌, All, fold, Option, Some, None, if◌then◌else◌, nat_le, length, slice_index_or, bytes_eq}
+use Rattle.std.specs.List.{count_by, filter, list_any, flat_map, FoldsTo}
 use Rattle.std.specs.Ordering.{int_eq}
 use Rattle.zk_nodes.specs.Path.{Text}
 use Rattle.zk_nodes.specs.declared.side.Side.{Side}
@@ -19,6 +19,7 @@ use Rattle.zk_turns.specs.Turns.{SessionClosed as Session_closed, Output, Enters
 use Rattle.zk_turns.specs.Turns as turns
 use Rattle.zk_turns.specs.View.{View, Cache}
 use Rattle.zk_turns.specs.Rule.{Rule, HaltsAs}
+use Rattle.zk_limits.specs.declared.limits.TheConstants.{MOST_PENDING}
 use Rattle.zk_follow.specs.declared.progress.Progress.{Progress}
 use Rattle.zk_follow.specs.declared.progress.Progress.TheVariants.{Due, Reading, Refused}
 use Rattle.zk_follow.specs.declared.progress.Refusal.{Refusal}
@@ -137,18 +138,32 @@ taken now outputs subject = woken now (heard_all now subject outputs)
 abbrev pub IsBeingRead : View → ℕ → Side → Text → Type 0
 IsBeingRead view ticket side path = list_any (is_read_by ticket side path) view.pending ≡ true
 
+-- how many of these subjects are being read
+abbrev pub reads_of : {A : Type 0} → View → List (Subject A) → ℕ
+reads_of view subjects = count_by (λ subject. list_any (is_read_by subject.ticket subject.side subject.path) view.pending) subjects
+
 -- Of a client that has not halted: where a subject counts as one that is being read, it is.
 abbrev pub IsCounted : {A : Type 0} → View → Subject A → Type 0
 IsCounted view subject =
     view.standing.halted ≡ false → subject.progress ≡ Reading → IsBeingRead view subject.ticket subject.side subject.path
 
--- As many calls are on their way as there may be where a subject is read, so that its read waits its turn.
-abbrev pub IsBusy : View → Type 0
-IsBusy view = MOST_READS ≤ calls_pending view.pending
+-- As many subjects are being read as may be at once, or the session has as many calls on their way as it may: no other subject can be read
+-- then. Calls of a program count in the second alone, so that without them 960 are read at once, and with as many of them as there may be a
+-- subject is read with the first reply.
+abbrev pub IsBusy : View → (reads : ℕ) → Type 0
+IsBusy view reads = (MOST_READS ≤ reads) ⊎ (MOST_PENDING ≤ calls_pending view.pending)
 
--- No more are, so that there is room for calls of the program.
-abbrev pub LeavesRoom : View → Type 0
-LeavesRoom view = calls_pending view.pending ≤ MOST_READS
+-- how many of these subjects count as being read
+abbrev pub is_reading : Progress → Bool
+is_reading Reading = true
+is_reading _ = false
+
+abbrev pub how_many_reading : {A : Type 0} → List (Subject A) → ℕ
+how_many_reading subjects = count_by (λ subject. is_reading subject.progress) subjects
+
+-- No more are than may be at once, so that the other places are left to calls of the program.
+abbrev pub LeavesRoom : {A : Type 0} → List (Subject A) → Type 0
+LeavesRoom subjects = how_many_reading subjects ≤ MOST_READS
 
 -- A moment is after this one, or the last that there is.
 abbrev pub IsAfter : (now moment : ℕ) → Type 0
@@ -164,12 +179,16 @@ abbrev pub IsAhead : (now : ℕ) → Progress → Type 0
 IsAhead now (Refused why until) = IsAfter now until
 IsAhead now _ = ⊤
 
--- THE promise about a subject: what is kept of it is good; or else a read of it is under way, or waits its turn, or no server has accepted
--- the connection, or the last read was refused, and the moment to read it again is after this one.
-abbrev pub IsFollowed : {A : Type 0} → (now : ℕ) → View → Subject A → Type 0
-IsFollowed now view subject =
+-- THE promise about a subject, where this many are being read: what is kept of it is good; or else a read of it is under way, or waits its
+-- turn, or no server has accepted the connection, or the last read was refused, and the moment to read it again is after this one.
+abbrev pub IsFollowed : {A : Type 0} → (now : ℕ) → View → (reads : ℕ) → Subject A → Type 0
+IsFollowed now view reads subject =
     (is_shown view.cache subject.side subject.path ≡ true) ⊎ (IsBeingRead view subject.ticket subject.side subject.path
-    ⊎ (IsBusy view ⊎ ((view.standing.state ≢ Connected) ⊎ IsRefused now subject.progress)))
+    ⊎ (IsBusy view reads ⊎ ((view.standing.state ≢ Connected) ⊎ IsRefused now subject.progress)))
+
+-- of each of these, where no other is followed
+abbrev pub AreFollowed : {A : Type 0} → (now : ℕ) → View → List (Subject A) → Type 0
+AreFollowed now view subjects = All (IsFollowed now view (reads_of view subjects)) subjects
 
 -- what is kept of a side of a path is good of itself, and not since there is no node
 abbrev pub holds : Cache → Side → Text → Bool
@@ -204,7 +223,7 @@ abbrev pub Visits : {A : Type 0} → (now : ℕ) → View → Subject A → List
 Visits now view subject calls after new =
     ((after ≡ view) × (calls ≡ []) × ((new ≡ subject) ⊎ (new ≡ rested subject)))
     ⊎ ((turn : Turn) × (calls ≡ turn ∷ []) × IsReadOf subject subject.is_missing turn × Rule view turn after
-    × (new ≡ heard_all now (record subject { progress = Reading }) turn.outputs) × LeavesRoom after)
+    × (new ≡ heard_all now (record subject { progress = Reading }) turn.outputs))
 
 -- what turns said, the oldest first
 abbrev pub outputs_in : List Turn → List Output
@@ -228,7 +247,7 @@ AreReads {A} subjects (turn ∷ more) =
 
 -- One step. The client takes its input at a moment; each subject hears what it says, and is visited. The turns are one chain from the
 -- client before to the client after it: the moment, the input, and the calls that read subjects. What is given is what they said, in order.
--- Where any subject is read, there is room for calls of the program after it.
+-- Where any subject is read, no more are being read after it than may be at once.
 pub record Steps {A : Type 0} (now : ℕ) (view : View) (input : Input) (old : List (Subject A)) (after : View) (given : List Output)
     (new : List (Subject A)) : Type 0 where
   pub first : List Output
@@ -237,7 +256,7 @@ pub record Steps {A : Type 0} (now : ℕ) (view : View) (input : Input) (old : L
   pub chain : FoldsTo Rule view (record { input = Now now; outputs = first } ∷ record { input = input; outputs = second } ∷ calls) after
   pub reads : AreReads old calls
   pub said : given ≡ (first ++ second) ++ outputs_in calls
-  pub room : (calls ≡ []) ⊎ LeavesRoom after
+  pub room : (calls ≡ []) ⊎ LeavesRoom new
   pub visited : AreVisited now (first ++ second) old new
 
 -- ---- where memory runs out

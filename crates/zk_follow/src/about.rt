@@ -37,7 +37,7 @@ fn tells_fields<A: Allocator>(outcome: &Outcome<A>) -> bool
 fn slots(outputs: usize) -> usize
     ensures { result ≡ slots outputs }
 {
-    outputs.saturating_mul(8).saturating_add(1_000)
+    outputs.saturating_mul(8).saturating_add(16)
 }
 
 /// The remainder of a ticket.

@@ -10,14 +10,12 @@ ghost use Rattle.zk_turns.specs.Rule.{forgotten, Stands};
 ghost use Rattle.zk_client.specs.Clients.{renewed_start, view_of};
 ghost use Rattle.zk_client.specs.Views.{input_view, said};
 ghost use Rattle.zk_follow.specs.Following.{due_again, first_again, first_of, again_at, fresh, heard_all, news_in, told_of, unfollowed};
-ghost use Rattle.zk_follow.specs.Following.{unfollowed_all};
-ghost use Rattle.zk_follow.specs.Following.{AreVisited, BreaksOff, IsAhead, IsCounted, IsFollowed, Steps};
-ghost use Rattle.zk_follow.specs.inner.Following.{Reads};
-ghost use Rattle.zk_follow.specs.Following.{AreQuietBut};
-ghost use Rattle.zk_follow.specs.inner.Following.{Asks};
+ghost use Rattle.zk_follow.specs.Following.{how_many_reading, taken, unfollowed_all};
+ghost use Rattle.zk_follow.specs.Following.{AreFollowed, AreQuietBut, AreVisited, BreaksOff, IsAhead, IsCounted, Steps};
+ghost use Rattle.zk_follow.specs.inner.Following.{AreSeen, Asks, Reads};
 ghost use Rattle.zk_follow.specs.Places.{AreFound};
 ghost use Rattle.zk_follow.specs.inner.Places.{AreSameBut, IsAscending};
-ghost use Rattle.zk_follow.specs.inner.Resting.{AreCovered, AreDueBut, AreLeft};
+ghost use Rattle.zk_follow.specs.inner.Resting.{AreAtRest, AreCovered, AreDueBut, AreLeft, AreUnmoved};
 
 use crate::about::About;
 use crate::index::{Index, fit_all};
@@ -46,9 +44,76 @@ pub struct Follower<A: Allocator + Copy = Global> {
     ghost rest: { AreQuietBut (view_of client) index.count subjects.items awake.items } by { Prim.hlevel props },
 }
 
-/// The subjects at these places take what the client has said, and are read if they are to be read. Others rest, and the outputs are not
-/// about them.
+/// The subjects at these places take what the client has said at this moment. Others are as they were once they have.
+fn hear_each<A: Allocator + Copy>(
+    subjects: &mut [Subject<A>],
+    places: &[usize],
+    now: u64,
+    about: &About<A>,
+    outputs: &[Output<A>],
+)
+    requires covered { AreCovered about.now (said outputs.now) }
+    requires ascend { IsAscending places.now }
+    requires below { All (λ at. at < length subjects.old) places.now }
+    requires rest { AreUnmoved now (said outputs.now) subjects.old places.now }
+    ensures heard { subjects.new ≡ map (taken now (said outputs.now)) subjects.old }
+    ensures left { AreSameBut places.now subjects.old subjects.new }
+{
+    for place in places {
+        subjects[*place].pass_moment(now, about, outputs);
+    }
+}
+
+/// How many subjects count as being read, if those at these places alone do.
+fn count_reads<A: Allocator + Copy>(subjects: &[Subject<A>], places: &[usize]) -> usize
+    requires ascend { IsAscending places.now }
+    requires below { All (λ at. at < length subjects.now) places.now }
+    requires due { AreDueBut subjects.now places.now }
+    ensures { result ≡ how_many_reading subjects.now }
+{
+    let mut reads = 0;
+    for place in places {
+        reads = subjects[*place].count_read(reads);
+    }
+    reads
+}
+
+/// The subjects at these places are read if they are to be read and there is room beside those that are being read. Others rest.
 fn visit_each<A: Allocator + Copy>(
+    alloc: A,
+    subjects: &mut [Subject<A>],
+    places: &[usize],
+    client: &mut Client<A>,
+    now: u64,
+    reads: usize,
+    made: &mut Vec<Output<A>, A>,
+) -> Result<(), FollowerStop>
+    requires counted { All (IsCounted (view_of client.old)) subjects.old }
+    requires goes_on { (view_of client.old).standing.halted ≡ false }
+    requires ahead { All (λ subject. IsAhead now subject.progress) subjects.old }
+    requires count { reads ≡ how_many_reading subjects.old }
+    requires ascend { IsAscending places.now }
+    requires below { All (λ at. at < length subjects.old) places.now }
+    requires rest { AreAtRest (view_of client.old) subjects.old places.now }
+    ensures followed { OnOk result (AreFollowed now (view_of client.new) subjects.new) }
+    ensures counted { OnOk result (All (IsCounted (view_of client.new)) subjects.new) }
+    ensures asks { OnOk result (Asks (view_of client.old) (view_of client.new)) }
+    ensures left { OnOk result (AreSameBut places.now subjects.old subjects.new) }
+    ensures reads { OnOk result (Reads subjects.old (view_of client.old) (said made.old.items) (view_of client.new) (said made.new.items)
+        (how_many_reading subjects.new)) }
+    ensures seen { OnOk result (AreSeen now subjects.old subjects.new) }
+    ensures broke { OnErr result (BreaksOff (view_of client.old) (view_of client.new)) }
+{
+    let mut reads = reads;
+    for place in places {
+        reads = subjects[*place].visit(alloc, client, now, reads, made)?;
+    }
+    Ok(())
+}
+
+/// The subjects at these places take what the client has said, and then they are read if they are to be read. Others rest, and the outputs
+/// are not about them.
+fn visit_all<A: Allocator + Copy>(
     alloc: A,
     subjects: &mut [Subject<A>],
     places: &[usize],
@@ -64,46 +129,62 @@ fn visit_each<A: Allocator + Copy>(
     requires ascend { IsAscending places.now }
     requires below { All (λ at. at < length subjects.old) places.now }
     requires rest { AreLeft (view_of client.old) (said outputs.now) subjects.old places.now }
-    ensures followed { OnOk result (All (IsFollowed now (view_of client.new)) subjects.new) }
+    ensures followed { OnOk result (AreFollowed now (view_of client.new) subjects.new) }
     ensures counted { OnOk result (All (IsCounted (view_of client.new)) subjects.new) }
     ensures asks { OnOk result (Asks (view_of client.old) (view_of client.new)) }
     ensures left { OnOk result (AreSameBut places.now subjects.old subjects.new) }
-    ensures reads { OnOk result (Reads subjects.old (view_of client.old) (said made.old.items) (view_of client.new) (said made.new.items)) }
+    ensures reads { OnOk result (Reads subjects.old (view_of client.old) (said made.old.items) (view_of client.new) (said made.new.items)
+        (how_many_reading subjects.new)) }
     ensures visited { OnOk result (AreVisited now (said outputs.now) subjects.old subjects.new) }
     ensures broke { OnErr result (BreaksOff (view_of client.old) (view_of client.new)) }
 {
-    let mut is_busy = false;
-    for place in places {
-        is_busy = subjects[*place].visit(alloc, client, now, is_busy, about, outputs, made)?;
-    }
-    Ok(())
+    hear_each(subjects, places, now, about, outputs);
+    let reads = count_reads(subjects, places);
+    visit_each(alloc, subjects, places, client, now, reads, made)
 }
 
-/// Hands the client an input that is noticed at this moment, and reads each subject that is to be read.
-fn advance<A: Allocator + Copy>(
+/// Hands a client that follows none an input that is noticed at this moment.
+fn step_alone<A: Allocator + Copy>(
+    _subjects: &[Subject<A>],
+    client: &mut Client<A>,
+    now: u64,
+    input: Input<A>,
+) -> Result<Vec<Output<A>, A>, FollowerStop>
+    requires { length _subjects.now ≡ 0 }
+    ensures steps { IfOk result (λ outputs. Steps now (view_of client.old) (input_view input) _subjects.now
+        (view_of client.new) (said outputs.items) _subjects.now) }
+    ensures broke { OnErr result (BreaksOff (view_of client.old) (view_of client.new)) }
+{
+    match client.step_at(now, input) {
+        Ok(outputs) => Ok(outputs),
+        Err(_) => Err(FollowerStop::Halted),
+    }
+}
+
+/// Hands the client an input that is noticed at this moment, and reads each subject that is to be read. All are in the index.
+fn advance_all<A: Allocator + Copy>(
     alloc: A,
     subjects: &mut [Subject<A>],
-    index: &mut Index<A>,
+    index: &Index<A>,
     awake: &mut Vec<usize, A>,
     client: &mut Client<A>,
     now: u64,
     input: Input<A>,
 ) -> Result<Vec<Output<A>, A>, FollowerStop>
     requires counted { All (IsCounted (view_of client.old)) subjects.old }
-    requires found { AreFound index.old subjects.old }
-    requires rest { AreQuietBut (view_of client.old) index.old.count subjects.old awake.old.items }
-    ensures followed { OnOk result (All (IsFollowed now (view_of client.new)) subjects.new) }
+    requires sized { 0 < length index.now.keys.buckets.items }
+    requires count { index.now.count ≡ length subjects.old }
+    requires found { AreFound index.now subjects.old }
+    requires rest { AreQuietBut (view_of client.old) index.now.count subjects.old awake.old.items }
+    ensures followed { OnOk result (AreFollowed now (view_of client.new) subjects.new) }
     ensures counted { OnOk result (All (IsCounted (view_of client.new)) subjects.new) }
-    ensures found { OnOk result (AreFound index.new subjects.new) }
-    ensures rest { OnOk result (AreQuietBut (view_of client.new) index.new.count subjects.new awake.new.items) }
+    ensures found { OnOk result (AreFound index.now subjects.new) }
+    ensures rest { OnOk result (AreQuietBut (view_of client.new) index.now.count subjects.new awake.new.items) }
     ensures ahead { OnOk result (All (λ subject. IsAhead now subject.progress) subjects.new) }
     ensures steps { IfOk result
         (λ outputs. Steps now (view_of client.old) (input_view input) subjects.old (view_of client.new) (said outputs.items) subjects.new) }
     ensures broke { OnErr result (BreaksOff (view_of client.old) (view_of client.new)) }
 {
-    let Ok(()) = fit_all(alloc, subjects, index, awake) else {
-        return Err(FollowerStop::Memory);
-    };
     let Ok(mut outputs) = client.step_at(now, input) else {
         return Err(FollowerStop::Halted);
     };
@@ -115,7 +196,7 @@ fn advance<A: Allocator + Copy>(
         return Err(FollowerStop::Memory);
     };
     let mut made = Vec::new(alloc);
-    visit_each(
+    visit_all(
         alloc,
         subjects,
         places.as_slice(),
@@ -130,6 +211,37 @@ fn advance<A: Allocator + Copy>(
         Ok(()) => Ok(outputs),
         Err(_) => Err(FollowerStop::Memory),
     }
+}
+
+/// The same of subjects that the index may lack. Nothing is done for subjects where there are none.
+fn advance<A: Allocator + Copy>(
+    alloc: A,
+    subjects: &mut [Subject<A>],
+    index: &mut Index<A>,
+    awake: &mut Vec<usize, A>,
+    client: &mut Client<A>,
+    now: u64,
+    input: Input<A>,
+) -> Result<Vec<Output<A>, A>, FollowerStop>
+    requires counted { All (IsCounted (view_of client.old)) subjects.old }
+    requires found { AreFound index.old subjects.old }
+    requires rest { AreQuietBut (view_of client.old) index.old.count subjects.old awake.old.items }
+    ensures followed { OnOk result (AreFollowed now (view_of client.new) subjects.new) }
+    ensures counted { OnOk result (All (IsCounted (view_of client.new)) subjects.new) }
+    ensures found { OnOk result (AreFound index.new subjects.new) }
+    ensures rest { OnOk result (AreQuietBut (view_of client.new) index.new.count subjects.new awake.new.items) }
+    ensures ahead { OnOk result (All (λ subject. IsAhead now subject.progress) subjects.new) }
+    ensures steps { IfOk result
+        (λ outputs. Steps now (view_of client.old) (input_view input) subjects.old (view_of client.new) (said outputs.items) subjects.new) }
+    ensures broke { OnErr result (BreaksOff (view_of client.old) (view_of client.new)) }
+{
+    if subjects.is_empty() {
+        return step_alone(subjects, client, now, input);
+    }
+    let Ok(()) = fit_all(alloc, subjects, index, awake) else {
+        return Err(FollowerStop::Memory);
+    };
+    advance_all(alloc, subjects, index, awake, client, now, input)
 }
 
 /// The place of the first subject of this ticket.
@@ -267,7 +379,7 @@ impl<A: Allocator + Copy> Follower<A> {
     /// An error means that memory ran out. Nothing is followed any more then. The client may have taken turns: what another session can
     /// be resumed from is there.
     pub fn step(&mut self, now: u64, input: Input<A>) -> Result<Vec<Output<A>, A>, FollowerStop>
-        ensures followed { OnOk result (All (IsFollowed now (view_of self.new.client)) self.new.subjects.items) }
+        ensures followed { OnOk result (AreFollowed now (view_of self.new.client) self.new.subjects.items) }
         ensures ahead { OnOk result (All (λ subject. IsAhead now subject.progress) self.new.subjects.items) }
         ensures steps { IfOk result (λ outputs. Steps now (view_of self.old.client) (input_view input) self.old.subjects.items
             (view_of self.new.client) (said outputs.items) self.new.subjects.items) }
@@ -334,8 +446,8 @@ impl<A: Allocator + Copy> Follower<A> {
         ensures stands { (start : Start) (items : List Item) → Stands start items (view_of self.old.client)
             → Stands start (Forgets ∷ items) (view_of self.new.client) }
         ensures subjects { self.new.subjects ≡ self.old.subjects }
-        ensures followed { (now : ℕ) → All (IsFollowed now (view_of self.old.client)) self.old.subjects.items
-            → All (IsFollowed now (view_of self.new.client)) self.new.subjects.items }
+        ensures followed { (now : ℕ) → AreFollowed now (view_of self.old.client) self.old.subjects.items
+            → AreFollowed now (view_of self.new.client) self.new.subjects.items }
     {
         self.client.forget_stale();
     }
@@ -390,7 +502,7 @@ impl<A: Allocator + Copy> Follower<A> {
         requires { pos 0 <ℤ timeout_ms }
         ensures client { OnOk result (view_of self.new.client ≡ view_at (renewed_start timeout_ms (view_of self.old.client)) []) }
         ensures subjects { OnOk result (self.new.subjects.items ≡ map due_again self.old.subjects.items) }
-        ensures followed { OnOk result ((now : ℕ) → All (IsFollowed now (view_of self.new.client)) self.new.subjects.items) }
+        ensures followed { OnOk result ((now : ℕ) → AreFollowed now (view_of self.new.client) self.new.subjects.items) }
         ensures same_client { OnErr result (self.new.client ≡ self.old.client) }
         ensures same_subjects { OnErr result (self.new.subjects ≡ self.old.subjects) }
     {

@@ -247,6 +247,9 @@ pub(crate) fn tell_all<A: Allocator + Copy>(
     ensures found { OnOk result (AreFound index.new subjects.new) }
     ensures rest { OnOk result (AreQuietBut (view_of client.now) index.new.count subjects.new awake.new.items) }
 {
+    if subjects.is_empty() {
+        return Ok(());
+    }
     fit_all(alloc, subjects, index, awake)?;
     let places = index.with_named(alloc, awake.as_slice(), outputs)?;
     tell_each(alloc, subjects, places.as_slice(), client, outputs, all)?;

@@ -29,7 +29,8 @@ pub enum Refusal {
 /// How far the reading of a subject is, where what is kept of it is not good.
 #[derive(Clone, Copy)]
 pub enum Progress {
-    /// It is to be read, as soon as a server has accepted the connection and fewer than 1,024 calls wait for their replies.
+    /// It is to be read, as soon as a server has accepted the connection, fewer than 960 subjects are being read, and fewer than 1,024
+    /// calls wait for their replies.
     Due,
     /// A read waits for its reply.
     Reading,

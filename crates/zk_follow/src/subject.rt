@@ -1,17 +1,16 @@
 //! One subject that is followed.
 
-ghost use Rattle.std.specs.Prelude.{◌≡◌, ◌≢◌, ◌<◌, ◌++◌, true, false, Bool, List, None, IfOk, OnErr, OnOk};
+ghost use Rattle.std.specs.Prelude.{◌≡◌, ◌≢◌, ◌≤◌, ◌<◌, ◌+◌, ◌++◌, ◌^◌, cond, true, false, ℕ, Bool, List, None, IfOk, OnErr, OnOk};
 ghost use Rattle.zk_session.specs.declared.states.State.TheVariants.{Connected};
-ghost use Rattle.zk_conversation.specs.Pending.{calls_pending};
 ghost use Rattle.zk_conversation.specs.Questions.{question_of};
 ghost use Rattle.zk_conversation.specs.Views.{call_view};
 ghost use Rattle.zk_turns.specs.Turns.{Call as Calls, Output as Said};
 ghost use Rattle.zk_turns.specs.Rule.{Rule};
 ghost use Rattle.zk_client.specs.Clients.{view_of};
 ghost use Rattle.zk_client.specs.Views.{output_view, said};
-ghost use Rattle.zk_follow.specs.Following.{fresh, heard, heard_all, read_of, rested, taken, due_again, woken, IsCounted, IsFollowed};
+ghost use Rattle.zk_follow.specs.Following.{fresh, heard, heard_all, is_reading, read_of, rested, taken, due_again, woken};
 ghost use Rattle.zk_follow.specs.inner.Following.{Asks};
-ghost use Rattle.zk_follow.specs.Following.{BreaksOff, IsBusy, LeavesRoom};
+ghost use Rattle.zk_follow.specs.Following.{BreaksOff, IsAhead, IsBusy, IsCounted, IsFollowed};
 ghost use Rattle.zk_follow.specs.declared.reads.TheConstants.{MOST_READS};
 ghost use Rattle.zk_follow.specs.inner.Following.{VisitsAnd};
 ghost use Rattle.zk_follow.specs.Following.{is_quiet, is_resting};
@@ -24,7 +23,7 @@ use crate::progress::{Progress, missing_after, progress_after, there_after};
 use crate::reads::{MOST_READS, read_of};
 use crate::stop::FollowerStop;
 use std::alloc::Allocator;
-use zk_client::{Call, Client, Input, Output, Path, Side, State};
+use zk_client::{Call, Client, Input, MOST_PENDING, Output, Path, Side, State};
 
 /// A subject that is followed, and how far its reading is.
 #[derive(Drop)]
@@ -38,12 +37,15 @@ pub struct Subject<A: Allocator> {
     pub(crate) told: Option<News>,
 }
 
-/// Whether there is room for a read.
-fn has_room<A: Allocator + Copy>(client: &Client<A>) -> bool
-    ensures yes { result ≡ true → calls_pending (view_of client.now).pending < MOST_READS }
-    ensures no { result ≡ false → IsBusy (view_of client.now) }
+/// Whether there is room for a read beside these.
+fn has_room<A: Allocator + Copy>(client: &Client<A>, reads: usize) -> bool
+    ensures yes { result ≡ true → reads < MOST_READS }
+    ensures no { result ≡ false → IsBusy (view_of client.now) reads }
 {
-    client.pending_calls() < MOST_READS
+    if MOST_READS as usize <= reads {
+        return false;
+    }
+    client.pending_calls() < MOST_PENDING
 }
 
 /// Whether a server has accepted the connection.
@@ -134,7 +136,7 @@ impl<A: Allocator + Copy> Subject<A> {
     }
 
     /// Takes what the client has said at this moment.
-    fn pass_moment(&mut self, now: u64, about: &About<A>, outputs: &[Output<A>])
+    pub(crate) fn pass_moment(&mut self, now: u64, about: &About<A>, outputs: &[Output<A>])
         requires { AreCovered about.now (said outputs.now) }
         ensures { self.new ≡ taken now (said outputs.now) self.old }
     {
@@ -142,25 +144,37 @@ impl<A: Allocator + Copy> Subject<A> {
         self.wake(now);
     }
 
-    /// Asks by this call, which reads the subject. The answer is whether there is no room for another read.
+    /// How many are being read, with this one.
+    pub(crate) fn count_read(&self, reads: usize) -> usize
+        requires { reads + 1 < 2 ^ 64 }
+        ensures { result ≡ reads + cond (is_reading self.now.progress) 1 0 }
+    {
+        if matches!(self.progress, Progress::Reading) {
+            return reads + 1;
+        }
+        reads
+    }
+
+    /// Asks by this call, which reads the subject. The answer is how many are being read then.
     fn ask(
         &mut self,
         client: &mut Client<A>,
         now: u64,
+        reads: usize,
         call: Call<A>,
         made: &mut Vec<Output<A>, A>,
-    ) -> Result<bool, FollowerStop>
+    ) -> Result<usize, FollowerStop>
         requires read { (is_missing : Bool) × (question_of (call_view call) ≡ read_of self.old.side is_missing self.old.path) }
         requires connected { (view_of client.old).standing.state ≡ Connected }
-        requires room { calls_pending (view_of client.old).pending < MOST_READS }
-        ensures followed { OnOk result (IsFollowed now (view_of client.new) self.new) }
+        requires room { reads < MOST_READS }
+        ensures followed { OnOk result ((reads : ℕ) → IsFollowed now (view_of client.new) reads self.new) }
         ensures counted { OnOk result (IsCounted (view_of client.new) self.new) }
         ensures asks { OnOk result (Asks (view_of client.old) (view_of client.new)) }
-        ensures busy { IfOk result (λ is_busy. is_busy ≡ true → IsBusy (view_of client.new)) }
+        ensures count { IfOk result (λ after. after ≡ reads + cond (is_reading self.new.progress) 1 0) }
         ensures asked { OnOk result ((outputs : List Said)
             × Rule (view_of client.old) (record { input = Calls self.old.ticket (call_view call); outputs = outputs }) (view_of client.new)
             × (self.new ≡ heard_all now (record self.old { progress = Progress.Reading }) outputs)
-            × (said made.new.items ≡ said made.old.items ++ outputs) × LeavesRoom (view_of client.new)) }
+            × (said made.new.items ≡ said made.old.items ++ outputs)) }
         ensures broke { OnErr result (BreaksOff (view_of client.old) (view_of client.new)) }
     {
         self.progress = Progress::Reading;
@@ -169,7 +183,7 @@ impl<A: Allocator + Copy> Subject<A> {
         };
         self.note_outputs(now, outputs.as_slice());
         match made.append(&mut outputs) {
-            Ok(()) => Ok(self.is_unread()),
+            Ok(()) => Ok(self.count_read(reads)),
             Err(_) => Err(FollowerStop::Memory),
         }
     }
@@ -211,49 +225,43 @@ impl<A: Allocator + Copy> Subject<A> {
         was_shown(self.told) && self.is_at_rest(client)
     }
 
-    /// Takes what the client has said at this moment, and reads the subject if it is to be read and there is room. Returns whether there is
-    /// no room for another read.
+    /// Reads the subject if it is to be read and there is room. The answer is how many are being read then.
     pub(crate) fn visit(
         &mut self,
         alloc: A,
         client: &mut Client<A>,
         now: u64,
-        is_busy: bool,
-        about: &About<A>,
-        outputs: &[Output<A>],
+        reads: usize,
         made: &mut Vec<Output<A>, A>,
-    ) -> Result<bool, FollowerStop>
-        requires counted { IsCounted (view_of client.old) (heard_all now self.old (said outputs.now)) }
+    ) -> Result<usize, FollowerStop>
+        requires counted { IsCounted (view_of client.old) self.old }
         requires goes_on { (view_of client.old).standing.halted ≡ false }
-        requires busy { is_busy ≡ true → IsBusy (view_of client.old) }
-        requires covered { AreCovered about.now (said outputs.now) }
-        ensures followed { OnOk result (IsFollowed now (view_of client.new) self.new) }
+        requires ahead { IsAhead now self.old.progress }
+        ensures followed { IfOk result (λ after. IsFollowed now (view_of client.new) after self.new) }
         ensures counted { OnOk result (IsCounted (view_of client.new) self.new) }
         ensures asks { OnOk result (Asks (view_of client.old) (view_of client.new)) }
-        ensures busy { IfOk result (λ is_busy. is_busy ≡ true → IsBusy (view_of client.new)) }
-        ensures visits { OnOk result (VisitsAnd now (view_of client.old) (said made.old.items) (taken now (said outputs.now) self.old)
-            (view_of client.new) (said made.new.items) self.new) }
+        ensures more { IfOk result (λ after. reads ≤ after) }
+        ensures count { IfOk result
+            (λ after. after + cond (is_reading self.old.progress) 1 0 ≡ reads + cond (is_reading self.new.progress) 1 0) }
+        ensures visits { IfOk result (λ after. VisitsAnd now (view_of client.old) (said made.old.items) reads self.old
+            (view_of client.new) (said made.new.items) after self.new) }
         ensures broke { OnErr result (BreaksOff (view_of client.old) (view_of client.new)) }
     {
-        self.pass_moment(now, about, outputs);
-        if is_busy {
-            return Ok(true);
+        if !has_room(client, reads) {
+            return Ok(reads);
         }
         if is_shown(client, self.side, &self.path) {
             self.rest();
-            return Ok(false);
+            return Ok(reads);
         }
         if !is_connected(client) {
-            return Ok(false);
+            return Ok(reads);
         }
         if !self.is_unread() {
-            return Ok(false);
-        }
-        if !has_room(client) {
-            return Ok(true);
+            return Ok(reads);
         }
         match read_of(alloc, self.side, self.is_missing, &self.path) {
-            Ok(call) => Ok(self.ask(client, now, call, made)?),
+            Ok(call) => Ok(self.ask(client, now, reads, call, made)?),
             Err(_) => Err(FollowerStop::Memory),
         }
     }

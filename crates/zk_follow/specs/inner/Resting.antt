@@ -9,7 +9,7 @@ use Rattle.zk_turns.specs.Turns as turns
 use Rattle.zk_turns.specs.View.{View}
 use Rattle.zk_follow.specs.declared.about.About.{About}
 use Rattle.zk_follow.specs.declared.subject.Subject.{Subject}
-use Rattle.zk_follow.specs.Following.{is_among, is_due, is_quiet, is_reported, is_resting}
+use Rattle.zk_follow.specs.Following.{is_among, is_due, is_quiet, is_reported, is_resting, taken}
 use Rattle.zk_follow.specs.inner.Reported.{AreReported}
 
 -- ---- what outputs are about
@@ -32,6 +32,17 @@ AreLeft {A} view outputs subjects places =
     → (is_resting view (slice_index_or subjects k d) ≡ true)
     × (list_any (is_about (slice_index_or subjects k d).ticket (slice_index_or subjects k d).path) outputs ≡ false)
 
+-- Whose place is not among these rests.
+abbrev pub AreAtRest : {A : Type 0} → View → List (Subject A) → (places : List ℕ) → Type 0
+AreAtRest {A} view subjects places =
+    (k : ℕ) (d : Subject A) → k < length subjects → is_among k places ≡ false → is_resting view (slice_index_or subjects k d) ≡ true
+
+-- Whose place is not among these is as it was once it has taken what was said.
+abbrev pub AreUnmoved : {A : Type 0} → (now : ℕ) → List Output → List (Subject A) → (places : List ℕ) → Type 0
+AreUnmoved {A} now outputs subjects places =
+    (k : ℕ) (d : Subject A) → k < length subjects → is_among k places ≡ false
+    → taken now outputs (slice_index_or subjects k d) ≡ slice_index_or subjects k d
+
 -- Whose place is not among these is due.
 abbrev pub AreDueBut : {A : Type 0} → List (Subject A) → (places : List ℕ) → Type 0
 AreDueBut {A} subjects places =
@@ -50,7 +61,7 @@ is_report _ = false
 
 -- how many remainders are told apart for a number of outputs
 abbrev pub slots : ℕ → ℕ
-slots outputs = min (min (outputs * 8) (2 ^ 64 - 1) + 1000) (2 ^ 64 - 1)
+slots outputs = min (min (outputs * 8) (2 ^ 64 - 1) + 16) (2 ^ 64 - 1)
 
 abbrev pub is_marked : List Bool → ℕ → Bool
 is_marked marks ticket = slice_index_or marks (ticket % length marks) false

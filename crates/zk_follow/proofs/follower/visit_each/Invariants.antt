@@ -1,9 +1,9 @@
 -- The loop over the places: those before what comes after the last one were visited and are followed, the rest are as they were, and the
 -- client was only asked reads. At the end all are followed.
-use Rattle.std.proofs.Common.{◌≡◌, length, true}
+use Rattle.std.proofs.Common.{◌≡◌, length}
 use Rattle.zk_client.specs.Clients.{view_of}
 use Rattle.zk_client.specs.Views.{said}
-use Rattle.zk_follow.specs.Following.{IsBusy}
+use Rattle.zk_follow.specs.Following.{how_many_reading}
 use Rattle.zk_follow.specs.inner.Following.{Asks, Reads}
 use Rattle.zk_follow.specs.inner.Places.{AreSameBut}
 use Rattle.zk_follow.proofs.Skipping.{start_of, Seam}
@@ -14,8 +14,8 @@ abbrev pub invariant-loop-place : goal.invariant-loop-place
 invariant-loop-place g l = record {
   asks : Asks (view_of l.fn.client) (view_of l.client);
   size : length l.subjects ≡ length l.fn.subjects;
-  seam : Seam l.now (said l.outputs) (view_of l.client) l.fn.subjects l.subjects (start_of l.places l.place-index);
-  reads : Reads l.fn.subjects (view_of l.fn.client) (said l.fn.made.items) (view_of l.client) (said l.made.items);
-  busy : l.is_busy ≡ true → IsBusy (view_of l.client);
+  seam : Seam l.now (view_of l.client) l.reads l.fn.subjects l.subjects (start_of l.places l.place-index);
+  made : Reads l.fn.subjects (view_of l.fn.client) (said l.fn.made.items) (view_of l.client) (said l.made.items) l.reads;
+  count : l.reads ≡ how_many_reading l.subjects;
   left : AreSameBut l.places l.fn.subjects l.subjects;
 }

@@ -1,9 +1,12 @@
 -- Who is told of is found by the index (`told_by`), and who is not stays quiet (`quiet_told`).
-use Rattle.std.proofs.Common.{◌≡◌, ◌<◌, ◌∙◌, ℕ, true, ap, sym, subst, length}
+use Rattle.std.proofs.Common.{◌≡◌, ◌<◌, ◌∙◌, ◌++◌, ℕ, true, ap, map, refl, sym, subst, length}
+use Rattle.std.specs.List.{flat_map}
+use Rattle.std.proofs.lemmas.Bool.Decides.{Decides-eqb}
+use Rattle.std.proofs.lemmas.List.{append-nil, nil_from_length}
 use Rattle.std.specs.Prelude.{All}
 use Rattle.zk_client.specs.Clients.{view_of}
 use Rattle.zk_client.specs.Views.{said}
-use Rattle.zk_follow.specs.Following.{is_among}
+use Rattle.zk_follow.specs.Following.{is_among, news_in, told_of}
 use Rattle.zk_follow.specs.Places.{AreFound}
 use Rattle.zk_follow.specs.inner.Places.{IsAscending}
 use Rattle.zk_follow.specs.inner.Resting.{AreTold}
@@ -52,3 +55,17 @@ returns-clause-rest g c =
     quiet_told view (said c.args.outputs.now) index.count c.args.subjects.now c.tell_each.new.subjects places
     c.in_ok-awake.field-0.items c.in_ok-fit_all.ensures.count c.in_ok-tell_each.ensures.told told
     (λ k d within among none. c.in_ok-awake.ensures k d within (ap (is_among k) c.as_slice-3.ensures.value ∙ among) none)
+
+pub returns-then-is_empty-clause-news : goal.returns-then-is_empty-clause-news
+returns-then-is_empty-clause-news g c =
+    let none : length c.args.subjects.now ≡ 0 =
+    (Decides-eqb (length c.args.subjects.now) 0).0 (sym c.is_empty.ensures ∙ c.if-is_empty.true) in
+    let news = news_in (view_of c.args.client.now) (said c.args.outputs.now) in
+    subst (λ ss. c.args.all.now.items ≡ c.args.all.now.items ++ flat_map news ss) (sym (nil_from_length c.args.subjects.now none))
+    (sym (append-nil c.args.all.now.items))
+
+pub returns-then-is_empty-clause-told : goal.returns-then-is_empty-clause-told
+returns-then-is_empty-clause-told g c =
+    let none : length c.args.subjects.now ≡ 0 =
+    (Decides-eqb (length c.args.subjects.now) 0).0 (sym c.is_empty.ensures ∙ c.if-is_empty.true) in
+    subst (λ ss. ss ≡ map (told_of (view_of c.args.client.now)) ss) (sym (nil_from_length c.args.subjects.now none)) refl

@@ -5,7 +5,7 @@ use Rattle.std.proofs.lemmas.List.{append-nil, length-set, take_all}
 use Rattle.zk_client.specs.Clients.{view_of}
 use Rattle.zk_client.specs.Views.{said}
 use Rattle.zk_follow.specs.Following.{news_in, told_of}
-use Rattle.zk_follow.proofs.Skipping.{told_more, told_end}
+use Rattle.zk_follow.proofs.Skipping.{quiet_still_told, told_more, told_end}
 use Rattle.zk_follow.proofs.Telling.{whole_mapped}
 use Rattle.zk_follow.proofs.news.tell_each.Goals as goal
 
@@ -26,8 +26,10 @@ loop-place-preserved g c =
     let item = get_or subjects place c.index-subjects-place.result in
     record {
       size = length-set subjects place c.report.new.self ∙ c.loop-place.invariant.size;
-      told = told_more view outputs c.args.subjects.now subjects c.args.all.now.items c.loop-place.all.items c.args.places.now
-          c.loop-place.place-index c.requires.ascend c.requires.below c.requires.told c.loop-place-test.true c.report.new.all.items item
+      told = told_more (told_of view) (news_in view outputs) c.args.subjects.now subjects c.args.all.now.items c.loop-place.all.items
+          c.args.places.now c.loop-place.place-index c.requires.ascend c.requires.below
+          (quiet_still_told view outputs c.args.subjects.now c.args.places.now c.requires.told) c.loop-place-test.true
+          c.report.new.all.items item
           c.report.new.self c.loop-place.invariant.size (ap (get_or subjects place) c.index-subjects-place.is) c.report.ensures.told
           c.in_ok-report.ensures.news c.loop-place.invariant.told;
     }
@@ -36,9 +38,11 @@ pub returns-clause-told : goal.returns-clause-told
 returns-clause-told g c =
     let end : c.loop-place.place-index ≡ length c.args.places.now =
     omega (arith, c.loop-place-test.false, c.loop-place.auto.place-index-end) in
-    let whole = told_end (view_of c.args.client.now) (said c.args.outputs.now) c.args.subjects.now c.loop-place.subjects
+    let view = view_of c.args.client.now in
+    let outputs = said c.args.outputs.now in
+    let whole = told_end (told_of view) (news_in view outputs) c.args.subjects.now c.loop-place.subjects
     c.args.all.now.items c.loop-place.all.items c.args.places.now c.loop-place.place-index c.requires.ascend c.requires.below
-    c.requires.told end c.loop-place.invariant.told in
+    (quiet_still_told view outputs c.args.subjects.now c.args.places.now c.requires.told) end c.loop-place.invariant.told in
     whole.subjects ∙ whole_mapped (told_of (view_of c.args.client.now)) c.args.subjects.now (length c.args.subjects.now) (omega arith)
 
 pub returns-clause-news : goal.returns-clause-news
@@ -46,10 +50,12 @@ returns-clause-news g c =
     let first = c.args.subjects.now in
     let end : c.loop-place.place-index ≡ length c.args.places.now =
     omega (arith, c.loop-place-test.false, c.loop-place.auto.place-index-end) in
-    let whole = told_end (view_of c.args.client.now) (said c.args.outputs.now) first c.loop-place.subjects
-    c.args.all.now.items c.loop-place.all.items c.args.places.now c.loop-place.place-index c.requires.ascend c.requires.below
-    c.requires.told end c.loop-place.invariant.told in
-    let news = news_in (view_of c.args.client.now) (said c.args.outputs.now) in
+    let view = view_of c.args.client.now in
+    let outputs = said c.args.outputs.now in
+    let news = news_in view outputs in
+    let whole = told_end (told_of view) news first c.loop-place.subjects c.args.all.now.items c.loop-place.all.items c.args.places.now
+    c.loop-place.place-index c.requires.ascend c.requires.below
+    (quiet_still_told view outputs first c.args.places.now c.requires.told) end c.loop-place.invariant.told in
     subst (λ all. c.loop-place.all.items ≡ c.args.all.now.items ++ flat_map news all)
     (take_all (length first) first (omega arith)) whole.all
 

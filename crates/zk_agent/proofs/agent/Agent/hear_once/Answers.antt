@@ -1,10 +1,9 @@
 -- The client takes an input and the agent heeds what it says: `taken_and`, of what `step` and `heed` ensure. No call is heard this way.
 use Rattle.std.proofs.Common.{sym, ap, subst, ◌∙◌}
-use Rattle.std.specs.Prelude.{All}
 use Rattle.zk_client.specs.Clients.{view_of}
 use Rattle.zk_client.specs.Views.{input_view}
 use Rattle.zk_dialler.specs.Dialling.{is_open}
-use Rattle.zk_follow.specs.Following.{IsFollowed}
+use Rattle.zk_follow.specs.Following.{AreFollowed}
 use Rattle.zk_agent.specs.declared.asker.Asker.{Asker}
 use Rattle.zk_agent.specs.Agents.{trail_of}
 use Rattle.zk_agent.specs.Waits.{waited_after}
@@ -14,7 +13,7 @@ use Rattle.zk_agent.proofs.agent.Agent.hear_once.Goals as goal
 
 pub returns-clause-followed : goal.returns-clause-followed
 returns-clause-followed g c =
-    subst (λ (a : Asker g.row.A.Denot). All (IsFollowed c.args.now (view_of a.follower.client)) a.follower.subjects.items)
+    subst (λ (a : Asker g.row.A.Denot). AreFollowed c.args.now (view_of a.follower.client) a.follower.subjects.items)
     (sym c.heed.ensures.asker) c.in_ok-heard.ensures.followed
 
 pub returns-clause-hears : goal.returns-clause-hears
@@ -24,7 +23,8 @@ returns-clause-hears g c =
     let input = input_view c.args.input in
     taken_and c.args.now input old new
     (trail_of (record c.args.self.now { asker = c.step.new.self }) c.step.new.actions.items) old.line c.in_ok-heard.heard
-    (may_hear input old c.requires) (not_handed input (is_open old.dialler.phase) old.line c.requires) c.in_ok-heard.ensures.takes
+    (may_hear c.args.now input old c.requires) (not_handed input (is_open old.dialler.phase) old.line c.requires)
+    c.in_ok-heard.ensures.takes
     (ap (λ (a : Asker g.row.A.Denot). view_of a.follower.client) c.heed.ensures.asker)
     (ap (λ (a : Asker g.row.A.Denot). a.follower.subjects.items) c.heed.ensures.asker)
     (ap (λ (a : Asker g.row.A.Denot). a.line.entries.items) c.heed.ensures.asker) c.heed.ensures.timeout c.in_ok-heed.ensures.goes

@@ -13,7 +13,7 @@ use Rattle.zk_agent.proofs.agent.Agent.send.Goals as goal
 pub loop-goes_on-init : goal.loop-goes_on-init
 loop-goes_on-init g c = record {
   comes = nothing c.args.now (trail_of c.args.self.now c.args.actions.now.items);
-  followed = λ all. all;
+  followed = c.requires.followed;
   limits = λ all. all;
   same = λ away. refl;
   ends = λ state final is. is;
@@ -25,7 +25,7 @@ loop-goes_on-preserved g c = record {
   comes = then_none c.args.now [] (trail_of c.args.self.now c.args.actions.now.items)
       (trail_of c.loop-goes_on.self c.loop-goes_on.actions.items) (trail_of c.try_one.new.self c.try_one.new.actions.items)
       c.loop-goes_on.invariant.comes c.in_ok-goes_on.ensures.sends.comes;
-  followed = λ all. c.in_ok-goes_on.ensures.followed (c.loop-goes_on.invariant.followed all);
+  followed = c.in_ok-goes_on.ensures.followed;
   limits = λ all. c.in_ok-goes_on.ensures.sends.limits (c.loop-goes_on.invariant.limits all);
   same = λ away.
       let before = c.loop-goes_on.invariant.same away in

@@ -5,7 +5,7 @@ use Rattle.std.specs.Prelude.{All}
 use Rattle.zk_session.specs.declared.states.State.TheVariants.{Connected, Expired, Closed}
 use Rattle.zk_client.specs.Clients.{view_of}
 use Rattle.zk_follow.specs.declared.follower.Follower.{Follower}
-use Rattle.zk_follow.specs.Following.{IsFollowed}
+use Rattle.zk_follow.specs.Following.{AreFollowed}
 use Rattle.zk_dialler.specs.Dialling.{has_come, is_open}
 use Rattle.zk_agent.specs.declared.asker.Asker.{Asker}
 use Rattle.zk_agent.specs.declared.waits.Waits.{Waits}
@@ -38,14 +38,16 @@ pub returns-clause-papers : goal.returns-clause-papers
 returns-clause-papers g c =
     c.in_ok-settle.ensures.papers ∙ ap (all_written (is_open c.settle.new.self.dialler.phase)) c.in_ok-apply_happening.ensures.papers
 
+pub send-requires : goal.send-requires
+send-requires g c = record {
+  followed = subst (λ (f : Follower g.row.A.Denot). AreFollowed c.args.now (view_of f.client) f.subjects.items)
+      (sym c.give_up.ensures.follower) (c.in_ok-renew.ensures.followed c.args.now c.in_ok-apply_happening.ensures.followed);
+}
+
 pub returns-clause-followed : goal.returns-clause-followed
 returns-clause-followed g c =
-    let now = c.args.now in
-    let renewed = c.in_ok-renew.ensures.followed now c.in_ok-apply_happening.ensures.followed in
-    let given_up = subst (λ (f : Follower g.row.A.Denot). All (IsFollowed now (view_of f.client)) f.subjects.items)
-    (sym c.give_up.ensures.follower) renewed in
-    subst (λ (a : Asker g.row.A.Denot). All (IsFollowed now (view_of a.follower.client)) a.follower.subjects.items)
-    (sym c.settle.ensures.asker) (c.in_ok-tire.ensures.followed (c.in_ok-send.ensures.followed given_up))
+    subst (λ (a : Asker g.row.A.Denot). AreFollowed c.args.now (view_of a.follower.client) a.follower.subjects.items)
+    (sym c.settle.ensures.asker) (c.in_ok-tire.ensures.followed c.in_ok-send.ensures.followed)
 
 pub returns-clause-served : goal.returns-clause-served
 returns-clause-served g c =

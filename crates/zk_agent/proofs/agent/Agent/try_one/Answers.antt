@@ -6,8 +6,8 @@ use Rattle.zk_agent.specs.Agents.{trail_of}
 use Rattle.zk_agent.proofs.Handing.{is_there, not_connected, sends_nothing}
 use Rattle.zk_agent.proofs.agent.Agent.try_one.Goals as goal
 
-pub send_one-requires : goal.send_one-requires
-send_one-requires g c = sym c.state.ensures ∙ is_there c.state.result (sym c.is_connected.ensures ∙ c.if-is_connected.true)
+pub send_one-requires-clause-connected : goal.send_one-requires-clause-connected
+send_one-requires-clause-connected g c = sym c.state.ensures ∙ is_there c.state.result (sym c.is_connected.ensures ∙ c.if-is_connected.true)
 
 pub returns-clause-sends : goal.returns-clause-sends
 returns-clause-sends g c =

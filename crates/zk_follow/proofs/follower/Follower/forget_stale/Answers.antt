@@ -3,7 +3,7 @@
 use Rattle.std.proofs.Common.{subst, sym}
 use Rattle.std.specs.Prelude.{All}
 use Rattle.zk_client.specs.Clients.{view_of}
-use Rattle.zk_follow.specs.Following.{IsCounted, IsFollowed}
+use Rattle.zk_follow.specs.Following.{AreFollowed, IsCounted}
 use Rattle.zk_follow.specs.Following.{AreQuietBut}
 use Rattle.zk_follow.proofs.Forgetting.{all_counted_still, all_followed_still}
 use Rattle.zk_follow.proofs.Finding.{quiet_still}
@@ -26,4 +26,4 @@ pub returns-clause-followed : goal.returns-clause-followed
 returns-clause-followed g c = λ now all.
     let view = view_of c.args.self.now.client in
     let items = c.args.self.now.subjects.items in
-    subst (λ after. All (IsFollowed now after) items) (sym c.forget_stale.ensures.view) (all_followed_still now view items all)
+    subst (λ after. AreFollowed now after items) (sym c.forget_stale.ensures.view) (all_followed_still now view items all)

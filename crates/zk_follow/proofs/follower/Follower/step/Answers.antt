@@ -3,7 +3,7 @@ use Rattle.std.proofs.Common.{◌≡◌, arith, drop, length, sym, subst}
 use Rattle.std.specs.List.{All}
 use Rattle.zk_client.specs.Clients.{view_of}
 use Rattle.zk_client.specs.Views.{input_view, said}
-use Rattle.zk_follow.specs.Following.{IsAhead, IsCounted, IsFollowed, Steps}
+use Rattle.zk_follow.specs.Following.{AreFollowed, IsAhead, IsCounted, Steps}
 use Rattle.zk_follow.specs.Following.{AreQuietBut}
 use Rattle.zk_follow.specs.Places.{AreFound}
 use Rattle.zk_follow.proofs.Visiting.{whole_written, written_back}
@@ -13,8 +13,8 @@ pub returns-in-Ok-clause-followed : goal.returns-in-Ok-clause-followed
 returns-in-Ok-clause-followed g c =
     let size : c.args.self.now.subjects.len ≡ length c.advance.new.subjects =
     omega (arith, c.advance.auto.subjects, c.as_mut_slice-subjects.ensures.len) in
-    written_back (IsFollowed c.args.now (view_of c.advance.new.client)) c.args.self.now.subjects.len c.advance.new.subjects
-    (drop (length c.advance.new.subjects) c.args.self.now.subjects.items) size c.in-Ok.ensures.followed
+    subst (AreFollowed c.args.now (view_of c.advance.new.client)) (sym (whole_written c.args.self.now.subjects.len c.advance.new.subjects
+    (drop (length c.advance.new.subjects) c.args.self.now.subjects.items) size)) c.in-Ok.ensures.followed
 
 pub returns-in-Ok-clause-ahead : goal.returns-in-Ok-clause-ahead
 returns-in-Ok-clause-ahead g c =

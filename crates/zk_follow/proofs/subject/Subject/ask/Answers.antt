@@ -14,17 +14,17 @@ pub returns-in-Ok-append-clause-followed : goal.returns-in-Ok-append-clause-foll
 returns-in-Ok-append-clause-followed g c =
     let reading = record c.args.self.now { progress = Reading } in
     let settled = read_asked c.args.now c.ranges.now.fits reading refl (call_view c.args.call) c.requires.read.0 c.requires.read.1
-    (view_of c.args.client.now) (view_of c.step.new.self) (said c.in-Ok.outputs.items) c.requires.room c.in-Ok.ensures.rule
+    (view_of c.args.client.now) (view_of c.step.new.self) (said c.in-Ok.outputs.items) c.in-Ok.ensures.rule
     c.requires.connected in
     let heard : c.note_outputs.new.self ≡ heard_all c.args.now reading (said c.in-Ok.outputs.items) =
     c.note_outputs.ensures ∙ ap (λ outputs. heard_all c.args.now reading (said outputs)) c.as_slice.ensures.value in
-    subst (IsFollowed c.args.now (view_of c.step.new.self)) (sym heard) settled.0
+    λ reads. subst (IsFollowed c.args.now (view_of c.step.new.self) reads) (sym heard) (settled.0 reads)
 
 pub returns-in-Ok-append-clause-counted : goal.returns-in-Ok-append-clause-counted
 returns-in-Ok-append-clause-counted g c =
     let reading = record c.args.self.now { progress = Reading } in
     let settled = read_asked c.args.now c.ranges.now.fits reading refl (call_view c.args.call) c.requires.read.0 c.requires.read.1
-    (view_of c.args.client.now) (view_of c.step.new.self) (said c.in-Ok.outputs.items) c.requires.room c.in-Ok.ensures.rule
+    (view_of c.args.client.now) (view_of c.step.new.self) (said c.in-Ok.outputs.items) c.in-Ok.ensures.rule
     c.requires.connected in
     let heard : c.note_outputs.new.self ≡ heard_all c.args.now reading (said c.in-Ok.outputs.items) =
     c.note_outputs.ensures ∙ ap (λ outputs. heard_all c.args.now reading (said outputs)) c.as_slice.ensures.value in
@@ -34,33 +34,19 @@ pub returns-in-Ok-append-clause-asks : goal.returns-in-Ok-append-clause-asks
 returns-in-Ok-append-clause-asks g c =
     let reading = record c.args.self.now { progress = Reading } in
     let settled = read_asked c.args.now c.ranges.now.fits reading refl (call_view c.args.call) c.requires.read.0 c.requires.read.1
-    (view_of c.args.client.now) (view_of c.step.new.self) (said c.in-Ok.outputs.items) c.requires.room c.in-Ok.ensures.rule
+    (view_of c.args.client.now) (view_of c.step.new.self) (said c.in-Ok.outputs.items) c.in-Ok.ensures.rule
     c.requires.connected in
     settled.2
-
-pub returns-in-Ok-append-clause-busy : goal.returns-in-Ok-append-clause-busy
-returns-in-Ok-append-clause-busy g c = λ busy.
-    let reading = record c.args.self.now { progress = Reading } in
-    let settled = read_asked c.args.now c.ranges.now.fits reading refl (call_view c.args.call) c.requires.read.0 c.requires.read.1
-    (view_of c.args.client.now) (view_of c.step.new.self) (said c.in-Ok.outputs.items) c.requires.room c.in-Ok.ensures.rule
-    c.requires.connected in
-    let heard : c.note_outputs.new.self ≡ heard_all c.args.now reading (said c.in-Ok.outputs.items) =
-    c.note_outputs.ensures ∙ ap (λ outputs. heard_all c.args.now reading (said outputs)) c.as_slice.ensures.value in
-    settled.3 (sym (ap (λ subject. subject.progress) heard) ∙ c.is_unread.ensures.yes busy)
 
 pub returns-in-Ok-append-clause-asked : goal.returns-in-Ok-append-clause-asked
 returns-in-Ok-append-clause-asked g c =
     let reading = record c.args.self.now { progress = Reading } in
-    let settled = read_asked c.args.now c.ranges.now.fits reading refl (call_view c.args.call) c.requires.read.0 c.requires.read.1
-    (view_of c.args.client.now) (view_of c.step.new.self) (said c.in-Ok.outputs.items) c.requires.room c.in-Ok.ensures.rule
-    c.requires.connected in
     let heard : c.note_outputs.new.self ≡ heard_all c.args.now reading (said c.in-Ok.outputs.items) =
     c.note_outputs.ensures ∙ ap (λ outputs. heard_all c.args.now reading (said outputs)) c.as_slice.ensures.value in (
       said c.in-Ok.outputs.items,
       c.in-Ok.ensures.rule,
       heard,
       ap said c.in-Ok-append.ensures.items ∙ map-append output_view c.args.made.now.items c.in-Ok.outputs.items,
-      settled.4,
     )
 
 pub returns-in_default-clause-broke : goal.returns-in_default-clause-broke
