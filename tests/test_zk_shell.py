@@ -12,6 +12,7 @@ import tempfile
 import time
 import unittest
 from typing import Callable, NamedTuple
+from unittest.mock import patch
 
 from python_shell import outcome_of_python
 from served import World, world
@@ -112,16 +113,18 @@ def asked(served: World, line: str, given: bytes, is_python: bool) -> str:
 
 
 def asks(case: Case, is_python: bool = False) -> str:
-    """Command lines over one server, of which `part` cuts all off and which `join` lets in again."""
+    """Command lines over one server, of which `part` cuts all off and which `join` lets in again; `hosts` are those of the environment."""
     printed, lines = "", case.script.splitlines()
     before = os.getcwd()
-    with world() as served, tempfile.TemporaryDirectory() as folder:
+    with world() as served, tempfile.TemporaryDirectory() as folder, patch.dict(os.environ):
         os.chdir(folder)
         try:
             given = make_files([line for line in lines if line.startswith("file ")])
             for line in (line for line in lines if not line.startswith("file ")):
                 if line in ("part", "join"):
                     getattr(served, line)()
+                elif line.startswith("hosts "):
+                    os.environ["DIRWOLLEU_HOSTS"] = line.removeprefix("hosts ").replace(ADDRESS, f"127.0.0.1:{served.port}")
                 else:
                     printed += asked(served, line, given, is_python) + "\n"
         finally:

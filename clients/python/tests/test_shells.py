@@ -6,17 +6,20 @@ The program is the one of `prebuilt/`, or the one that DIRWOLLEU_SHELL names.
 from __future__ import annotations
 
 import contextlib
+import functools
 import io
 import os
 import re
 import socket
+import struct
 import subprocess
 import sys
 import threading
 import unittest
 from typing import Callable
+from unittest.mock import patch
 
-from support import CLIENTS, WAIT, Peer, RawServer, reply
+from support import CLIENTS, WAIT, Asked, Peer, RawServer, data_reply, notice, reply
 
 from dirwolleu.__main__ import main
 from dirwolleu.shell.words import COMMANDS
@@ -37,12 +40,12 @@ CHANGES: list[list[str]] = [
     ["create", "/a/none", "--hex", "abc"], ["create", "/a/none", "--from", "/none"], ["create", "/a/none", "x", "--from", "/none"],
     ["set", "/a", "y", "--version", "0"], ["set", "/a", "z", "--version", "0"], ["set", "/a/null", "w", "--version", "x"],
     ["set", "/none", "w"], ["set", "/a/bytes", "--hex", "\\e"], ["set", "/a/bytes", "--hex", "\\0"], ["set", "/a/bytes"],
-    ["set", "/a", "caf\udce9 'x'"], ["create", "/\udcff", "x"],
+    ["set", "/a", "caf\udce9 'x'"], ["create", "/\udcff", "x"], ["create", "/a/\u202ex", "\u2067y"], ["create", "/a/\u200e", "\u2028z", "--json"],
     ["set", "--version=1", "/a", "é x"], ["delete", "/a"], ["delete", "/none"], ["delete", "/a/empty", "--version", "3"], ["delete", "/a/empty"],
 ]  # fmt: skip
 """Each is done by both, each at a server of its own."""
-PATHS = ("/", "/a", "/none", "/a/null", "/a/bytes", "/a/é z")
-DATA = ("/a", "/a/esc", "/a/marked", "/a/null", "/a/bytes", "/a/-1")
+PATHS = ("/", "/a", "/none", "/a/null", "/a/bytes", "/a/é z", "/a/\u202ex", "/a/\u200e")
+DATA = ("/a", "/a/esc", "/a/marked", "/a/null", "/a/bytes", "/a/-1", "/a/\u202ex")
 EACH = [[command, path] for command in ("get", "ls", "stat", "tree") for path in PATHS]
 READS: list[list[str]] = [
     *EACH, *([*words, "--json"] for words in EACH), *(["get", path, how] for path in DATA for how in ("--hex", "--raw", "--json")),
@@ -50,12 +53,31 @@ READS: list[list[str]] = [
     ["tree", "/", "--depth", "0"], ["tree", "/", "--depth", "1"], ["tree", "/a", "--depth", "x"], ["tree", "/a", "--most", "0"],
     ["get", "a"], ["get", "/a/"], ["get", "/a//b"], ["get", "/a/../b"], ["get", "/\x01"], ["get", "/" + "a" * 4096], ["get", ""], ["get", "/a", "--wait", "0"],
     ["get", "/a", "--wait", "x"], ["get", "/a", "--wait", "4294968"], ["get", "/a/esc"], ["get", "/a/marked"], ["get", "/a/-1"],
+    ["get", "\u202ea"], ["get", "/a\u200b\u0301'\"\\\t/"], ["tree", "/a", "--depth", "\x7f"], ["set", "/a", "\u2028", "--hex"],
 ]  # fmt: skip
 LINES: list[list[str]] = [
-    [], ["nonsense"], ["get", "/a", "--nope"], ["get", "/a", "x"], ["get"], ["get", "/a", "--wait"], ["--json", "get", "/a"], ["watch", "--for", "0"],
+    ["nonsense"], ["get", "/a", "--nope"], ["get", "/a", "x"], ["get"], ["get", "/a", "--wait"], ["watch", "--for", "0"], ["get", "/a", "--json=1"],
     ["get", "/a", "--wai", "3"], ["create", "/a", "-x"], ["watch", "--data", "a"], ["watch", "--timeout", "0"], ["watch", "--most", "x"],
 ]  # fmt: skip
-"""Command lines that are refused in words of their own by whatever reads them."""
+"""Command lines that are refused. Whatever reads them says more below the first line."""
+
+
+def framed(*payloads: bytes) -> bytes:
+    return b"".join(struct.pack(">i", len(payload)) + payload for payload in payloads)
+
+
+def header(xid: int, zxid: int = 5) -> bytes:
+    return struct.pack(">iqi", xid, zxid, 0)
+
+
+FAULTS: list[tuple[str, Callable[[Asked], bytes]]] = [
+    ("C1", lambda asked: framed(bytes(15))), ("C3 1 77", lambda asked: framed(header(77))), ("C4 J1 at 16", lambda asked: framed(reply(asked))),
+    ("C2 77", lambda asked: framed(data_reply(asked, b"x"), data_reply(asked._replace(xid=2), b"y"), header(77))),
+    ("C4 J2 at 16", lambda asked: framed(reply(asked, struct.pack(">i", -2)))), ("C5 J1 at 24", lambda asked: framed(notice("/a")[:24])),
+    ("C5 J4 at 28", lambda asked: framed(notice("/a")[:-1] + b"\xff")), ("F1", lambda asked: b"\xff" * 4), ("F2", lambda asked: b"\x7f" * 4),
+    ("D2 5 4", lambda asked: framed(data_reply(asked, b"x"), data_reply(asked._replace(xid=2), b"y", zxid=4))), ("D1", lambda asked: b""),
+]  # fmt: skip
+"""What the first of two reads is answered with, and the fault that it is, with its values."""
 
 
 def with_hosts(hosts: str, words: list[str]) -> list[str]:
@@ -161,6 +183,19 @@ class ShellsTest(unittest.TestCase):
                     server.create("/a/c")
                 self.assertEqual(zk, self.run_python(hosts, words), (hosts, words))
 
+    def test_servers_of_the_environment(self) -> None:
+        """They are those of a command whose words name none."""
+        with Server() as server:
+            server.create("/a", b"one")
+            server.create("/a/b", b"two")
+            for hosts in (server.hosts, f"{server.hosts}/a", "", "a:x", "\udcff"):
+                wait = "60" if hosts else "1"
+                for words in (["get", "/b", "--wait", wait], ["tree", "--depth", "0", "/", "--json", f"--wait={wait}"], ["ls", "--wait", wait, "--", "/"],
+                              ["get", "a"], ["get"], ["get", server.hosts, "/a"], ["set", "/none/c", "--from", "-", "--wait", wait]):  # fmt: skip
+                    with patch.dict(os.environ, DIRWOLLEU_HOSTS=hosts):
+                        (*zk, zk_said), (*python, said) = self.run_zk("", words), self.run_python("", words)
+                    self.assertEqual((zk, zk_said.split("\n\nUsage")[0]), (python, said.split("\n\nFor")[0]), (hosts, words))
+
     def test_a_server_that_accepts_no_session(self) -> None:
         with socket.create_server(("127.0.0.1", 0)) as listener:
             hosts, words = f"127.0.0.1:{listener.getsockname()[1]}", ["get", "/a", "--wait", "3"]
@@ -171,7 +206,9 @@ class ShellsTest(unittest.TestCase):
     def test_lines_that_ask_for_nothing(self) -> None:
         for words in LINES:
             zk, python = self.run_zk("127.0.0.1:1", words), self.run_python("127.0.0.1:1", words)
-            self.assertEqual((zk[:2], zk[2][:7]), (python[:2], python[2][:7]), words)
+            self.assertEqual((zk[:2], zk[2].partition("\n")[0]), (python[:2], python[2].partition("\n")[0]), words)
+        for words in ([], ["--json", "get", "/a"]):  # in words of their own
+            self.assertEqual(*((run("", words)[0], run("", words)[2][:7]) for run in (self.run_zk, self.run_python)))
 
     def test_output_that_fails(self) -> None:
         with Server() as server:
@@ -219,17 +256,15 @@ class ShellsTest(unittest.TestCase):
                 self._watch_both(f"{server.hosts}/a", [*subjects, *form], changes, 5)
 
     def _watch_both(self, hosts: str, words: list[str], changes: list[tuple[Callable[[], object], int]], stale: int) -> None:
-        """Makes changes, and waits after each until both have printed this number of lines. zk_shell prints that an answer is stale unless
-        it has something else to tell before the node is read again.
-        """
+        """Makes changes, and waits after each until both have printed this number of lines, those that are stale left out."""
         with Watched([SHELL], hosts, words) as zk, Watched([sys.executable, "-m", "dirwolleu"], hosts, words) as python:
             for change, count in changes:
                 change()
                 for one in (zk, python):
                     one.wait(count)
         self.assertEqual(sorted(zk.lines), sorted(python.lines))
-        self.assertLessEqual(set(zk.stale), set(python.stale))
-        self.assertEqual(len(python.stale), stale)
+        self.assertEqual(sorted(zk.stale), sorted(python.stale))
+        self.assertEqual(len(zk.stale), stale)
 
     def test_the_end_of_a_watch(self) -> None:
         with Server() as server:
@@ -281,6 +316,30 @@ class ShellsTest(unittest.TestCase):
                     break
             self.assertEqual(ends[0], ends[1])
             self.assertEqual(str(ends[0]).count("refused"), 1)
+
+    def test_a_watch_whose_connection_is_given_up(self) -> None:
+        """The code of the fault is printed, its values, and what it means."""
+
+        def serve(message: Callable[[Asked], bytes], peer: Peer) -> None:
+            peer.admit()
+            peer.send_bytes(message(peer.take()))
+            while True:
+                peer.take()
+
+        for fault, message in FAULTS:
+            timeout = "900" if fault == "D1" else "30000"
+            dropped = []
+            for run in (self.run_zk, self.run_python):
+                server = RawServer(functools.partial(serve, message))
+                self.addCleanup(server.stop)
+                for seconds in ("1", "10", "40"):
+                    _, printed, _ = run(server.host, ["watch", "--data", "/a", "--data", "/b", "--for", seconds, "--timeout", timeout])
+                    drops = [plain(line).replace(server.host, "HOST") for line in printed.splitlines() if " drop " in line]
+                    if drops:
+                        break
+                dropped.append(drops[0])
+            self.assertEqual(dropped[0], dropped[1])
+            self.assertIn(f"drop {fault} HOST ", dropped[0])
 
     def _never_connect(self, hosts: str, line: str) -> None:
         """Both print the same lines, among them one that begins so."""

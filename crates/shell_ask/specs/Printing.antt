@@ -27,13 +27,19 @@ use Rattle.shell_ask.specs.Asking.{Coming, Answered, Late}
 
 -- ---- what is printed
 
--- U+0000 to U+001F, and U+007F to U+009F
-abbrev pub is_control : ℕ → Bool
-is_control c = nat_le c 31 || (nat_le 127 c && nat_le c 159)
+-- A character that turns the direction of what is shown after it, or ends its line there: U+061C, U+200E, U+200F, U+2028 to U+202E, and
+-- U+2066 to U+2069.
+abbrev pub is_turning : ℕ → Bool
+is_turning c =
+    nat_eq c 1564 || (nat_le 8206 c && nat_le c 8207) || (nat_le 8232 c && nat_le c 8238) || (nat_le 8294 c && nat_le c 8297)
 
--- a control character other than tab and newline
+-- U+0000 to U+001F, U+007F to U+009F, and what turns the direction
+abbrev pub is_control : ℕ → Bool
+is_control c = (nat_le c 31 || (nat_le 127 c && nat_le c 159)) || is_turning c
+
+-- a control character other than tab and newline, and what turns the direction
 abbrev pub is_hidden : ℕ → Bool
-is_hidden c = nat_le c 8 || (nat_le 11 c && nat_le c 31) || (nat_le 127 c && nat_le c 159)
+is_hidden c = (nat_le c 8 || (nat_le 11 c && nat_le c 31) || (nat_le 127 c && nat_le c 159)) || is_turning c
 
 -- what stands before hex where a text could
 abbrev pub hex_mark : List ℕ
@@ -58,7 +64,7 @@ data_text Quiet bytes = []
 abbrev pub hex_line : List ℕ → List ℕ
 hex_line bytes = bytes_word (Some bytes) ++ 10 ∷ []
 
--- a name or a path as it is, and where it has a control character, as a word of a script
+-- a name or a path as it is, and where it has a control character or one that turns the direction, as a word of a script
 abbrev pub name_text : Text → List ℕ
 name_text name = if list_any is_control (chars name) then text_word (Some name) else name
 

@@ -7,6 +7,7 @@ ghost use Rattle.std.specs.Option.{option_map};
 ghost use Rattle.std.specs.Str.{is_utf8};
 ghost use Rattle.shell_ask.specs.Printing.{data_text, hex_line, hex_mark, is_hidden, is_text, plain_data};
 
+use crate::names::is_turning;
 use crate::plan::Form;
 use script_words::values::push_data_word;
 use script_words::words::bytes_to_word;
@@ -15,11 +16,11 @@ use std::alloc::{AllocError, Allocator};
 /// What stands before hex where a text could.
 const HEX_MARK: &str = "hex:";
 
-/// Whether a character is a control character other than tab and newline.
+/// Whether a character is a control character other than tab and newline, or turns the direction.
 fn is_hidden(c: char) -> bool
     ensures { result ≡ is_hidden c }
 {
-    matches!(c, '\0'..='\u{8}' | '\u{b}'..='\u{1f}' | '\u{7f}'..='\u{9f}')
+    matches!(c, '\0'..='\u{8}' | '\u{b}'..='\u{1f}' | '\u{7f}'..='\u{9f}') || is_turning(c)
 }
 
 /// Whether a text has such a character.

@@ -6,6 +6,7 @@ pub mod Names
 pub mod Frame
 pub mod Kinds
 pub mod CommandLine
+pub mod Servers
 pub mod Show
 pub mod Scripts
 pub mod Written

@@ -17,7 +17,7 @@ pub(crate) fn servers_arg<'a>(alloc: Global) -> Arg<'a>
     ensures local { result.global ≡ false }
 {
     Arg::new(alloc, "SERVERS").required(true).help(
-        "HOST:PORT, several with commas between them, and /PATH to go below it",
+        "HOST:PORT, several with commas between them, and /PATH to go below it; may be left out",
     )
 }
 

@@ -119,7 +119,8 @@ known; where it is stale, a change was told, and the node is being read again. R
 refused, timed out, connection reset, unreachable, host not found, end of stream, a write failed, or another fault.
 
 With --text the DATA of data full stand in quotes, with the escapes of JSON, where they are text: UTF-8 with
-no control characters other than tab and newline. Others stand in hex, and null as \0.
+no control characters other than tab and newline, and none that turn the direction. Others stand in hex, and
+null as \0.
 
 With --json each line is an object of JSON. Its kind is dial, failed, ended, drop, state, renewed (for session
 new), refused or bound (its nodes are N); and of what is kept data, names, absent (there is no such node), known
@@ -156,15 +157,17 @@ pub const ASK: &str =
 or an address, with its port where that is not 2181: zk1, zk1:2182, 127.0.0.1:2181, [::1]:2181. A name
 is looked up at each dial, which takes as long as the system lets it, and its addresses are tried in turn.
 After the hosts may stand a path, as in zk1:2181/app: then PATH is below it, and so are the paths that
-are printed.
+are printed. SERVERS may be left out: they are those of the environment's DIRWOLLEU_HOSTS then, or
+127.0.0.1:2181.
 
 Printed:
   get           the data: a text in UTF-8 as it is, with a newline after it, and data with other control
-                characters than tab and newline, or that are no UTF-8, or begin with hex:, as hex: and
-                their bytes in hex. Null data print nothing
+                characters than tab and newline, or characters that turn the direction, or that are no
+                UTF-8, or begin with hex:, as hex: and their bytes in hex. Null data print nothing
   get --hex     the data in hex, \e for no bytes, \0 for null, as set and create take them with --hex
   get --raw     the bytes of the data as they are, and nothing else: for a file, or for another program
-  ls            the names below the node, a line each, in the order of their bytes
+  ls            the names below the node, a line each, in the order of their bytes. In names and paths with
+                control characters, or that turn the direction, bytes outside 21 to 7e stand as \xHH
   stat          a line for each field, by ZooKeeper's name: czxid, mzxid, ctime, mtime, version,
                 cversion, aversion, ephemeralOwner, dataLength, numChildren, pzxid
   tree          the path of the node and of each one below it, a line each: those below a node come after it,

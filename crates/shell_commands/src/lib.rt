@@ -8,6 +8,7 @@ mod asked;
 mod capture;
 pub mod command;
 mod data_words;
+mod default_servers;
 mod fault;
 mod fields;
 pub mod files;

@@ -7,10 +7,12 @@ ghost use Rattle.shell_commands.specs.Asks.{IsUndone};
 ghost use Rattle.shell_commands.specs.CommandLine.{AsksFor};
 ghost use Rattle.shell_commands.specs.Run.{IsCutOff, IsDone, IsFaulty, IsHelpText, IsNeverConnected, IsRefusal, IsRefusalText, IsUndoneBy};
 ghost use Rattle.shell_commands.specs.Run.{IsWhole};
+ghost use Rattle.shell_commands.specs.Servers.{served};
 
 use crate::ask::ask_with;
 use crate::capture::{ToldCapture, asks_stream};
 use crate::command::{Command, Scope, command_of};
+use crate::default_servers::with_servers;
 use crate::files::Files;
 use crate::line_fault::LineFault;
 use crate::plays::{LiveClient, RehearsedClient, ReplayedClient, ToldHistory};
@@ -132,9 +134,8 @@ fn tell_line<O: Write, E: Write>(out: &mut O, errors: &mut E, fault: LineFault) 
     }
 }
 
-/// Runs the command that the words ask for. The first word is the program's name. `dial` connects to addresses, for what runs over
-/// connections, `clock` tells moments to a watch and to a call, and `files` opens the file that a command names.
-pub fn run<F: Files, D: Dial + Drop, C: Clock + Drop, I: Read, O: Write, E: Write>(
+/// Runs the command that the words ask for.
+fn run_words<F: Files, D: Dial + Drop, C: Clock + Drop, I: Read, O: Write, E: Write>(
     alloc: Global,
     files: &F,
     dial: D,
@@ -144,31 +145,22 @@ pub fn run<F: Files, D: Dial + Drop, C: Clock + Drop, I: Read, O: Write, E: Writ
     errors: &mut E,
     words: &[&str],
 ) -> Status
-    // A frame is shown, the frames of a capture are told, a history is answered, a replay, a rehearsal, a session, a watch or the answer to
-    // a call is printed, or help is told.
     ensures done { result ≡ Status.Done
         → (text : List ℕ) × IsDone D.Stream.far (map (λ w. w.now) words.entry.now) (F.holds files.now) (I.remaining input.old) text
         × Appends (O.contents out.old) (O.contents out.new) text × (errors.new ≡ errors.old) }
-    // The frame or a line of the script is refused, and this is told.
     ensures fault { result ≡ Status.Fault
         → (text told : List ℕ) × IsFaulty (map (λ w. w.now) words.entry.now) (I.remaining input.old) text told
         × Appends (O.contents out.old) (O.contents out.new) text × Appends (E.contents errors.old) (E.contents errors.new) told }
-    // The words are refused, and this is told.
     ensures usage { result ≡ Status.Usage → (told : List ℕ) × IsRefusal (map (λ w. w.now) words.entry.now) told
         × Appends (E.contents errors.old) (E.contents errors.new) told × (out.new ≡ out.old) }
-    // A call is not done, or may not be, or the file with its data is not read, and this is told.
     ensures undone { IsUndone result
         → (told : List ℕ)
         × IsUndoneBy D.Stream.far (map (λ w. w.now) words.entry.now) (F.holds files.now) (I.remaining input.old) result told
         × Appends (E.contents errors.old) (E.contents errors.new) told × (out.new ≡ out.old) }
-    // The time of a watch is over, and no server has ever accepted its session.
     ensures never { result ≡ Status.NeverConnected → (text : List ℕ) × IsNeverConnected D.Stream.far (map (λ w. w.now) words.entry.now) text
         × Appends (O.contents out.old) (O.contents out.new) text × (errors.new ≡ errors.old) }
-    // As many nodes of a tree as are to be are printed, there are more, and this is told.
     ensures more { result ≡ Status.More → (text told : List ℕ) × IsCutOff D.Stream.far (map (λ w. w.now) words.entry.now) text told
         × Appends (O.contents out.old) (O.contents out.new) text × Appends (E.contents errors.old) (E.contents errors.new) told }
-    // Nothing is written, or whole answers of a history, or what whole lines of a replay, a rehearsal or a session print, or what a
-    // watch prints.
     ensures memory { result ≡ Status.Memory
         → (text : List ℕ) × IsWhole D.Stream.far (map (λ w. w.now) words.entry.now) (I.remaining input.old) text
         × Appends (O.contents out.old) (O.contents out.new) text × (errors.new ≡ errors.old) }
@@ -179,5 +171,65 @@ pub fn run<F: Files, D: Dial + Drop, C: Clock + Drop, I: Read, O: Write, E: Writ
     match command_of(alloc, words) {
         Ok(command) => perform(alloc, files, dial, clock, input, out, errors, command),
         Err(fault) => tell_line(out, errors, fault),
+    }
+}
+
+/// Runs the command that the words ask for. The first word is the program's name. `dial` connects to addresses, for what runs over
+/// connections, `clock` tells moments to a watch and to a call, and `files` opens the file that a command names. A command that asks or
+/// watches has these servers where no word of it names any.
+pub fn run<F: Files, D: Dial + Drop, C: Clock + Drop, I: Read, O: Write, E: Write>(
+    alloc: Global,
+    files: &F,
+    dial: D,
+    clock: C,
+    input: &mut I,
+    out: &mut O,
+    errors: &mut E,
+    words: &[&str],
+    servers: &str,
+) -> Status
+    // A frame is shown, the frames of a capture are told, a history is answered, a replay, a rehearsal, a session, a watch or the answer to
+    // a call is printed, or help is told.
+    ensures done { result ≡ Status.Done
+        → (text : List ℕ) × IsDone D.Stream.far (served servers.now (map (λ w. w.now) words.entry.now)) (F.holds files.now)
+        (I.remaining input.old) text × Appends (O.contents out.old) (O.contents out.new) text × (errors.new ≡ errors.old) }
+    // The frame or a line of the script is refused, and this is told.
+    ensures fault { result ≡ Status.Fault
+        → (text told : List ℕ) × IsFaulty (served servers.now (map (λ w. w.now) words.entry.now)) (I.remaining input.old) text told
+        × Appends (O.contents out.old) (O.contents out.new) text × Appends (E.contents errors.old) (E.contents errors.new) told }
+    // The words are refused, and this is told.
+    ensures usage { result ≡ Status.Usage → (told : List ℕ) × IsRefusal (served servers.now (map (λ w. w.now) words.entry.now)) told
+        × Appends (E.contents errors.old) (E.contents errors.new) told × (out.new ≡ out.old) }
+    // A call is not done, or may not be, or the file with its data is not read, and this is told.
+    ensures undone { IsUndone result
+        → (told : List ℕ)
+        × IsUndoneBy D.Stream.far (served servers.now (map (λ w. w.now) words.entry.now)) (F.holds files.now) (I.remaining input.old)
+        result told × Appends (E.contents errors.old) (E.contents errors.new) told × (out.new ≡ out.old) }
+    // The time of a watch is over, and no server has ever accepted its session.
+    ensures never { result ≡ Status.NeverConnected
+        → (text : List ℕ) × IsNeverConnected D.Stream.far (served servers.now (map (λ w. w.now) words.entry.now)) text
+        × Appends (O.contents out.old) (O.contents out.new) text × (errors.new ≡ errors.old) }
+    // As many nodes of a tree as are to be are printed, there are more, and this is told.
+    ensures more { result ≡ Status.More
+        → (text told : List ℕ) × IsCutOff D.Stream.far (served servers.now (map (λ w. w.now) words.entry.now)) text told
+        × Appends (O.contents out.old) (O.contents out.new) text × Appends (E.contents errors.old) (E.contents errors.new) told }
+    // Nothing is written, or whole answers of a history, or what whole lines of a replay, a rehearsal or a session print, or what a
+    // watch prints.
+    ensures memory { result ≡ Status.Memory
+        → (text : List ℕ) × IsWhole D.Stream.far (served servers.now (map (λ w. w.now) words.entry.now)) (I.remaining input.old) text
+        × Appends (O.contents out.old) (O.contents out.new) text × (errors.new ≡ errors.old) }
+{
+    match with_servers(alloc, servers, words) {
+        Ok(words) => run_words(
+            alloc,
+            files,
+            dial,
+            clock,
+            input,
+            out,
+            errors,
+            words.as_slice(),
+        ),
+        Err(_) => Status::Memory,
     }
 }

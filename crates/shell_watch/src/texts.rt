@@ -4,17 +4,24 @@ ghost use Rattle.std.specs.Prelude.{◌≡◌, chars, IfOk, MatchOption, true, f
 ghost use Rattle.std.specs.List.{list_any};
 ghost use Rattle.std.specs.Option.{option_map};
 ghost use Rattle.std.specs.Str.{is_utf8};
-ghost use Rattle.shell_watch.specs.Lines.{data_word, is_hidden, is_text, quoted_word};
+ghost use Rattle.shell_watch.specs.Lines.{data_word, is_hidden, is_text, is_turning, quoted_word};
 
 use json::Writer;
 use script_words::words::{NULL, bytes_to_word};
 use std::alloc::{AllocError, Allocator};
 
-/// Whether a character is a control character other than tab and newline.
+/// Whether a character turns the direction of what is shown after it, or ends its line there.
+fn is_turning(c: char) -> bool
+    ensures { result ≡ is_turning c }
+{
+    matches!(c, '\u{61c}' | '\u{200e}'..='\u{200f}' | '\u{2028}'..='\u{202e}' | '\u{2066}'..='\u{2069}')
+}
+
+/// Whether a character is a control character other than tab and newline, or turns the direction.
 fn is_hidden(c: char) -> bool
     ensures { result ≡ is_hidden c }
 {
-    matches!(c, '\0'..='\u{8}' | '\u{b}'..='\u{1f}' | '\u{7f}'..='\u{9f}')
+    matches!(c, '\0'..='\u{8}' | '\u{b}'..='\u{1f}' | '\u{7f}'..='\u{9f}') || is_turning(c)
 }
 
 /// Whether a text has such a character.

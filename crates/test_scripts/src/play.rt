@@ -71,6 +71,7 @@ pub fn outcome<I: Read>(alloc: Global, case: &Case, left: usize, input: &mut I) 
         &mut out,
         &mut errors,
         words,
+        "127.0.0.1:2181",
     );
     joined(out, errors, status)
 }

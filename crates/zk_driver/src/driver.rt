@@ -34,6 +34,7 @@ pub struct Driver<'a, A: Allocator + Copy, D: Dial + Drop, C: Clock + Drop> {
     latest: u64,
     place: usize,
     is_announced: bool,
+    is_in_row: bool,
 }
 
 impl<'a, A: Allocator + Copy, D: Dial + Drop, C: Clock + Drop> Driver<'a, A, D, C> {
@@ -59,6 +60,7 @@ impl<'a, A: Allocator + Copy, D: Dial + Drop, C: Clock + Drop> Driver<'a, A, D, 
             latest: 0,
             place: 0,
             is_announced: false,
+            is_in_row: false,
         }
     }
 
@@ -421,7 +423,7 @@ impl<'a, A: Allocator + Copy, D: Dial + Drop, C: Clock + Drop> Driver<'a, A, D, 
 
     /// Writes what is left, and tells the agent what the connection brings within `ms` milliseconds, or that it brings nothing. Where
     /// something was due before the clock's moment, what the connection has is read before that is told: until it has nothing, and 64 times
-    /// at most.
+    /// at most, also where the program takes what it is told between two reads.
     fn listen(&mut self, began: u64, ms: u64) -> Result<(u64, Event), Stop>
         requires none { self.old.engine.channel.attempt ≡ None }
         requires open { is_some self.old.engine.channel.stream ≡ true }
@@ -433,13 +435,14 @@ impl<'a, A: Allocator + Copy, D: Dial + Drop, C: Clock + Drop> Driver<'a, A, D, 
         ensures kept { Extends (told_by self.old.engine.waiting.items) (told_by self.new.engine.waiting.items) }
         ensures broke { OnErr result (IsBroken self.old.engine.agent self.new.engine.agent) }
     {
-        let mut glance = self.read(began, false, ms)?;
+        let mut glance = self.read(began, self.is_in_row, ms)?;
         for _ in 1..MOST_READS {
             if !glance.is_again {
                 break;
             }
             glance = self.read(glance.now, true, 0)?;
         }
+        self.is_in_row = glance.told < glance.now;
         Ok((glance.told, glance.event))
     }
 }

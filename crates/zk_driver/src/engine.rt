@@ -279,14 +279,15 @@ impl<A: Allocator + Copy, S: Stream> Engine<A, S> {
         }
     }
 
-    /// Whether the connection is to be read again where a read has come to this, and a moment before the clock's was told last.
+    /// Whether the connection is to be read again where a read has come to this, and a moment before the clock's was told last: where
+    /// nothing waits for the program, which is to see what is kept before a further read may change that.
     pub(crate) fn reads_on(&self, event: Event, is_late: bool) -> bool
         ensures none { result ≡ true → self.now.channel.attempt ≡ None }
         ensures open { result ≡ true → is_some self.now.channel.stream ≡ true }
         ensures quiet { result ≡ true → notes_of_event event ≡ [] }
         ensures late { result ≡ true → is_late ≡ true }
     {
-        is_late && event.is_nothing() && self.is_readable()
+        is_late && event.is_nothing() && self.waiting.is_empty() && self.is_readable()
     }
 
     /// Whether the connection can be read: there is one, and no other is to be dialled.

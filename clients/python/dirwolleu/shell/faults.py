@@ -4,6 +4,7 @@ from __future__ import annotations
 
 import errno
 import os
+import re
 from typing import NamedTuple, Optional
 
 from dirwolleu._paths import why_no_path
@@ -53,6 +54,10 @@ _REASONS = {
     errno.ENOENT: "there is no such file",
     errno.EACCES: "the system does not let it be read",
 }
+_NUMBERED = ("C2", "C3", "D2", "D3")
+"""The faults of a connection whose values are the numbers of their words, in their order."""
+_UNREAD = {"is cut off": "J1", "is below -1": "J2", "is neither 0 nor 1": "J3", "is not UTF-8": "J4"}
+"""Why a message does not read, by the end of its words."""
 _UNANSWERED = (ConnectionLoss, SessionExpiredError, SessionMovedError, ConnectionClosedError)
 _CLIENTS_OWN = {
     TooManyWatchesError: "65,536 paths of the side are watched, pending reads counted",
@@ -117,6 +122,14 @@ def of_call(error: ZookeeperError, path: str, is_connected: bool) -> Ending:
     if isinstance(error, AuthFailedError) and error.args:
         words = error.args[0]
     return Ending(REFUSED, f"refused: {path}: {words} ({error.code})")
+
+
+def values_of(fault: str, words: str) -> list[str]:
+    """The values that a fault of a connection has after its code, by its words."""
+    if fault in _NUMBERED:
+        return re.findall(r"-?\d+", words)
+    unread = re.fullmatch(r".* at byte (\d+) (.*)", words) if fault in ("C4", "C5") else None
+    return [_UNREAD[unread[2]], "at", unread[1]] if unread is not None and unread[2] in _UNREAD else []
 
 
 class Dialled(NamedTuple):

@@ -4,6 +4,7 @@ from __future__ import annotations
 
 import json
 import re
+import unicodedata
 from typing import Any, Optional, Union
 
 from dirwolleu.types import DataStat, Stat
@@ -12,10 +13,11 @@ HEX_MARK = "hex:"
 """What stands before hex that is printed instead of a text."""
 
 _DIRECTIONS = "\u061c\u200e\u200f\u2028-\u202e\u2066-\u2069"
-"""The characters that change the direction of what follows, or end a line. `zk_shell` prints these as they are."""
+"""The characters that turn the direction of what follows, or end a line."""
 _CONTROL = re.compile(f"[\0-\x1f\x7f-\x9f{_DIRECTIONS}]")
 _HIDDEN = re.compile(f"[\0-\x08\x0b-\x1f\x7f-\x9f{_DIRECTIONS}]")
 """The same without a tab and a line's end, which data may have."""
+_ESCAPES = {"\t": "\\t", "\r": "\\r", "\n": "\\n", '"': '\\"', "\\": "\\\\"}
 _LETTERS = {"c": 4, "d": 8, "r": 1, "w": 2, "a": 16}
 """The letters of permissions, in ZooKeeper's order."""
 
@@ -35,9 +37,16 @@ def escaped(spelled: bytes) -> str:
     return repr(b"\"'" + spelled)[5:-1].replace('"', '\\"')
 
 
+def _shown(character: str) -> str:
+    """A character of a word that is quoted: one that is not seen, or joins the one before it, by its number."""
+    if character in _ESCAPES:
+        return _ESCAPES[character]
+    return character if character.isprintable() and not unicodedata.combining(character) else f"\\u{{{ord(character):x}}}"
+
+
 def quoted(text: str) -> str:
     """A word of the command line in quotes, as a refusal has it."""
-    return re.sub(r"\\u([0-9a-f]{4})", lambda found: f"\\u{{{int(found[1], 16):x}}}", json.dumps(text, ensure_ascii=False))
+    return f'"{"".join(map(_shown, text))}"'
 
 
 def name_line(name: str) -> str:

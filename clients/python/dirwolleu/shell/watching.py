@@ -15,7 +15,7 @@ from dirwolleu._growing import Growing, Host, TreeNews
 from dirwolleu._session import Bounded, LetGo, TakenOn
 from dirwolleu.exceptions import TooLargeError, TooManyWatchesError, ZookeeperError
 from dirwolleu.shell.connections import Connections, Said
-from dirwolleu.shell.faults import NEVER_CONNECTED, Ending, of_call
+from dirwolleu.shell.faults import NEVER_CONNECTED, Ending, of_call, values_of
 from dirwolleu.shell.printing import data_fields, hex_word, json_line, quoted_data, stat_fields, word
 from dirwolleu.types import Kept, KeptChildren, Mark
 
@@ -114,7 +114,8 @@ def _connection_lines(said: Said) -> Iterator[Line]:
         return
     why = "unreachable" if said.reason in _UNREACHABLE else said.reason
     fields = {"address": said.address, **({"fault": said.fault} if said.fault else {}), **({"reason": why} if why else {})}
-    yield Line(" ".join(filter(None, [said.kind, said.fault, said.address, why])), said.kind, fields)
+    words = [said.kind, said.fault, *values_of(said.fault, why), said.address, why]
+    yield Line(" ".join(filter(None, words)), said.kind, fields)
     if said.kind in ("ended", "drop"):
         yield _state_line("Idle", said)
 

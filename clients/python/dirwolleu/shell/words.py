@@ -4,6 +4,7 @@ from __future__ import annotations
 
 import argparse
 import os
+import re
 from collections.abc import Sequence
 from typing import Any, NamedTuple, NoReturn, Optional
 
@@ -59,7 +60,8 @@ printed, each line with the seconds since the watch began before it:
   failed ADDRESS REASON    it could not be connected to
   ended ADDRESS REASON     the connection has ended
   drop FAULT ADDRESS WORDS
-                           the connection is given up, by a fault of CODES
+                           the connection is given up: the code of the fault in
+                           CODES and its values, and what they mean
   state NAME               Connecting, Idle, Expired or Closed; and Connected,
                            with the address, the session and its timeout
   session new              after state Expired: nothing is kept any more
@@ -196,7 +198,15 @@ class _Layout(argparse.RawDescriptionHelpFormatter):
 
 
 class _Parser(argparse.ArgumentParser):
+    """A parser that says in the words of `zk_shell` that a value lacks, or is too much."""
+
     def error(self, message: str) -> NoReturn:
+        lacks = re.fullmatch(r"argument --([a-z]+): expected one argument", message)
+        too_much = re.fullmatch(r"argument (--[a-z]+): ignored explicit argument '(.*)'", message, re.S)
+        if lacks is not None:
+            message = f"a value is required for '--{lacks[1]} <{OPTIONS[lacks[1]].value}>' but none was supplied"
+        elif too_much is not None:
+            message = f"unexpected value '{too_much[2]}' for '{too_much[1]}' found; no more were expected"
         raise usage(f"{message}\n\nFor more information, try '--help'.")
 
 
@@ -283,8 +293,14 @@ def _read_seed(chosen: argparse.Namespace) -> None:
             raise usage(f"{quoted(chosen.seed)} is no seed: a number") from None
 
 
+def _hosts_of_environment() -> str:
+    """The servers of a command whose words name none. Bytes that are no text are no server."""
+    hosts = os.environ.get("DIRWOLLEU_HOSTS") or "127.0.0.1:2181"
+    return "DIRWOLLEU_HOSTS: not UTF-8" if re.search("[\ud800-\udfff]", hosts) else hosts
+
+
 def _read_servers(chosen: argparse.Namespace, given: Optional[str]) -> None:
-    chosen.hosts = given if given is not None else os.environ.get("DIRWOLLEU_HOSTS") or "127.0.0.1:2181"
+    chosen.hosts = _hosts_of_environment() if given is None else given
     hosts, slash, below = chosen.hosts.partition("/")
     for server in hosts.split(","):
         try:
