@@ -1,1 +1,2 @@
--- A test, whose functions have no contract: there is no definition to cite.
+-- A test, which has one history over which what a watch prints is proved to be that; its other functions have no contract.
+pub mod inner

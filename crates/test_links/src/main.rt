@@ -2,10 +2,12 @@
 //! `stdout`.
 #![tactic(auto)]
 
+mod benches;
 mod links;
 mod watches;
 
 use anyhow::Result;
+use benches::play_benches;
 use links::play_links;
 use std::io::{self, Write};
 use watches::play_watches;
@@ -15,5 +17,7 @@ fn main(rt: HostRuntime) -> Result<()> {
     writeln!(out, "# links")?;
     play_links(rt.alloc(), &mut out)?;
     writeln!(out, "# watches")?;
-    play_watches(rt.alloc(), &mut out)
+    play_watches(rt.alloc(), &mut out)?;
+    writeln!(out, "# benches")?;
+    play_benches(rt.alloc(), &mut out)
 }

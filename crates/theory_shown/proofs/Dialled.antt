@@ -4,14 +4,14 @@ use Rattle.std.proofs.Common.{ℕ, Bool, List, Option, inl, inr}
 use Rattle.zk_nodes.specs.Path.{Text}
 use Rattle.zk_nodes.specs.History.{IsHistory}
 use Rattle.zk_nodes.specs.declared.side.Side.{Side}
-use Rattle.zk_history.specs.HistoryView.{history_of, HistoryView}
-use Rattle.zk_bench_dial.specs.BenchActs.{bench_end}
+use Rattle.zk_history.specs.HistoryView.{history_of}
+use Rattle.zk_bench_dial.specs.Lines.{bench_end, PastView}
 use Rattle.shell_watch.specs.declared.plan.Style.{Style}
 use Rattle.shell_watch.specs.Watching.{IsPrinted, IsWatched}
 use Rattle.theory_shown.specs.Linked.{PrintsPast, WatchesPast}
 use Rattle.theory_shown.proofs.Linked.{linked_end_agrees, linked_watch_agrees}
 
-pub prints_past : (A : Type 0) (past : HistoryView) → IsHistory (history_of past) → (style : Style) (aims : List (Side × Text))
+pub prints_past : (A : Type 0) (past : PastView) → IsHistory (history_of past.history) → (style : Style) (aims : List (Side × Text))
     (roots : List Text) (most : ℕ) (text : List ℕ) → IsPrinted A (bench_end past) style aims roots most text
     → PrintsPast A past style aims roots most text
 prints_past A past is style aims roots most text (inl none) = inl none
@@ -23,7 +23,7 @@ prints_past A past is style aims roots most text (inr printed) = inr (record {
   coheres = linked_watch_agrees A past is style roots most aims printed.0 text printed.1 printed.2;
 })
 
-pub watches_past : (A : Type 0) (past : HistoryView) → IsHistory (history_of past) → (style : Style) (aims : List (Side × Text))
+pub watches_past : (A : Type 0) (past : PastView) → IsHistory (history_of past.history) → (style : Style) (aims : List (Side × Text))
     (roots : List Text) (most : ℕ) (for_ms : Option ℕ) (text : List ℕ) (is_accepted : Bool)
     → IsWatched A (bench_end past) style aims roots most for_ms text is_accepted
     → WatchesPast A past style aims roots most for_ms text is_accepted

@@ -2,15 +2,15 @@
 -- its far end is what the bench does. Its history stays, so each connection is one to a bench with the same history.
 use Rattle.std.proofs.Common.{◌≡◌, ◌++◌, ◌∙◌, ℕ, Bool, true, false, List, [], ◌∷◌, Option, Some, None, ap, append-nil, lit<}
 use Rattle.std.proofs.Common.{refl, sym, subst}
-use Rattle.std.specs.List.{flat_map, FoldsTo}
-use Rattle.zk_link.specs.FarEnds.{Begun, Goes, Reached, Trades}
+use Rattle.std.specs.List.{FoldsTo}
+use Rattle.zk_link.specs.FarEnds.{Reached, Trades}
 use Rattle.zk_nodes.specs.Path.{Text}
 use Rattle.zk_nodes.specs.History.{IsHistory}
 use Rattle.zk_nodes.specs.declared.side.Side.{Side}
 use Rattle.zk_history.specs.HistoryView.{history_of, HistoryView}
 use Rattle.theory_serving.proofs.Later.{taken_none}
-use Rattle.zk_bench.specs.declared.phase.Phase.TheVariants.{Apart, Ended, Opening}
-use Rattle.zk_bench.specs.Served.{ended, is_open, started, Served}
+use Rattle.zk_bench.specs.declared.phase.Phase.TheVariants.{Apart, Opening}
+use Rattle.zk_bench.specs.Served.{started, Served}
 use Rattle.zk_bench.specs.Served as bench
 use Rattle.zk_bench.specs.Stepping.{IsReady}
 use Rattle.zk_agent.specs.declared.input.AgentInput.{AgentInput}
@@ -18,9 +18,8 @@ use Rattle.zk_agent.specs.declared.input.AgentInput.TheVariants as happens
 use Rattle.zk_driver.specs.Driving.{ChannelView, Looked, Noted, Written}
 use Rattle.zk_driver.specs.Flowing.{Asked, AreWithin, Carries, Deed, Flow, Made, Passes, Runs}
 use Rattle.zk_driver.proofs.Flowed.{goes_on, open_before}
-use Rattle.theory_drivers.specs.Acts.{given_in, taken_in, Act, Takes}
-use Rattle.zk_bench_dial.specs.BenchActs.{bench_end, BenchBegins, BenchDoes, BenchGoes, LineDoes}
-use Rattle.zk_bench_dial.proofs.Acting.{goes_after, goes_first, goes_over}
+use Rattle.zk_bench_dial.specs.Lines.{bench_end, PastView}
+use Rattle.zk_bench_dial.proofs.Meeting.{starts_at, trades_at, IsThere}
 use Rattle.theory_drivers.specs.Worlds.{ByDriver}
 use Rattle.theory_drivers.proofs.Turned.{goes_nowhere}
 use Rattle.shell_watch.specs.declared.plan.Style.{Style}
@@ -34,130 +33,24 @@ use Rattle.theory_shown.proofs.Agreeing.{watch_agrees, watch_end_agrees}
 use Rattle.theory_shown.proofs.Waiting.{connected_ready}
 use Rattle.theory_shown.proofs.Watched.{ends_cohere, prints_cohere}
 
--- ---- where a line is, a bench is
-
--- The bench is the one at the far end; where the line is over, it has ended the connection.
-abbrev IsAt : Option Served → Served → Type 0
-IsAt (Some now) served = served ≡ now
-IsAt None served = served.connection.phase ≡ Ended
-
--- what a bench does from where it is
-record GoesAt (took gave : List ℕ) (end : Option Served) (before : Served) : Type 0 where
-  after : Served
-  at : IsAt end after
-  goes : BenchGoes before took gave after
-
--- what comes then is lost
-goes_lost : (took gave : List ℕ) (old : Served) → old.connection.phase ≡ Ended → gave ≡ [] → BenchGoes old took gave old
-goes_lost took gave old over none = record {
-  acts = Takes took ∷ [];
-  does = (old, (λ up. let e : true ≡ false = sym up ∙ ap is_open over in cc, λ down. refl), refl);
-  taken = append-nil took;
-  given = sym none;
-  history = refl;
-}
-
-line_goes : (took gave : List ℕ) (old new : Option Served) (before : Served) → IsAt old before → LineDoes old took gave new
-    → GoesAt took gave new before
-line_goes took gave (Some old) (Some new) before at does =
-    record { after = new; at = refl; goes = subst (λ (s : Served). BenchGoes s took gave new) (sym at) does }
-line_goes took gave (Some old) None before at does = record {
-  after = ended does.0;
-  at = refl;
-  goes = subst (λ l. BenchGoes before l gave (ended does.0)) (append-nil took)
-      (subst (λ l. BenchGoes before (took ++ []) l (ended does.0)) (append-nil gave)
-      (goes_after took gave [] [] before does.0 (ended does.0)
-      (subst (λ (s : Served). BenchGoes s took gave does.0) (sym at) does.1) (goes_over does.0)));
-}
-line_goes took gave None None before at does = record { after = before; at = at; goes = goes_lost took gave before at does }
-line_goes took gave None (Some new) before at does = absurd does
-
-lines_go : (steps : List (List ℕ × List ℕ)) (old new : Option Served) (before : Served) → IsAt old before
-    → FoldsTo (λ from step to. LineDoes from step.0 step.1 to) old steps new
-    → GoesAt (flat_map (λ (step : List ℕ × List ℕ). step.0) steps) (flat_map (λ (step : List ℕ × List ℕ). step.1) steps) new before
-lines_go [] old new before at same =
-    record { after = before; at = subst (λ (s : Option Served). IsAt s before) same at; goes = goes_first before }
-lines_go (step ∷ steps) old new before at does =
-    let one = line_goes step.0 step.1 old does.0 before at does.1 in
-    let rest = lines_go steps does.0 new one.after one.at does.2 in
-    record {
-      after = rest.after;
-      at = rest.at;
-      goes = goes_after step.0 step.1 (flat_map (λ (step : List ℕ × List ℕ). step.0) steps)
-          (flat_map (λ (step : List ℕ × List ℕ). step.1) steps) before one.after rest.after one.goes rest.goes;
-    }
-
-far_goes : (past : HistoryView) (took gave : List ℕ) (old new : Option Served) (before : Served) → IsAt old before
-    → Goes (bench_end past) took gave old new → GoesAt took gave new before
-far_goes past took gave old new before at goes =
-    let all = lines_go goes.steps old new before at goes.does in
-    record {
-      after = all.after;
-      at = all.at;
-      goes = subst (λ l. BenchGoes before l gave all.after) goes.took
-          (subst (λ l. BenchGoes before (flat_map (λ (step : List ℕ × List ℕ). step.0) goes.steps) l all.after) goes.gave all.goes);
-    }
-
--- ---- where a connection is, a bench is
-
-abbrev IsThere : Option (Option Served) → Served → Type 0
-IsThere (Some state) served = IsAt state served
-IsThere None served = ⊥
-
--- what a bench does from where it is, with what is unsent
-record TradesAt (unsent rest piece : List ℕ) (end : Option (Option Served)) (before : Served) : Type 0 where
-  after : Served
-  there : IsThere end after
-  acts : List Act
-  does : FoldsTo BenchDoes before acts after
-  wrote : unsent ≡ taken_in acts ++ rest
-  read : given_in acts ≡ piece
-  history : after.history ≡ before.history
-
-trades_at : (past : HistoryView) (unsent rest piece : List ℕ) (old new : Option (Option Served)) (before : Served) → IsThere old before
-    → Trades (bench_end past) unsent rest piece old new → TradesAt unsent rest piece new before
-trades_at past unsent rest piece (Some old) (Some new) before there trades =
-    let all = far_goes past trades.0 piece old new before there trades.2 in
-    record {
-      after = all.after;
-      there = all.at;
-      acts = all.goes.acts;
-      does = all.goes.does;
-      wrote = trades.1 ∙ ap (λ l. l ++ rest) (sym all.goes.taken);
-      read = all.goes.given;
-      history = all.goes.history;
-    }
-trades_at past unsent rest piece (Some old) None before there trades = absurd trades.2
-trades_at past unsent rest piece None new before there trades = absurd there
-
-record StartsAt (past : HistoryView) (end : Option (Option Served)) : Type 0 where
-  after : Served
-  there : IsThere end after
-  begins : BenchBegins past after
-
-starts_at : (past : HistoryView) (end : Option (Option Served)) → Begun (bench_end past) end → StartsAt past end
-starts_at past None begun = absurd begun
-starts_at past (Some None) begun = absurd begun
-starts_at past (Some (Some served)) begun = record { after = served; there = refl; begins = begun }
-
 -- ---- a bench is ready
 
-started_ready : (past : HistoryView) → IsReady (started past)
-started_ready past = record {
-  taken = taken_none (history_of past) (started past).taken (refl, (refl, (refl, (refl, (refl, (refl, (refl, (refl, tt))))))));
+started_ready : (history : HistoryView) → IsReady (started history)
+started_ready history = record {
+  taken = taken_none (history_of history) (started history).taken (refl, (refl, (refl, (refl, (refl, (refl, (refl, (refl, tt))))))));
   there = lit< tt;
   unwatched = λ opening. let e : Apart ≡ Opening = opening in cc;
 }
 
 -- ---- one deed
 
-module _ (A : Type 0) (past : HistoryView) where
+module _ (A : Type 0) (past : PastView) where
   abbrev Linked : Type 0
   Linked = Flow A (bench_end past)
 
   -- a bench beside a driver
   record Beside (flow : Linked) (served : Served) : Type 0 where
-    history : served.history ≡ past
+    history : served.history ≡ past.history
     there : flow.course.channel.is_open ≡ true → IsThere flow.known.end served
 
   record Befallen (old : Linked) (deed : Deed A) (new : Linked) (before : Served) : Type 0 where
@@ -199,29 +92,30 @@ module _ (A : Type 0) (past : HistoryView) where
       → Befallen old (Made (Noted now happens.Opened)) new before
   begins_so now old new before true is carries beside =
       let starts = starts_at past new.known.end (carries.1 is) in
+      let dialled = starts.begins in
       record {
-        after = starts.after;
+        after = dialled.after;
         befalls = (
-          starts.begins.before,
-          starts.begins.history ∙ sym beside.history,
-          starts.begins.server,
-          starts.begins.was_ready,
-          starts.begins.ready,
-          starts.begins.connects,
+          dialled.before,
+          dialled.left.0.1 ∙ sym beside.history,
+          0,
+          dialled.left.0.0,
+          dialled.ready,
+          dialled.connects,
         );
         beside = record {
-          history = ap (λ (s : Served). s.history) starts.begins.connects ∙ starts.begins.history;
+          history = ap (λ (s : Served). s.history) dialled.connects ∙ dialled.left.0.1;
           there = λ up. starts.there;
         };
       }
   begins_so now old new before false is carries beside = record {
-    after = bench.connected (started past) 0;
+    after = bench.connected (started past.history) 0;
     befalls = (
-      started past,
+      started past.history,
       sym beside.history,
       0,
-      started_ready past,
-      connected_ready (started past) (started_ready past),
+      started_ready past.history,
+      connected_ready (started past.history) (started_ready past.history),
       refl,
     );
     beside = record { history = refl; there = λ up. let e : true ≡ false = sym up ∙ is in cc };
@@ -328,19 +222,19 @@ module _ (A : Type 0) (past : HistoryView) where
       record { after = rest.after; meets = (one.after, one.benches, rest.meets); beside = rest.beside }
 
   -- it begins with no connection
-  beside_first : (style : Style) (most : ℕ) (first : Watched) → IsBegun style most first → Beside (flow_in first) (started past)
+  beside_first : (style : Style) (most : ℕ) (first : Watched) → IsBegun style most first → Beside (flow_in first) (started past.history)
   beside_first style most first begun = record {
     history = refl;
     there = λ up. let e : true ≡ false = sym up ∙ ap (λ (c : ChannelView). c.is_open) begun.channel in cc;
   }
 
   followed : (style : Style) (roots : List Text) (most : ℕ) (aims : List (Side × Text)) (first ready : Watched)
-      → IsBegun style most first → Prepares aims roots first ready → Ran (flow_in first) (flow_in ready) (started past)
+      → IsBegun style most first → Prepares aims roots first ready → Ran (flow_in first) (flow_in ready) (started past.history)
   followed style roots most aims first ready begun follows =
-      ran (flow_in first) (flow_in ready) (started past) (follows_run A (bench_end past) aims roots first ready follows)
+      ran (flow_in first) (flow_in ready) (started past.history) (follows_run A (bench_end past) aims roots first ready follows)
       (beside_first style most first begun)
 
-pub linked_watch_agrees : (A : Type 0) (past : HistoryView) → IsHistory (history_of past) → LinkedWatchAgrees A past
+pub linked_watch_agrees : (A : Type 0) (past : PastView) → IsHistory (history_of past.history) → LinkedWatchAgrees A past
 linked_watch_agrees A past is style roots most aims first text begun from =
     let follows = followed A past style roots most aims first from.ready begun from.follows in
     let prints = moved A past from.prints.moves from.ready from.last from.prints.does follows.after follows.beside in
@@ -348,13 +242,13 @@ linked_watch_agrees A past is style roots most aims first text begun from =
     subst (λ (h : HistoryView). AllCohere (history_of h) from.prints.moves from.ready from.last from.prints.does) same
     (watch_agrees A (bench_end past) ByDriver prints.after (prints_cohere A (bench_end past))
     (subst (λ (h : HistoryView). IsHistory (history_of h)) (sym same) is) style roots most aims first text begun from (record {
-      before = started past;
+      before = started past.history;
       ready = follows.after;
       follows = follows.benches;
       prints = prints.meets;
     }))
 
-pub linked_end_agrees : (A : Type 0) (past : HistoryView) → IsHistory (history_of past) → LinkedEndAgrees A past
+pub linked_end_agrees : (A : Type 0) (past : PastView) → IsHistory (history_of past.history) → LinkedEndAgrees A past
 linked_end_agrees A past is style roots most aims for_ms first text is_accepted begun from =
     let follows = followed A past style roots most aims first from.ready begun from.follows in
     let prints = moved A past from.over.prints.moves from.ready from.over.over from.over.prints.does follows.after follows.beside in
@@ -367,7 +261,7 @@ linked_end_agrees A past is style roots most aims for_ms first text is_accepted 
     (subst (λ (h : HistoryView). IsHistory (history_of h)) (sym same) is) style roots most aims for_ms first text
     is_accepted begun from
     (record {
-      before = started past;
+      before = started past.history;
       ready = follows.after;
       over = prints.after;
       follows = follows.benches;

@@ -11,7 +11,8 @@ ghost use Rattle.theory_shown.specs.Benched.{BenchesCohere, BenchesMeet, Benches
 ghost use Rattle.std.specs.Prelude.{◌≡◌, ◌≢◌, All, ℕ, List, true, false};
 ghost use Rattle.std.specs.Io.KnownBytes.{Appends};
 ghost use Rattle.shell_watch.specs.Watching.{aims_of};
-ghost use Rattle.zk_bench_dial.specs.Lines.{IsOver};
+ghost use Rattle.zk_bench.specs.Served.{Served};
+ghost use Rattle.zk_bench_dial.specs.Lines.{IsLeft, IsOver};
 ghost use Rattle.theory_shown.specs.Linked.{LinkedEndAgrees, LinkedWatchAgrees, PrintsPast, WatchesPast};
 ghost use Rattle.theory_shown.specs.Lived.{ByClient, ByKnown, LifeCoheres};
 ghost use Rattle.theory_shown.specs.Watched.{EndsCohere, PrintsCohere};
@@ -76,11 +77,12 @@ pub fn watches_agree<A: Allocator, S: Stream, B: Allocator + Copy>(bench: &Bench
     known_of(bench);
 }
 
-/// Over a dial whose streams say that a server in memory with this history is at their far end (`bench_end`), what `watch` prints agrees
-/// with the history, wherever pieces and cuts fall: nothing is premise of what a bench does beside the watch, since the streams say that.
+/// Over a dial whose streams say that servers in memory are at their far end, which go through this history (`bench_end`), what `watch`
+/// prints agrees with the history, wherever pieces and cuts fall: nothing is premise of what a bench does beside the watch, since the
+/// streams say that.
 pub fn linked_watches_agree<A: Allocator, B: Allocator + Copy>(bench: &Bench<B>)
-    ensures printed { LinkedWatchAgrees A bench.now.history }
-    ensures over { LinkedEndAgrees A bench.now.history }
+    ensures printed { (lines : List (Served × ℕ)) → LinkedWatchAgrees A (record { history = bench.now.history; lines = lines }) }
+    ensures over { (lines : List (Served × ℕ)) → LinkedEndAgrees A (record { history = bench.now.history; lines = lines }) }
 {
     known_of(bench);
 }
@@ -89,13 +91,13 @@ pub fn linked_watches_agree<A: Allocator, B: Allocator + Copy>(bench: &Bench<B>)
 fn watch_past<A: Allocator + Copy, K: Past, C: Clock + Drop, O: Write>(
     alloc: A,
     history: &History<A>,
-    benches: Vec<Bench<A>, A>,
+    lines: Vec<(Bench<A>, u64), A>,
     clock: C,
     plan: WatchPlan<'_, A>,
     out: &mut O,
 ) -> WatchEnd
-    requires past { history.now ≡ K.past }
-    requires over { All (IsOver K.past) benches.items }
+    requires past { history.now ≡ K.past.history }
+    requires left { All (IsLeft K.past) lines.items }
     ensures over { result ≡ WatchEnd.Over → (text : List ℕ) × WatchesPast A K.past plan.entry.style
         (aims_of plan.entry.subjects.items) plan.entry.trees.items plan.entry.most plan.entry.for_ms text true
         × Appends (O.contents out.old) (O.contents out.new) text }
@@ -107,32 +109,37 @@ fn watch_past<A: Allocator + Copy, K: Past, C: Clock + Drop, O: Write>(
         × Appends (O.contents out.old) (O.contents out.new) text }
 {
     history.last_zxid();
-    let dial: Benches<A, K> = Benches::of(benches);
+    let dial: Benches<A, K> = Benches::of(lines);
     watch(alloc, dial, clock, plan, out)
 }
 
-/// `watch` over servers in memory that it dials, all with this history: each good answer of the client of which it prints a line is what
-/// the history has at the last seen zxid in that line, wherever pieces and cuts fall. Nothing is premise of what they do beside it.
+/// `watch` over servers in memory that it dials, all with this history. Each goes through it: its server takes the next transaction
+/// wherever the watch has received all that came, and waits. After as many such waits as the number beside the bench says the connection
+/// is cut, and the next one is dialled. Each good answer of the client of which a line is printed is what the history has at the last seen
+/// zxid in that line, wherever pieces and cuts fall. Nothing is premise of what the servers do.
 pub fn watch_benches<A: Allocator + Copy, C: Clock + Drop, O: Write>(
     alloc: A,
     history: &History<A>,
-    benches: Vec<Bench<A>, A>,
+    lines: Vec<(Bench<A>, u64), A>,
     clock: C,
     plan: WatchPlan<'_, A>,
     out: &mut O,
 ) -> WatchEnd
-    requires { All (IsOver history.now) benches.items }
-    ensures over { result ≡ WatchEnd.Over → (text : List ℕ) × WatchesPast A history.now plan.entry.style
+    requires { All (λ line. IsOver history.now line.0) lines.items }
+    ensures over { result ≡ WatchEnd.Over
+        → (text : List ℕ) × WatchesPast A (record { history = history.now; lines = lines.items }) plan.entry.style
         (aims_of plan.entry.subjects.items) plan.entry.trees.items plan.entry.most plan.entry.for_ms text true
         × Appends (O.contents out.old) (O.contents out.new) text }
-    ensures never { result ≡ WatchEnd.NeverConnected → (text : List ℕ) × WatchesPast A history.now plan.entry.style
+    ensures never { result ≡ WatchEnd.NeverConnected
+        → (text : List ℕ) × WatchesPast A (record { history = history.now; lines = lines.items }) plan.entry.style
         (aims_of plan.entry.subjects.items) plan.entry.trees.items plan.entry.most plan.entry.for_ms text false
         × Appends (O.contents out.old) (O.contents out.new) text }
-    ensures printed { result ≢ WatchEnd.Stream → (text : List ℕ) × PrintsPast A history.now plan.entry.style
+    ensures printed { result ≢ WatchEnd.Stream
+        → (text : List ℕ) × PrintsPast A (record { history = history.now; lines = lines.items }) plan.entry.style
         (aims_of plan.entry.subjects.items) plan.entry.trees.items plan.entry.most text
         × Appends (O.contents out.old) (O.contents out.new) text }
 {
-    watch_past::<A, Brand, C, O>(alloc, history, benches, clock, plan, out)
+    watch_past::<A, Brand, C, O>(alloc, history, lines, clock, plan, out)
 }
 
 /// And so does what `live` prints: it is what a list of deeds of its client prints, and each good answer that this has after each of them,

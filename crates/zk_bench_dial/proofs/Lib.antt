@@ -3,3 +3,4 @@ pub mod Staying
 pub mod Acting
 pub mod Serving
 pub mod Passing
+pub mod Meeting

@@ -13,7 +13,7 @@ use Rattle.zk_bench.specs.Front.{IsFramed, IsFront, IsShort, IsWhole}
 use Rattle.zk_bench.specs.Served.{ended, is_open, Continues, Served}
 use Rattle.zk_bench.specs.Stepping.{shown_of, IsReady, ProcessesFirst}
 use Rattle.zk_bench.proofs.Stepped.{continues_so}
-use Rattle.zk_bench_dial.specs.BenchActs.{BenchGoes, ProcessesNext}
+use Rattle.zk_bench_dial.specs.BenchActs.{Answers, GoesBy, ProcessesNext}
 use Rattle.zk_bench_dial.proofs.Acting.{goes_next, goes_nowhere, goes_over}
 use Rattle.zk_bench_dial.proofs.Staying.{stays}
 
@@ -48,22 +48,22 @@ next old new count up whole framed ready is done = record {
 
 served_open : (front : Front) (old new : Served) → is_open old.connection.phase ≡ true → IsFront old.connection.requests front
     → IsFramed old.connection.requests front → IsReady old → IsHistory (history_of old.history) → Processed old new
-    → new.history ≡ old.history → BenchGoes old [] [] new
+    → new.history ≡ old.history → GoesBy Answers old [] [] new
 served_open Unfinished old new up stands framed ready is done same = goes_nowhere old new (done.waits stands)
 served_open Negative old new up stands framed ready is done same =
-    subst (λ (s : Served). BenchGoes old [] [] s) (sym (done.ends up stands)) (goes_over old)
+    subst (λ (s : Served). GoesBy Answers old [] [] s) (sym (done.ends up stands)) (goes_over old)
 served_open (Whole count) old new up stands framed ready is done same =
     goes_next old new (next old new count up stands framed ready is done) same
 
 served_so : (up : Bool) (front : Front) (old new : Served) → is_open old.connection.phase ≡ up → IsFront old.connection.requests front
     → IsFramed old.connection.requests front → IsReady old → IsHistory (history_of old.history) → Processed old new
-    → new.history ≡ old.history → BenchGoes old [] [] new
+    → new.history ≡ old.history → GoesBy Answers old [] [] new
 served_so true front old new up stands framed ready is done same = served_open front old new up stands framed ready is done same
 served_so false front old new up stands framed ready is done same = goes_nowhere old new (done.idle up)
 
 pub served : (front : Front) (old new : Served) → IsFront old.connection.requests front → IsFramed old.connection.requests front
     → IsReady old → IsHistory (history_of old.history) → IsHistory (history_of new.history) → Processed old new
-    → newest 0 new.history.transactions ≡ newest 0 old.history.transactions → BenchGoes old [] [] new
+    → newest 0 new.history.transactions ≡ newest 0 old.history.transactions → GoesBy Answers old [] [] new
 served front old new stands framed ready is later done last =
     served_so (is_open old.connection.phase) front old new refl stands framed ready is done
     (stays old.history new.history done.history later.rising last)

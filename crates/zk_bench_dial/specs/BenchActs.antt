@@ -1,17 +1,15 @@
--- What a server in memory does on a connection, by the clauses of `Bench`; and such a server as the far end of a connection.
-use Rattle.std.specs.Prelude.{◌≡◌, ◌<◌, ◌^◌, ◌⊎◌, ℕ, ℤ, true, false, List, [], ◌++◌, length, take, Option, Some, None}
+-- What a server in memory does on a connection, by the clauses of `Bench`.
+use Rattle.std.specs.Prelude.{◌≡◌, ◌<◌, ◌^◌, ◌⊎◌, ℕ, ℤ, true, false, List, ◌++◌, length, take}
 use Rattle.std.specs.List.{FoldsTo}
 use Rattle.zk_frames.specs.Frame.{frame}
-use Rattle.zk_link.specs.FarEnds.{FarEnd}
 use Rattle.zk_nodes.specs.History.{IsHistory}
-use Rattle.zk_history.specs.HistoryView.{history_of, HistoryView}
+use Rattle.zk_history.specs.HistoryView.{history_of}
 use Rattle.zk_laws.specs.Messages.{Request}
 use Rattle.theory_serving.specs.GoingOn.{GoesOn}
 use Rattle.theory_serving.specs.Wires.{IsFor, StandsFirst}
 use Rattle.zk_bench.specs.declared.phase.Phase.TheVariants.{Ended}
 use Rattle.zk_bench.specs.Served.{ended, is_open, with_requests, without_output, Served}
-use Rattle.zk_bench.specs.Served as bench
-use Rattle.zk_bench.specs.Stepping.{shown_of, IsReady, ProcessesFirst, TakesSome}
+use Rattle.zk_bench.specs.Stepping.{shown_of, ProcessesFirst, TakesSome}
 use Rattle.theory_drivers.specs.Acts.{given_in, taken_in, Act, Gives, Serves, Takes}
 
 -- ---- what a bench does while a connection is there
@@ -41,44 +39,23 @@ EndsHere old new =
     ⊎ ((old.connection.phase ≡ Ended) × (new.connection ≡ old.connection) × GoesOn (history_of old.history) (history_of new.history))
 
 -- Bytes come to it, and are lost where it has ended the connection (`ok`, `lost` of `Bench::receive`). The first bytes that it sent are
--- taken out (`bytes`, `rest` of `Bench::output`). Or it goes on.
-abbrev pub BenchDoes : Served → Act → Served → Type 0
-BenchDoes old (Takes bytes) new =
+-- taken out (`bytes`, `rest` of `Bench::output`). Or it answers.
+abbrev pub Answers : Served → Act → Served → Type 0
+Answers old (Takes bytes) new =
     (is_open old.connection.phase ≡ true → new ≡ with_requests old bytes) × (is_open old.connection.phase ≡ false → new ≡ old)
-BenchDoes old (Gives bytes) new = (most : ℕ) × (bytes ≡ take most old.connection.output) × (new ≡ without_output old most)
-BenchDoes old Serves new = Advances old new ⊎ (ProcessesNext old new ⊎ EndsHere old new)
+Answers old (Gives bytes) new = (most : ℕ) × (bytes ≡ take most old.connection.output) × (new ≡ without_output old most)
+Answers old Serves new = ProcessesNext old new ⊎ EndsHere old new
 
--- ---- a bench at the far end of a connection
+-- The same, or it takes transactions.
+abbrev pub BenchDoes : Served → Act → Served → Type 0
+BenchDoes old (Takes bytes) new = Answers old (Takes bytes) new
+BenchDoes old (Gives bytes) new = Answers old (Gives bytes) new
+BenchDoes old Serves new = Advances old new ⊎ Answers old Serves new
 
--- The bench does some of that, and its history stays. The stream takes these bytes, and gives those.
-pub record BenchGoes (old : Served) (took gave : List ℕ) (new : Served) : Type 0 where
+-- It does some of that, and its history stays. The stream takes these bytes, and gives those.
+pub record GoesBy (Does : Served → Act → Served → Type 0) (old : Served) (took gave : List ℕ) (new : Served) : Type 0 where
   pub acts : List Act
-  pub does : FoldsTo BenchDoes old acts new
+  pub does : FoldsTo Does old acts new
   pub taken : taken_in acts ≡ took
   pub given : given_in acts ≡ gave
   pub history : new.history ≡ old.history
-
--- So it goes on a connection, until it is over: after whatever the bench did until then the stream gives nothing, and what it takes is
--- lost.
-abbrev pub LineDoes : Option Served → (took gave : List ℕ) → Option Served → Type 0
-LineDoes (Some old) took gave (Some new) = BenchGoes old took gave new
-LineDoes (Some old) took gave None = (between : Served) × BenchGoes old took gave between
-LineDoes None took gave None = gave ≡ []
-LineDoes None took gave (Some new) = ⊥
-
--- It begins to a server of a bench with this history (`is`, `ready` of `Bench::connect`).
-pub record BenchBegins (past : HistoryView) (served : Served) : Type 0 where
-  pub before : Served
-  pub server : ℕ
-  pub history : before.history ≡ past
-  pub was_ready : IsReady before
-  pub ready : IsReady served
-  pub connects : served ≡ bench.connected before server
-
-abbrev pub LineBegins : HistoryView → Option Served → Type 0
-LineBegins past (Some served) = BenchBegins past served
-LineBegins past None = ⊥
-
--- The far end of each connection is a bench with this history, which stays as it is.
-abbrev pub bench_end : HistoryView → FarEnd
-bench_end past = record { State = Option Served; begins = LineBegins past; does = LineDoes }

@@ -2,7 +2,7 @@
 
 ghost use Rattle.std.specs.Prelude.{◌≡◌, All};
 ghost use Rattle.std.proofs.Props.{props};
-ghost use Rattle.zk_bench_dial.specs.Lines.{IsOver};
+ghost use Rattle.zk_bench_dial.specs.Lines.{IsLeft};
 
 use crate::line::{BenchStream, Past};
 use std::alloc::Allocator;
@@ -14,19 +14,20 @@ use zk_link::Dial;
 /// Benches over one history, one for each connection, whatever the address. Where none is left, none is made.
 #[derive(Drop)]
 pub struct Benches<A: Allocator + Copy, K: Past> {
-    benches: Vec<Bench<A>, A>,
+    lines: Vec<(Bench<A>, u64), A>,
     of: PhantomData<K>,
-    ghost are: { All (IsOver K.past) benches.items } by { Prim.hlevel props },
+    ghost are: { All (IsLeft K.past) lines.items } by { Prim.hlevel props },
 }
 
 impl<A: Allocator + Copy, K: Past> Benches<A, K> {
-    /// Over these, of which the last is dialled first.
-    pub fn of(benches: Vec<Bench<A>, A>) -> Benches<A, K>
-        requires { All (IsOver K.past) benches.items }
-        ensures { result.benches.items ≡ benches.items }
+    /// Over these, of which the last is dialled first. The number beside a bench is how often somebody waits for it, until the connection
+    /// is cut.
+    pub fn of(lines: Vec<(Bench<A>, u64), A>) -> Benches<A, K>
+        requires { All (IsLeft K.past) lines.items }
+        ensures { result.lines.items ≡ lines.items }
     {
         Benches {
-            benches,
+            lines,
             of: PhantomData,
         }
     }
@@ -37,12 +38,13 @@ impl<A: Allocator + Copy, K: Past> Dial for Benches<A, K> {
 
     /// Connects to the first server of the next bench.
     fn dial(&mut self, _address: &str, _within_ms: u64) -> io::Result<BenchStream<A, K>> {
-        let Some(mut bench) = self.benches.pop() else {
+        let Some((mut bench, waits)) = self.lines.pop() else {
             return Err(ErrorKind::ConnectionRefused.into());
         };
         bench.connect(1);
         Ok(BenchStream {
             bench: Some(bench),
+            waits,
             of: PhantomData,
         })
     }

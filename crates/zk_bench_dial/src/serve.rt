@@ -1,14 +1,16 @@
 //! How a bench takes bytes, answers, and gives bytes.
 
-ghost use Rattle.std.specs.Prelude.{◌≡◌, [], true, IfSome};
+ghost use Rattle.std.specs.Prelude.{◌≡◌, ◌<◌, [], true, None, IfErr, IfOk, IfSome, IsOk, IsSome};
 ghost use Rattle.std.specs.Io.{ReadsAtMost, WritesAtMost};
+ghost use Rattle.std_io.specs.IoError.{error_kind};
+ghost use Rattle.zk_bench.specs.Served.{is_open};
 ghost use Rattle.zk_bench.specs.Stepping.{IsReady};
 ghost use Rattle.zk_link.specs.FarEnds.{front_by};
-ghost use Rattle.zk_history.specs.HistoryView.{HistoryView};
-ghost use Rattle.zk_bench_dial.specs.BenchActs.{BenchGoes, LineDoes};
-ghost use Rattle.zk_bench_dial.specs.Lines.{IsOver};
+ghost use Rattle.zk_bench_dial.specs.BenchActs.{Answers, GoesBy};
+ghost use Rattle.zk_bench_dial.specs.Lines.{IsAnswering, IsIdle, IsUp, LineDoes, LineWaits};
 
-use std::alloc::Allocator;
+use crate::line::Past;
+use std::alloc::{AllocError, Allocator};
 use std::io::{self, ErrorKind};
 use zk_bench::Bench;
 
@@ -19,7 +21,8 @@ const REQUESTS: usize = 16;
 fn serve_one<A: Allocator + Copy>(bench: &mut Bench<A>) -> bool
     requires { IsReady bench.old }
     ensures ready { IsReady bench.new }
-    ensures goes { result ≡ true → BenchGoes bench.old [] [] bench.new }
+    ensures server { bench.new.server ≡ bench.old.server }
+    ensures goes { result ≡ true → GoesBy Answers bench.old [] [] bench.new }
 {
     let last = bench.history().last_zxid();
     let _front = bench.front();
@@ -34,7 +37,8 @@ fn serve_one<A: Allocator + Copy>(bench: &mut Bench<A>) -> bool
 fn serve<A: Allocator + Copy>(bench: &mut Bench<A>) -> bool
     requires { IsReady bench.old }
     ensures ready { IsReady bench.new }
-    ensures goes { result ≡ true → BenchGoes bench.old [] [] bench.new }
+    ensures server { bench.new.server ≡ bench.old.server }
+    ensures goes { result ≡ true → GoesBy Answers bench.old [] [] bench.new }
 {
     for _ in 0..REQUESTS {
         if !serve_one(bench) {
@@ -45,14 +49,14 @@ fn serve<A: Allocator + Copy>(bench: &mut Bench<A>) -> bool
 }
 
 /// Bytes go to a bench, which answers them. The line is over where memory runs out, and where the history is longer then.
-pub(crate) fn deliver<A: Allocator + Copy>(
+pub(crate) fn deliver<A: Allocator + Copy, K: Past>(
     line: &mut Option<Bench<A>>,
     bytes: &[u8],
 ) -> io::Result<usize>
-    requires { IfSome line.old IsReady }
+    requires { IfSome line.old (IsUp K.past) }
     ensures bound { WritesAtMost result bytes.now }
-    ensures does { LineDoes line.old (front_by result bytes.now) [] line.new }
-    ensures over { (past : HistoryView) → IfSome line.old (IsOver past) → IfSome line.new (IsOver past) }
+    ensures does { IsAnswering line.old (front_by result bytes.now) [] line.new }
+    ensures up { IfSome line.new (IsUp K.past) }
 {
     let Some(mut bench) = line.take() else {
         return Err(ErrorKind::BrokenPipe.into());
@@ -67,14 +71,54 @@ pub(crate) fn deliver<A: Allocator + Copy>(
     Ok(bytes.len())
 }
 
-/// The bytes that a bench sent, as many as there is room for. Where there are none, none come for now, or none any more.
-pub(crate) fn fetch<A: Allocator + Copy>(
+/// All that came was received, and somebody waits: the server takes the next transaction. After the last wait the connection is cut, and
+/// the line is over, as it is where memory runs out. Whether it is still there.
+fn wait<A: Allocator + Copy, K: Past>(
     line: &mut Option<Bench<A>>,
+    waits: &mut u64,
+) -> Result<bool, AllocError>
+    requires up { IfSome line.old (IsUp K.past) }
+    requires idle { IfSome line.old IsIdle }
+    ensures does { LineDoes (record { served = line.old; waits = waits.old }) [] [] (record { served = line.new; waits = waits.new }) }
+    ensures up { IfSome line.new (IsUp K.past) }
+    ensures takes { IfOk result (λ there. there ≡ true
+        → LineWaits (record { served = line.old; waits = waits.old }) [] [] (record { served = line.new; waits = waits.new })) }
+    ensures cut { IsOk result → IsSome line.old → line.new ≡ None → waits.old ≡ 0 }
+{
+    let Some(mut bench) = line.take() else {
+        return Ok(false);
+    };
+    if *waits == 0 {
+        return Ok(false);
+    }
+    bench.take(1)?;
+    *waits -= 1;
+    *line = Some(bench);
+    Ok(true)
+}
+
+/// Whether a bench has the connection, and had sent no byte more where there was room for some.
+fn is_idle<A: Allocator + Copy>(bench: &Bench<A>, count: usize, most: usize) -> bool
+    ensures { result ≡ true → (is_open bench.now.connection.phase ≡ true) × (count ≡ 0) × (0 < most) }
+{
+    count == 0 && most > 0 && bench.is_open()
+}
+
+/// The bytes that a bench sent, as many as there is room for. Where there are none, none come for now, or none any more.
+pub(crate) fn fetch<A: Allocator + Copy, K: Past>(
+    line: &mut Option<Bench<A>>,
+    waits: &mut u64,
     buf: &mut [u8],
 ) -> io::Result<usize>
+    requires { IfSome line.old (IsUp K.past) }
     ensures bound { ReadsAtMost result buf.new }
-    ensures does { LineDoes line.old [] (front_by result buf.new) line.new }
-    ensures over { (past : HistoryView) → IfSome line.old (IsOver past) → IfSome line.new (IsOver past) }
+    ensures does { LineDoes (record { served = line.old; waits = waits.old }) [] (front_by result buf.new)
+        (record { served = line.new; waits = waits.new }) }
+    ensures up { IfSome line.new (IsUp K.past) }
+    // Where nothing comes for now, its server has taken the next transaction; it is cut only after the last wait.
+    ensures takes { IfErr result (λ fault. error_kind fault ≡ ErrorKind.WouldBlock
+        → LineWaits (record { served = line.old; waits = waits.old }) [] [] (record { served = line.new; waits = waits.new })) }
+    ensures cut { IsOk result → IsSome line.old → line.new ≡ None → waits.old ≡ 0 }
 {
     let Some(bench) = line else {
         return Ok(0);
@@ -82,10 +126,14 @@ pub(crate) fn fetch<A: Allocator + Copy>(
     let Ok(bytes) = bench.output(buf.len()) else {
         return Err(ErrorKind::OutOfMemory.into());
     };
-    if bytes.is_empty() && bench.is_open() {
-        return Err(ErrorKind::WouldBlock.into());
-    }
     let count = bytes.len();
+    if is_idle(bench, count, buf.len()) {
+        return match wait::<A, K>(line, waits) {
+            Ok(true) => Err(ErrorKind::WouldBlock.into()),
+            Ok(false) => Ok(0),
+            Err(_) => Err(ErrorKind::OutOfMemory.into()),
+        };
+    }
     buf[..count].copy_from_slice(bytes.as_slice());
     Ok(count)
 }
