@@ -1,24 +1,23 @@
-/* A client of ZooKeeper as a machine: bytes, moments and calls go in, and bytes, answers and reports come out.
+/* A session of ZooKeeper as a machine: bytes, moments and calls go in, and bytes, answers and reports come out. It says which server is dialled
+ * and when, keeps what is followed good, has calls wait for a connection, and begins another session after an expiry.
  *
  * The library opens no socket, reads no clock, starts no thread, and no function of it waits. A program hands in what happened with
- * the moment at which it noticed it, takes the outputs of that step by dw_next, does what they say, and wakes at the latest at
- * dw_deadline.
- *
- * A dw_session is such a client with what most programs need besides: it says which server is dialled and when, keeps what is followed good, has
- * calls wait for a connection, and begins another session after an expiry. Its functions are the last ones here.
+ * the moment at which it noticed it, takes what that step says by dw_session_next, does it, and wakes at the latest at
+ * dw_session_deadline.
  *
  * Moments are milliseconds of a clock that does not go back, from any beginning; one below an earlier one counts as the earlier one.
  *
- * Who owns what: a dw_client owns its memory until dw_close, dw_open or dw_resume of the same handle, and a dw_session until dw_session_free,
- * dw_session_open or dw_session_resume. What is passed in is copied
- * within the call, and what comes out is written into the caller's own structs and buffers: no pointer crosses for longer than a call.
+ * Who owns what: a dw_session owns its memory until dw_session_free of the same handle, or until one of dw_session_open and dw_session_resume. What
+ * is passed in is copied within the call, and what comes out is written into the caller's own structs and buffers: no pointer crosses for longer than
+ * a call.
  *
- * What calls cost: a step copies what is passed in, and what of it is kept, once each; dw_next and the look-ups of numbers copy no
- * bytes, and the functions that copy bytes copy as many as are asked for. Memory is taken by steps, by dw_saved, dw_words and dw_peek_*.
+ * What calls cost: a step copies what is passed in, and what of it is kept, once each; dw_session_next and the look-ups of numbers copy no bytes, and
+ * the functions that copy bytes copy as many as are asked for. Memory is taken by steps, by dw_session_saved, _words, _names, _outputs and _peek_names,
+ * and by what is concluded from several answers.
  *
  * What the caller promises, and nothing checks:
- *   - a dw_client or dw_session is all zeros before its first use, and is written by this library alone; it may be moved, but an open one is never
- *     copied to be used twice;
+ *   - a dw_session is all zeros before its first use, and is written by this library alone; it may be moved, but an open one is never copied to be
+ *     used twice;
  *   - one call at a time uses a handle; it may go to another thread between two calls, where a lock or a join orders them;
  *   - no function is called from a signal handler, or from the forked child of a process with threads;
  *   - pointers are not null, also beside a length of 0, buffers have the length that is told, and what one call writes does not
@@ -29,9 +28,9 @@
  * What the library promises, and is proved of each function and of whoever used a handle by these functions alone, whatever comes in:
  *   - an answer that is marked good is what the servers' history has at the last seen zxid;
  *   - each watch is reported once at most, and the answer that it was left with is stale from then on;
- *   - a reply goes to the call that has waited longest, and each call is answered once, unless the client halts before;
+ *   - a reply goes to the call that has waited longest;
  *   - once the session has expired or is closed, nothing is kept or watched;
- *   - of a dw_session: each call is answered once or times out once, and each subject that is followed is kept good, or is being read, or its
+ *   - each call is answered once or times out once, and each subject that is followed is kept good, or is being read, or its
  *     turn has not come (960 others are being read, or 1,024 calls are on their way; no call is sent while it could be read), or its read was
  *     refused and is made again, or no server has accepted the connection;
  *   - each function returns, whatever bytes a server sends.
@@ -39,7 +38,7 @@
  * ahead of them; all of them on what the caller promises above, on the Rattle toolchain and on the C compiler.
  *
  * This is a header of C11 and of C++11. Paths and names are UTF-8 with a length, and no 0 is needed or written after them. An enum is named
- * by its tag, since dw_state is a function too; its numbers begin with its name, except those of enum dw_result. */
+ * by its tag; its numbers begin with its name, except those of enum dw_result. */
 #ifndef DIRWOLLEU_H
 #define DIRWOLLEU_H
 
@@ -68,10 +67,11 @@ enum dw_result DW_AS_INT32 {
   DW_OK = 0,
   DW_NONE = 1, /* there is none */
   DW_WAITS = 2, /* another session stands before this one */
-  DW_HALTED = -1, /* out of memory within the step: the client has no use any more, each later step answers the same, nothing
-                     is kept or watched. Its state, zxid and session can still be asked for: take dw_saved, and dw_resume. */
+  DW_HALTED = -1, /* out of memory within the step: the session has no use any more, each later step answers the same, nothing
+                     is kept or watched. Its state, zxid and saved bytes can still be asked for: take dw_session_saved, and
+                     dw_session_resume. */
   DW_NO_MEMORY = -2, /* no memory for what was given */
-  DW_CLOSED = -3, /* the handle holds no client */
+  DW_CLOSED = -3, /* the handle holds no session */
   DW_NOT_TEXT = -4, /* the path, or the scheme of a credential, is no UTF-8 */
   DW_NOT_PATH = -5, /* the text is no path of a node */
   DW_BAD_TIMEOUT = -6, /* the timeout is not above 0 */
@@ -86,14 +86,6 @@ enum dw_result DW_AS_INT32 {
 };
 
 /* A handle: zeros before its first use, which are {0} in C and {} in C++. Its fields are the library's own. */
-typedef struct dw_client {
-  bool is_open;
-  struct {
-    uint8_t *at;
-  } slot;
-} dw_client;
-
-/* The handle of a session, in the same way. */
 typedef struct dw_session {
   bool is_open;
   struct {
@@ -107,7 +99,7 @@ typedef struct dw_stat {
   int32_t version, cversion, aversion, data_length, num_children;
 } dw_stat;
 
-/* Kinds of outputs, of which those from DW_KIND_DIAL on are of a session alone, and states of a client. */
+/* Kinds of what is said at a step, and states of a session. */
 enum dw_kind DW_AS_INT32 {
   DW_KIND_SEND = 1,
   DW_KIND_ANSWER = 2,
@@ -197,17 +189,17 @@ enum dw_code DW_AS_INT32 {
   DW_CODE_SESSION_MOVED = -118
 };
 
-/* An output. A kind has the fields that it names; the others are 0, or in a union those of its kind.
+/* What is told at a step. A kind has the fields that it names; the others are 0, or in a union those of its kind.
  *   DW_KIND_SEND    the text is one frame: write it to the server.
  *   DW_KIND_ANSWER  to the call with this ticket. outcome DW_OUTCOME_REPLIED: a reply, with its zxid, and reply says what it brings:
  *                   DW_REPLY_CODE (code, the error of the server), DW_REPLY_STAT (stat), DW_REPLY_DATA (stat; the text, or is_null),
  *                   DW_REPLY_NAMES (stat, names), DW_REPLY_CREATED (the text is the path), DW_REPLY_DONE, DW_REPLY_RAW (the text is what stands
  *                   after the header of the reply). Another outcome: why there is no reply.
  *   DW_KIND_REPORT  what was known of a side of a path has ended: event, side; the text is the path.
- *   DW_KIND_STATE   state is the new one. With DW_STATE_EXPIRED and DW_STATE_CLOSED the connection is over: close it.
- *   DW_KIND_DROP    the connection is given up: close it. cause says why; DW_CAUSE_BEHIND has the zxid that came,
- *                   DW_CAUSE_WATCHES_REFUSED the code. The text is the code of the fault, as D1; dw_words has words.
- * A session says these too, and says by DW_KIND_HANG_UP alone that a connection is to be closed:
+ *   DW_KIND_STATE   state is the new one.
+ *   DW_KIND_DROP    the connection is given up. cause says why; DW_CAUSE_BEHIND has the zxid that came,
+ *                   DW_CAUSE_WATCHES_REFUSED the code. The text is the code of the fault, as D1; dw_session_words has words.
+ * That a connection is to be closed DW_KIND_HANG_UP alone says:
  *   DW_KIND_DIAL      connect to the address at this place of the caller's list, from 0 on; after within_ms milliseconds the attempt will be
  *                     given up. Hand in dw_session_opened, or dw_session_failed.
  *   DW_KIND_HANG_UP   close the connection, or give the attempt up. What of it was not yet written is forgotten, and nothing is handed in.
@@ -246,9 +238,9 @@ typedef struct dw_output {
     uint64_t within_ms; /* of a dial */
   };
   int64_t zxid;
-  size_t length; /* of the text, which dw_copy gives */
+  size_t length; /* of the text, which dw_session_copy gives */
   union {
-    size_t names; /* how many there are: dw_name gives each */
+    size_t names; /* how many there are: dw_session_name gives each */
     size_t place; /* of a dial, and of a credential */
     size_t tree; /* of a node of a tree */
   };
@@ -265,227 +257,8 @@ typedef struct dw_output {
  * library of one version. */
 uint32_t dw_version(void);
 
-/* Makes a client of no session yet, which asks for this timeout in milliseconds. What the handle held is freed first.
- * DW_OK, DW_BAD_TIMEOUT, DW_NO_MEMORY; where it is not DW_OK, the handle holds nothing. */
-enum dw_result dw_open(dw_client *handle, int32_t timeout_ms);
-
-/* The same, of the session that dw_saved put away, maybe in another process. Also DW_NOT_SAVED. */
-enum dw_result dw_resume(dw_client *handle, int32_t timeout_ms, const uint8_t *saved, size_t saved_length);
-
-/* Begins a new session with the client of a handle, which asks for this timeout in milliseconds: after DW_STATE_EXPIRED, DW_STATE_CLOSED
- * and DW_HALTED. It keeps the greatest zxid seen, so that no server which is behind it admits the session, and nothing else: nothing is
- * kept or watched, and no output is left. Close the connection of the old session before. DW_OK, DW_BAD_TIMEOUT, DW_NO_MEMORY, DW_CLOSED;
- * where it is not DW_OK, the handle is as it was. */
-enum dw_result dw_renew(dw_client *handle, int32_t timeout_ms);
-
-/* Frees the client of a handle, if it has one. It ends no session: dw_close_session does. */
-void dw_close(dw_client *handle);
-
-/* Steps: what happened, at a moment. Each forgets the outputs of the step before, whether they were read or not, and answers
- * DW_OK, DW_HALTED or DW_CLOSED, and what it says besides. */
-
-/* A connection begins. Hand in dw_cut before, where one is open still. */
-enum dw_result dw_opened(dw_client *handle, uint64_t now_ms);
-
-/* The connection is over. */
-enum dw_result dw_cut(dw_client *handle, uint64_t now_ms);
-
-/* A moment, and nothing else: at the latest at dw_deadline. */
-enum dw_result dw_tick(dw_client *handle, uint64_t now_ms);
-
-/* Bytes came from the server, in any pieces. Also DW_NO_MEMORY: no step was made, and the same bytes can be handed in again. */
-enum dw_result dw_bytes(dw_client *handle, uint64_t now_ms, const uint8_t *bytes, size_t length);
-
-/* Calls. The ticket is the caller's own number, and comes back with the answer, which is an output of this step or of a later one.
- * Each may also answer DW_NO_MEMORY, DW_NOT_TEXT, DW_NOT_PATH: no step was made. A watch asks to leave one on the path. */
-enum dw_result dw_exists(dw_client *handle, uint64_t now_ms, uint64_t ticket, const char *path, size_t path_length, bool watch);
-enum dw_result dw_get_data(dw_client *handle, uint64_t now_ms, uint64_t ticket, const char *path, size_t path_length, bool watch);
-enum dw_result dw_get_children(dw_client *handle, uint64_t now_ms, uint64_t ticket, const char *path, size_t path_length,
-                               bool watch);
-
-/* The data are null where is_null, whatever the bytes. Version -1 is any. */
-enum dw_result dw_set_data(dw_client *handle, uint64_t now_ms, uint64_t ticket, const char *path, size_t path_length,
-                           const uint8_t *bytes, size_t length, bool is_null, int32_t version);
-
-/* The mode is a sum: DW_MODE_EPHEMERAL where the node goes with the session, DW_MODE_SEQUENTIAL where a number of ten digits is added to
- * its name. Also DW_NO_SUCH_MODE. */
-enum dw_mode DW_AS_INT32 { DW_MODE_PERSISTENT = 0, DW_MODE_EPHEMERAL = 1, DW_MODE_SEQUENTIAL = 2 };
-
-enum dw_result dw_create(dw_client *handle, uint64_t now_ms, uint64_t ticket, const char *path, size_t path_length,
-                         const uint8_t *bytes, size_t length, bool is_null, uint32_t mode);
-enum dw_result dw_delete(dw_client *handle, uint64_t now_ms, uint64_t ticket, const char *path, size_t path_length,
-                         int32_t version);
-
-/* Ends the session. */
-enum dw_result dw_close_session(dw_client *handle, uint64_t now_ms, uint64_t ticket);
-
-/* Writes the next output of the last step. DW_OK, DW_NONE where all were told, DW_CLOSED; then out is as it was. */
-enum dw_result dw_next(dw_client *handle, dw_output *out);
-
-/* Copies the text of the output that was told last, from this place on, as much as there is room for; what of the room is not
- * needed stays as it was. Answers how many bytes the text has from there on, 0 for a closed handle. */
-size_t dw_copy(dw_client *handle, size_t from, void *out, size_t room);
-
-/* Copies the name of this index, from 0 on in the order of the reply, of the DW_REPLY_NAMES that was told last, as much as there is room
- * for. Answers how many bytes the name has: 0 where there is no such name, and for a closed handle. */
-size_t dw_name(dw_client *handle, size_t index, char *out, size_t room);
-
-/* Copies all names of the DW_REPLY_NAMES that was told last, in the order of the reply, as many bytes as there is room for, and writes how
- * many bytes there are: 0 where another output was told last. Each name stands after its length, as dw_peek_names spells it. It takes
- * memory for them too, within the call. DW_OK, DW_NO_MEMORY, DW_CLOSED; unless it answers DW_OK, the count is 0. */
-enum dw_result dw_names(dw_client *handle, uint8_t *out, size_t room, size_t *count);
-
-/* Writes why the connection is given up, in words, of the DW_KIND_DROP that was told last, as many bytes as there is room for, and how
- * many there are: 0 where another output was told last. DW_OK, DW_NO_MEMORY, DW_CLOSED; unless it answers DW_OK, the count is 0. */
-enum dw_result dw_words(dw_client *handle, char *out, size_t room, size_t *count);
-
-/* Look-ups. They take no step and leave the outputs. All serve after DW_HALTED, when nothing is kept. */
-
-/* The state, one of enum dw_state, or DW_CLOSED. */
-int32_t dw_state(dw_client *handle);
-
-/* A number that rises where what is kept good may have changed, or the state, or the session: by one at each step that told a reply, a report or
- * another state, at DW_HALTED, and at dw_renew. While it is the same, dw_subtree, dw_lacking, dw_snapshot and dw_holder answer the same of what is
- * good, so a program asks again only where it differs. dw_last_zxid may rise meanwhile. It is 1 after dw_open and dw_resume, and 0 for a closed
- * handle alone. */
-uint64_t dw_revision(dw_client *handle);
-
-/* The greatest zxid seen, not below 0, or DW_CLOSED. */
-int64_t dw_last_zxid(dw_client *handle);
-
-/* The timeout of the session in milliseconds: the one that a server granted last, or the one to ask for. Or DW_CLOSED. */
-int64_t dw_timeout_ms(dw_client *handle);
-
-/* Writes the first moment at which something is due, 0 where something is already. DW_OK, DW_NONE, DW_CLOSED; then 0 is written. */
-enum dw_result dw_deadline(dw_client *handle, uint64_t *first_ms);
-
-/* Writes the bytes from which dw_resume takes the session up, as many as there is room for, and how many there are: 20 and those
- * of the password, mostly 36. They are a secret: a long, the number of the session; a buffer, its password; a long, the greatest zxid
- * seen; in the spelling of zookeeper.jute. DW_OK, DW_NO_MEMORY, DW_CLOSED; unless it answers DW_OK, the count is 0. */
-enum dw_result dw_saved(dw_client *handle, uint8_t *out, size_t room, size_t *count);
-
-/* What is kept of a path that was read with a watch. It is good until a change is told, and then stale until it is read again. A
- * look-up of a path takes memory for the path, within the call. */
-enum dw_mark DW_AS_INT32 { DW_MARK_GOOD = 1, DW_MARK_STALE = 2 };
-enum dw_kept DW_AS_INT32 { DW_KEPT_NOTHING = 0, DW_KEPT_ABSENT = 1, DW_KEPT_KNOWN = 2, DW_KEPT_FULL = 3 };
-
-/* The fields of a node that change only where its data watch fires. */
-typedef struct dw_data_stat {
-  int64_t czxid, mzxid, ctime, mtime, ephemeral_owner;
-  int32_t version, data_length;
-} dw_data_stat;
-
-/* What is kept about the data of a path. What a kind does not name is 0.
- *   DW_KEPT_NOTHING  nothing is kept, and the mark is 0.
- *   DW_KEPT_ABSENT   no node is there (mark).
- *   DW_KEPT_KNOWN    a node whose data were not read (mark, stat).
- *   DW_KEPT_FULL     a node with its data (mark, stat, length or is_null). */
-typedef struct dw_kept_data {
-  enum dw_kept kind;
-  enum dw_mark mark;
-  size_t length;
-  bool is_null;
-  dw_data_stat stat;
-} dw_kept_data;
-
-/* What is kept about the children of a path: the mark, which is 0 where nothing is, how many names, and the zxid of the last change
- * of this set. */
-typedef struct dw_kept_names {
-  enum dw_mark mark;
-  size_t count;
-  int64_t pzxid;
-} dw_kept_names;
-
-/* Look-ups change nothing. So answers that are all marked good, looked up with no step between them, are of one moment of the servers'
- * history: that of dw_last_zxid. */
-
-/* Writes what is kept about the data of a path, and copies the data, as much as there is room for. DW_OK, DW_NO_MEMORY, DW_CLOSED,
- * DW_NOT_TEXT, DW_NOT_PATH; unless it answers DW_OK, nothing is written. */
-enum dw_result dw_peek_data(dw_client *handle, const char *path, size_t path_length, dw_kept_data *kept, uint8_t *out,
-                            size_t room);
-
-/* Writes what is kept about the children of a path. It answers what dw_peek_data does. */
-enum dw_result dw_peek_children(dw_client *handle, const char *path, size_t path_length, dw_kept_names *kept);
-
-/* Copies the name of this index, from 0 on in byte order, of those that are kept of a path, as much as there is room for, and
- * writes how many bytes it has: 0 where there is no such name. It goes over the names before it, so its time grows with the index.
- * It answers what dw_peek_data does; unless that is DW_OK, the count is 0. */
-enum dw_result dw_peek_name(dw_client *handle, const char *path, size_t path_length, size_t index, char *out, size_t room,
-                            size_t *count);
-
-/* Copies all names that are kept of a path, in byte order, as many bytes as there is room for, and writes how many bytes there are. Each
- * name stands after its length, which is four bytes, the highest first: so zookeeper.jute spells a ustring. It takes memory for them
- * too, within the call. It answers what dw_peek_data does; unless that is DW_OK, the count is 0. */
-enum dw_result dw_peek_names(dw_client *handle, const char *path, size_t path_length, uint8_t *out, size_t room, size_t *count);
-
-/* Copies all nodes at and below a path, as many bytes as there is room for, and writes how many bytes there are. It does so exactly where
- * the path, and each node that is reached from it through kept names, is kept good as DW_KEPT_FULL, its names are kept good, and each name
- * makes a path; and these are at most `most` nodes. Then they are the subtree of the servers' history at dw_last_zxid: each node is as it
- * is told, and no other one is there. Each stands after its parent, as zookeeper.jute spells these fields:
- *   ustring path; buffer data; long czxid, mzxid, ctime, mtime; int version; long ephemeralOwner; int dataLength; long pzxid;
- * It takes memory for them too, within the call. Where there was too little room, give more and call again: with no step between it tells
- * the same. DW_OK, and what dw_peek_data answers; DW_NOT_WHOLE: read what dw_lacking tells, with a watch, and ask again; DW_TOO_MANY: more
- * nodes than that are reached. Unless it answers DW_OK, the count is 0. */
-enum dw_result dw_subtree(dw_client *handle, const char *path, size_t path_length, size_t most, uint8_t *out, size_t room,
-                          size_t *count);
-
-/* Copies the reads that are still lacking before dw_subtree tells the nodes at and below a path, as it does: of all nodes that good names
- * lead to, those whose data are not kept good as DW_KEPT_FULL, and then those whose names are not kept good. There is none exactly where
- * dw_subtree answers DW_OK. Each is spelled as `ustring path; int side`, with DW_SIDE_DATA for dw_get_data and DW_SIDE_CHILDREN for
- * dw_get_children. All can be asked at once, with a watch; what lies below the names shows when these are there. Of a path without a node
- * the data are lacking for as long as there is none. DW_OK, and what dw_peek_data answers; DW_NOT_WHOLE: a name makes no path, so no read
- * helps; DW_TOO_MANY. Unless it answers DW_OK, the count is 0. */
-enum dw_result dw_lacking(dw_client *handle, const char *path, size_t path_length, size_t most, uint8_t *out, size_t room,
-                          size_t *count);
-
-/* Copies what is kept of several paths, all of it of one moment, as many bytes as there is room for, and writes how many bytes there are. The
- * nodes and the parents are paths, each after its length, as dw_peek_names spells names; there may be none of either. It does so exactly where
- * what is kept of the data of each node, and of the names below each parent, is marked good. Then all of it is what the servers' history has at
- * dw_last_zxid. The nodes come first, in their order, as zookeeper.jute spells these fields:
- *   ustring path; int kind; buffer data; long czxid, mzxid, ctime, mtime; int version; long ephemeralOwner; int dataLength;
- * The kind is one of enum dw_kept. Of DW_KEPT_ABSENT, which says that no node is there, the data are null and the numbers 0; of DW_KEPT_KNOWN,
- * which dw_exists leaves, the data are null. Then come the parents, in their order, with the names as dw_peek_names tells them:
- *   ustring path; buffer names; long pzxid;
- * It takes memory for them too, within the call. Where there was too little room, give more and call again: with no step between it tells
- * the same. DW_OK; DW_NOT_WHOLE: read again, with a watch, what is not kept good, and ask again; DW_NOT_PATH where one of them is no path,
- * DW_NOT_TEXTS where they are not spelled so, DW_NO_MEMORY, DW_CLOSED. Unless it answers DW_OK, the count is 0. */
-enum dw_result dw_snapshot(dw_client *handle, const uint8_t *nodes, size_t nodes_length, const uint8_t *parents,
-                           size_t parents_length, uint8_t *out, size_t room, size_t *count);
-
-/* Tells whether the session stands first in a directory by its node of this name: for locks and elections whose nodes are sequential ones. The
- * names are those of a dw_get_children of the directory, asked without a watch after the node was made, as dw_names copies them; `listed` is the
- * zxid of that answer. A name counts where it ends in ten digits, right after a marker: the markers, spelled as names are, are that of its
- * kind, and then those of its rivals, as `lock-`, `lock-`. The smaller number is before the greater one.
- *   DW_OK     it stands first at dw_last_zxid, where numbers rise with creation, and stays so while what is kept of its node is good. The
- *             token is written, which is the node's czxid: whoever the lock protects refuses a smaller one than it has seen. So it is where
- *             the node's data, or that it exists, are kept good and its owner is this session; no listed rival is before it; and the listing
- *             is neither older than the node nor newer than dw_last_zxid.
- *   DW_WAITS  the last rival before it is this one, whose name is copied, as many bytes as there is room for, with their count: watch that
- *             node alone, by dw_exists, and list again when it is gone.
- *   DW_NONE   neither is so: read its node with a watch, or list again.
- * Also DW_NO_MEMORY, DW_CLOSED, DW_NOT_TEXT, DW_NOT_PATH, and DW_NOT_TEXTS where names or markers are not spelled so, or there is no marker.
- * The token is 0 unless it answers DW_OK, and the count unless it answers DW_WAITS. */
-enum dw_result dw_standing(dw_client *handle, const char *directory, size_t directory_length, const char *name,
-                           size_t name_length, const uint8_t *names, size_t names_length, int64_t listed, const uint8_t *markers,
-                           size_t markers_length, int64_t *token, char *out, size_t room, size_t *count);
-
-/* Tells whether the session holds the first place in a directory by the node of this path: of the names there that begin with the prefix, that
- * of its node is the first in byte order. With names of sequential nodes that is the order in which they were made. Where several markers are
- * among the names, or no watch is to be left at the directory, dw_standing serves.
- *   DW_OK     it holds at dw_last_zxid, and no other session does. The token is written, which is the node's czxid: whoever the lock protects
- *             refuses a smaller one than it has seen. So it is exactly where the names below the directory are kept good; the path lies right
- *             below it, its name begins with the prefix, and none of these names that does is before it; and the node's data, or that it
- *             exists, are kept good and its owner is this session.
- *   DW_NONE   it is not shown: read the names and the node with a watch, or wait.
- * Also DW_NO_MEMORY, DW_CLOSED, DW_NOT_TEXT, also where the prefix is none, and DW_NOT_PATH. The token is 0 unless it answers DW_OK. */
-enum dw_result dw_holder(dw_client *handle, const char *directory, size_t directory_length, const char *prefix,
-                         size_t prefix_length, const char *path, size_t path_length, int64_t *token);
-
-/* Forgets all stale answers. It takes no memory, and leaves the outputs. DW_OK, DW_CLOSED. */
-enum dw_result dw_forget(dw_client *handle);
-
-/* A session: a client with its dialling, its subjects and its calls. A program has sockets, a clock, and a list of addresses, and decides nothing:
- * it hands in what happens, does what dw_session_next tells, and wakes at the latest at dw_session_deadline.
+/* A program has sockets, a clock, and a list of addresses, and decides nothing: it hands in what happens, does what dw_session_next tells, and wakes
+ * at the latest at dw_session_deadline.
  *   while (dw_session_next(&session, &action) == DW_OK)
  *     switch (action.kind) {
  *     case DW_KIND_DIAL: begin_connection(addresses[action.place]); break;
@@ -500,7 +273,7 @@ enum dw_result dw_forget(dw_client *handle);
  * first. DW_OK, DW_BAD_TIMEOUT, DW_NO_MEMORY; where it is not DW_OK, the handle holds nothing. */
 enum dw_result dw_session_open(dw_session *handle, int32_t timeout_ms, size_t addresses, uint64_t seed);
 
-/* The same, which first takes up the session that dw_session_saved or dw_saved put away. Also DW_NOT_SAVED. */
+/* The same, which first takes up the session that dw_session_saved put away, maybe in another process. Also DW_NOT_SAVED. */
 enum dw_result dw_session_resume(dw_session *handle, int32_t timeout_ms, size_t addresses, uint64_t seed, const uint8_t *saved,
                                  size_t saved_length);
 
@@ -551,11 +324,14 @@ enum dw_result dw_session_get_data(dw_session *handle, uint64_t now_ms, uint64_t
 enum dw_result dw_session_get_children(dw_session *handle, uint64_t now_ms, uint64_t ticket, uint64_t until_ms, const char *path,
                                        size_t path_length, bool watch);
 
-/* As dw_set_data. */
+/* The data are null where is_null, whatever the bytes. Version -1 is any. */
 enum dw_result dw_session_set_data(dw_session *handle, uint64_t now_ms, uint64_t ticket, uint64_t until_ms, const char *path,
                                    size_t path_length, const uint8_t *bytes, size_t length, bool is_null, int32_t version);
 
-/* As dw_create. Also DW_NO_SUCH_MODE. */
+/* The mode is a sum: DW_MODE_EPHEMERAL where the node goes with the session, DW_MODE_SEQUENTIAL where a number of ten digits is added to
+ * its name. Also DW_NO_SUCH_MODE. */
+enum dw_mode DW_AS_INT32 { DW_MODE_PERSISTENT = 0, DW_MODE_EPHEMERAL = 1, DW_MODE_SEQUENTIAL = 2 };
+
 enum dw_result dw_session_create(dw_session *handle, uint64_t now_ms, uint64_t ticket, uint64_t until_ms, const char *path,
                                  size_t path_length, const uint8_t *bytes, size_t length, bool is_null, uint32_t mode);
 enum dw_result dw_session_delete(dw_session *handle, uint64_t now_ms, uint64_t ticket, uint64_t until_ms, const char *path,
@@ -623,10 +399,21 @@ enum dw_result dw_session_unfollow_tree(dw_session *handle, uint64_t now_ms, uin
 /* Writes what is told next of the last step. DW_OK, DW_NONE where all was told, DW_CLOSED; then out is as it was. */
 enum dw_result dw_session_next(dw_session *handle, dw_output *out);
 
-/* These give the text, the names and the words of what was told last, as dw_copy, dw_name, dw_names and dw_words do. */
+/* Copies the text of what was told last, from this place on, as much as there is room for; what of the room is not
+ * needed stays as it was. Answers how many bytes the text has from there on, 0 for a closed handle. */
 size_t dw_session_copy(dw_session *handle, size_t from, void *out, size_t room);
+
+/* Copies the name of this index, from 0 on in the order of the reply, of the DW_REPLY_NAMES that was told last, as much as there is room
+ * for. Answers how many bytes the name has: 0 where there is no such name, and for a closed handle. */
 size_t dw_session_name(dw_session *handle, size_t index, char *out, size_t room);
+
+/* Copies all names of the DW_REPLY_NAMES that was told last, in the order of the reply, as many bytes as there is room for, and writes how
+ * many bytes there are: 0 where something else was told last. Each name stands after its length, as dw_session_peek_names spells it. It takes
+ * memory for them too, within the call. DW_OK, DW_NO_MEMORY, DW_CLOSED; unless it answers DW_OK, the count is 0. */
 enum dw_result dw_session_names(dw_session *handle, uint8_t *out, size_t room, size_t *count);
+
+/* Writes why the connection is given up, in words, of the DW_KIND_DROP that was told last, as many bytes as there is room for, and how
+ * many there are: 0 where something else was told last. DW_OK, DW_NO_MEMORY, DW_CLOSED; unless it answers DW_OK, the count is 0. */
 enum dw_result dw_session_words(dw_session *handle, char *out, size_t room, size_t *count);
 
 /* Writes all that waits to be told of the last step, in the order in which dw_session_next tells it, and how many bytes that is. It does so exactly
@@ -638,40 +425,152 @@ enum dw_result dw_session_words(dw_session *handle, char *out, size_t room, size
  * nothing is written or told. */
 enum dw_result dw_session_outputs(dw_session *handle, uint8_t *out, size_t room, size_t *count);
 
-/* Look-ups of a session. They take no step and leave what it said, and tell what those of a client with their names do. */
+/* Look-ups. They take no step and leave what was said. All serve after DW_HALTED, when nothing is kept. */
 
+/* The state, one of enum dw_session_state, or DW_CLOSED. */
 int32_t dw_session_state(dw_session *handle);
 
-/* That of a session rises by one at each step to which bytes came or which told another state or DW_KIND_RENEWED, and at DW_HALTED: what its client
- * keeps changes with these alone. So it rises with the reply to a ping too. It is 1 after dw_session_open and dw_session_resume. */
+/* A number that rises where what is kept good may have changed, or the state, or the session: by one at each step to which bytes came or which told
+ * another state or DW_KIND_RENEWED, and at DW_HALTED. So it rises with the reply to a ping too. While it is the same, dw_session_subtree, _lacking,
+ * _snapshot and _holder answer the same of what is good, so a program asks again only where it differs. dw_session_last_zxid rises with bytes alone. It is 1
+ * after dw_session_open and dw_session_resume, and 0 for a closed handle alone. */
 uint64_t dw_session_revision(dw_session *handle);
+
+/* The greatest zxid seen, not below 0, or DW_CLOSED. */
 int64_t dw_session_last_zxid(dw_session *handle);
+
+/* The timeout of the session in milliseconds: the one that a server granted last, or the one to ask for. Or DW_CLOSED. */
 int64_t dw_session_timeout_ms(dw_session *handle);
 
-/* Writes the first moment at which something is due: a ping, the end of an attempt, a dial, a read, a limit, a tree that is to be tended. */
+/* Writes the first moment at which something is due: a ping, the end of an attempt, a dial, a read, a limit, a tree that is to be tended. It may be
+ * past. DW_OK, DW_NONE where nothing will be due, DW_CLOSED; then 0 is written. */
 enum dw_result dw_session_deadline(dw_session *handle, uint64_t *first_ms);
 
 /* Writes the moment at which the server was heard last, on any connection. What is kept and good was so at some moment from then on, or was
  * reported after it. DW_OK, DW_NONE where it was not heard yet, DW_CLOSED; then 0 is written. */
 enum dw_result dw_session_heard_at(dw_session *handle, uint64_t *moment_ms);
+
+/* Writes the bytes from which dw_session_resume takes the session up, as many as there is room for, and how many there are: 20 and those
+ * of the password, mostly 36. They are a secret: a long, the number of the session; a buffer, its password; a long, the greatest zxid
+ * seen; in the spelling of zookeeper.jute. DW_OK, DW_NO_MEMORY, DW_CLOSED; unless it answers DW_OK, the count is 0. */
 enum dw_result dw_session_saved(dw_session *handle, uint8_t *out, size_t room, size_t *count);
+
+/* What is kept of a path that was read with a watch. It is good until a change is told, and then stale until it is read again. A
+ * look-up of a path takes memory for the path, within the call. */
+enum dw_mark DW_AS_INT32 { DW_MARK_GOOD = 1, DW_MARK_STALE = 2 };
+enum dw_kept DW_AS_INT32 { DW_KEPT_NOTHING = 0, DW_KEPT_ABSENT = 1, DW_KEPT_KNOWN = 2, DW_KEPT_FULL = 3 };
+
+/* The fields of a node that change only where its data watch fires. */
+typedef struct dw_data_stat {
+  int64_t czxid, mzxid, ctime, mtime, ephemeral_owner;
+  int32_t version, data_length;
+} dw_data_stat;
+
+/* What is kept about the data of a path. What a kind does not name is 0.
+ *   DW_KEPT_NOTHING  nothing is kept, and the mark is 0.
+ *   DW_KEPT_ABSENT   no node is there (mark).
+ *   DW_KEPT_KNOWN    a node whose data were not read (mark, stat).
+ *   DW_KEPT_FULL     a node with its data (mark, stat, length or is_null). */
+typedef struct dw_kept_data {
+  enum dw_kept kind;
+  enum dw_mark mark;
+  size_t length;
+  bool is_null;
+  dw_data_stat stat;
+} dw_kept_data;
+
+/* What is kept about the children of a path: the mark, which is 0 where nothing is, how many names, and the zxid of the last change
+ * of this set. */
+typedef struct dw_kept_names {
+  enum dw_mark mark;
+  size_t count;
+  int64_t pzxid;
+} dw_kept_names;
+
+/* Look-ups change nothing. So answers that are all marked good, looked up with no step between them, are of one moment of the servers'
+ * history: that of dw_session_last_zxid. */
+
+/* Writes what is kept about the data of a path, and copies the data, as much as there is room for. DW_OK, DW_NO_MEMORY, DW_CLOSED,
+ * DW_NOT_TEXT, DW_NOT_PATH; unless it answers DW_OK, nothing is written. */
 enum dw_result dw_session_peek_data(dw_session *handle, const char *path, size_t path_length, dw_kept_data *kept, uint8_t *out,
                                     size_t room);
+
+/* Writes what is kept about the children of a path. It answers what dw_session_peek_data does. */
 enum dw_result dw_session_peek_children(dw_session *handle, const char *path, size_t path_length, dw_kept_names *kept);
+
+/* Copies the name of this index, from 0 on in byte order, of those that are kept of a path, as much as there is room for, and
+ * writes how many bytes it has: 0 where there is no such name. It goes over the names before it, so its time grows with the index.
+ * It answers what dw_session_peek_data does; unless that is DW_OK, the count is 0. */
 enum dw_result dw_session_peek_name(dw_session *handle, const char *path, size_t path_length, size_t index, char *out,
                                     size_t room, size_t *count);
+
+/* Copies all names that are kept of a path, in byte order, as many bytes as there is room for, and writes how many bytes there are. Each
+ * name stands after its length, which is four bytes, the highest first: so zookeeper.jute spells a ustring. It takes memory for them
+ * too, within the call. It answers what dw_session_peek_data does; unless that is DW_OK, the count is 0. */
 enum dw_result dw_session_peek_names(dw_session *handle, const char *path, size_t path_length, uint8_t *out, size_t room,
                                      size_t *count);
+
+/* Copies all nodes at and below a path, as many bytes as there is room for, and writes how many bytes there are. It does so exactly where
+ * the path, and each node that is reached from it through kept names, is kept good as DW_KEPT_FULL, its names are kept good, and each name
+ * makes a path; and these are at most `most` nodes. Then they are the subtree of the servers' history at dw_session_last_zxid: each node is as it
+ * is told, and no other one is there. Each stands after its parent, as zookeeper.jute spells these fields:
+ *   ustring path; buffer data; long czxid, mzxid, ctime, mtime; int version; long ephemeralOwner; int dataLength; long pzxid;
+ * It takes memory for them too, within the call. Where there was too little room, give more and call again: with no step between it tells
+ * the same. DW_OK, and what dw_session_peek_data answers; DW_NOT_WHOLE: read what dw_session_lacking tells, with a watch, and ask again; DW_TOO_MANY: more
+ * nodes than that are reached. Unless it answers DW_OK, the count is 0. */
 enum dw_result dw_session_subtree(dw_session *handle, const char *path, size_t path_length, size_t most, uint8_t *out,
                                   size_t room, size_t *count);
+
+/* Copies the reads that are still lacking before dw_session_subtree tells the nodes at and below a path, as it does: of all nodes that good names
+ * lead to, those whose data are not kept good as DW_KEPT_FULL, and then those whose names are not kept good. There is none exactly where
+ * dw_session_subtree answers DW_OK. Each is spelled as `ustring path; int side`, with DW_SIDE_DATA for dw_session_get_data and DW_SIDE_CHILDREN for
+ * dw_session_get_children. All can be asked at once, with a watch; what lies below the names shows when these are there. Of a path without a node
+ * the data are lacking for as long as there is none. DW_OK, and what dw_session_peek_data answers; DW_NOT_WHOLE: a name makes no path, so no read
+ * helps; DW_TOO_MANY. Unless it answers DW_OK, the count is 0. */
 enum dw_result dw_session_lacking(dw_session *handle, const char *path, size_t path_length, size_t most, uint8_t *out,
                                   size_t room, size_t *count);
+
+/* Copies what is kept of several paths, all of it of one moment, as many bytes as there is room for, and writes how many bytes there are. The
+ * nodes and the parents are paths, each after its length, as dw_session_peek_names spells names; there may be none of either. It does so exactly where
+ * what is kept of the data of each node, and of the names below each parent, is marked good. Then all of it is what the servers' history has at
+ * dw_session_last_zxid. The nodes come first, in their order, as zookeeper.jute spells these fields:
+ *   ustring path; int kind; buffer data; long czxid, mzxid, ctime, mtime; int version; long ephemeralOwner; int dataLength;
+ * The kind is one of enum dw_kept. Of DW_KEPT_ABSENT, which says that no node is there, the data are null and the numbers 0; of DW_KEPT_KNOWN,
+ * which dw_session_exists leaves, the data are null. Then come the parents, in their order, with the names as dw_session_peek_names tells them:
+ *   ustring path; buffer names; long pzxid;
+ * It takes memory for them too, within the call. Where there was too little room, give more and call again: with no step between it tells
+ * the same. DW_OK; DW_NOT_WHOLE: read again, with a watch, what is not kept good, and ask again; DW_NOT_PATH where one of them is no path,
+ * DW_NOT_TEXTS where they are not spelled so, DW_NO_MEMORY, DW_CLOSED. Unless it answers DW_OK, the count is 0. */
 enum dw_result dw_session_snapshot(dw_session *handle, const uint8_t *nodes, size_t nodes_length, const uint8_t *parents,
                                    size_t parents_length, uint8_t *out, size_t room, size_t *count);
+
+/* Tells whether the session stands first in a directory by its node of this name: for locks and elections whose nodes are sequential ones. The
+ * names are those of a dw_session_get_children of the directory, asked without a watch after the node was made, as dw_session_names copies them; `listed` is the
+ * zxid of that answer. A name counts where it ends in ten digits, right after a marker: the markers, spelled as names are, are that of its
+ * kind, and then those of its rivals, as `lock-`, `lock-`. The smaller number is before the greater one.
+ *   DW_OK     it stands first at dw_session_last_zxid, where numbers rise with creation, and stays so while what is kept of its node is good. The
+ *             token is written, which is the node's czxid: whoever the lock protects refuses a smaller one than it has seen. So it is where
+ *             the node's data, or that it exists, are kept good and its owner is this session; no listed rival is before it; and the listing
+ *             is neither older than the node nor newer than dw_session_last_zxid.
+ *   DW_WAITS  the last rival before it is this one, whose name is copied, as many bytes as there is room for, with their count: watch that
+ *             node alone, by dw_session_exists, and list again when it is gone.
+ *   DW_NONE   neither is so: read its node with a watch, or list again.
+ * Also DW_NO_MEMORY, DW_CLOSED, DW_NOT_TEXT, DW_NOT_PATH, and DW_NOT_TEXTS where names or markers are not spelled so, or there is no marker.
+ * The token is 0 unless it answers DW_OK, and the count unless it answers DW_WAITS. */
 enum dw_result dw_session_standing(dw_session *handle, const char *directory, size_t directory_length, const char *name,
                                    size_t name_length, const uint8_t *names, size_t names_length, int64_t listed,
                                    const uint8_t *markers, size_t markers_length, int64_t *token, char *out, size_t room,
                                    size_t *count);
+
+/* Tells whether the session holds the first place in a directory by the node of this path: of the names there that begin with the prefix, that
+ * of its node is the first in byte order. With names of sequential nodes that is the order in which they were made. Where several markers are
+ * among the names, or no watch is to be left at the directory, dw_session_standing serves.
+ *   DW_OK     it holds at dw_session_last_zxid, and no other session does. The token is written, which is the node's czxid: whoever the lock protects
+ *             refuses a smaller one than it has seen. So it is exactly where the names below the directory are kept good; the path lies right
+ *             below it, its name begins with the prefix, and none of these names that does is before it; and the node's data, or that it
+ *             exists, are kept good and its owner is this session.
+ *   DW_NONE   it is not shown: read the names and the node with a watch, or wait.
+ * Also DW_NO_MEMORY, DW_CLOSED, DW_NOT_TEXT, also where the prefix is none, and DW_NOT_PATH. The token is 0 unless it answers DW_OK. */
 enum dw_result dw_session_holder(dw_session *handle, const char *directory, size_t directory_length, const char *prefix,
                                  size_t prefix_length, const char *path, size_t path_length, int64_t *token);
 
@@ -688,7 +587,7 @@ static inline const char *dw_result_words(enum dw_result result) {
   case DW_WAITS: return "another session stands before this one";
   case DW_HALTED: return "out of memory within a step";
   case DW_NO_MEMORY: return "out of memory";
-  case DW_CLOSED: return "the handle holds no client";
+  case DW_CLOSED: return "the handle holds no session";
   case DW_NOT_TEXT: return "the path is no UTF-8";
   case DW_NOT_PATH: return "the text is no path";
   case DW_BAD_TIMEOUT: return "the timeout is not 1 to 2147483647 milliseconds";

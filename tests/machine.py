@@ -1,4 +1,4 @@
-"""A client and a session of the library as a program in C has them, and the server in memory of one session, by ctypes."""
+"""A session of the library as a program in C has it, and the server in memory of one session, by ctypes."""
 
 from __future__ import annotations
 
@@ -40,19 +40,16 @@ class Server(bench.Bench):
 
 
 class Handle:
-    """A handle of the library: a dw_client by `dw_`, a dw_session by `dw_session_`."""
+    """A handle of the library: a dw_session."""
 
-    def __init__(self, prefix: str) -> None:
-        self._prefix, self._handle = prefix, declared._Handle()
+    def __init__(self) -> None:
+        self._handle = declared._Handle()
 
     def call(self, name: str, *words: Any) -> int:
-        """Calls the function of this name with these parameters, in which bytes stand before their length. A function that Python's client does not
-        declare, as those of a dw_client, gets each number in eight bytes, of which it reads those that its type has."""
-        function, spelled = getattr(declared._library, self._prefix + name), list[Any]()
+        """Calls the function of this name with these parameters, in which bytes stand before their length."""
+        function, spelled = getattr(declared._library, "dw_session_" + name), list[Any]()
         for word in words:
             spelled += [word, len(word)] if isinstance(word, bytes) else [word]
-        if function.argtypes is None:
-            spelled = [c_uint64(word) if isinstance(word, int) else word for word in spelled]
         return int(function(byref(self._handle), *spelled))
 
     def outputs(self) -> Iterator[declared._Output]:

@@ -1,4 +1,4 @@
-"""A client and a session of the C library against the proved server in memory, by the rows of machine/: each number and text that a program gets.
+"""A session of the C library against the proved server in memory, by the rows of machine/: each number and text that a program gets.
 
 Steps have the names of include/dirwolleu.h. The wanted lines follow from the header and zookeeper.jute; a field that a kind does not name is 0.
 """
@@ -26,7 +26,7 @@ from dirwolleu import _library as declared  # machine has put it on the path
 
 TIMEOUT_MS = 9_000
 APART_MS = 100
-"""From one step of a client to the next: no ping is due in the session."""
+"""From one step to the next where rows have no moment: no ping is due in the session."""
 LONGEST_PIECE = 64
 WHOLE = 1 << 16
 MOST_TURNS = 1_000
@@ -50,13 +50,14 @@ def copied_lines(name: str, copied: tuple[int, int, bytes]) -> list[str]:
     return said_number(name, result) if result else [f"{name} {count} {list(written)}"]
 
 
-class ClientPlay:
-    """A dw_client with its server. A step is a row; calls leave a watch, and have the moment as their ticket."""
+class KeptPlay:
+    """A session with its server. A step is a row; calls leave a watch, wait without a limit, and have the moment as their ticket."""
 
     def __init__(self, piece: int) -> None:
         self._piece, self._now = piece, 0
-        self._client, self._server = Handle("dw_"), Server()
-        self._client.call("open", TIMEOUT_MS)
+        self._session, self._server = Handle(), Server()
+        self._session.call("open", TIMEOUT_MS, 1, 1)
+        self._session.call("moment", 0)
 
     def play(self, words: list[str]) -> list[str]:
         """Makes a step, and answers its lines."""
@@ -68,24 +69,25 @@ class ClientPlay:
         return said_number("event", self._step(name, rest)) + self._settle()
 
     def _step(self, name: str, rest: list[str]) -> int:
-        client, now = self._client, self._now
+        session, now = self._session, self._now
         if name == "opened":
             self._server.connect(1)
         elif name == "expire":
             self._server.expire(True)
-            return client.call("tick", now)
+            return session.call("moment", now)
         elif name == "resume":
-            _, _, saved = client.counted("saved")
-            return client.call("resume", TIMEOUT_MS, saved)
+            _, _, saved = session.counted("saved")
+            resumed = session.call("resume", TIMEOUT_MS, 1, 1, saved)
+            return resumed or session.call("moment", now)
         elif name == "forget":
-            return client.call(name)
+            return session.call(name)
         if name in ("exists", "get_data", "get_children"):
-            return client.call(name, now, now, bytes_of(rest[0]), True)
+            return session.call(name, now, now, NO_LIMIT, bytes_of(rest[0]), True)
         if name in ("create", "set_data"):
-            return client.call(name, now, now, bytes_of(rest[0]), *data_of(rest[1]), int(rest[2]))
+            return session.call(name, now, now, NO_LIMIT, bytes_of(rest[0]), *data_of(rest[1]), int(rest[2]))
         if name == "delete":
-            return client.call(name, now, now, bytes_of(rest[0]), int(rest[1]))
-        return client.call(name, now, now) if name == "close_session" else client.call(name, now)
+            return session.call(name, now, now, NO_LIMIT, bytes_of(rest[0]), int(rest[1]))
+        return session.call(name, now, now, NO_LIMIT) if name == "close" else session.call(name, now)
 
     def _settle(self) -> list[str]:
         """Goes on until the server has nothing to say. Its bytes come in pieces."""
@@ -95,17 +97,17 @@ class ClientPlay:
             piece = self._server.piece(self._piece)
             if not piece:
                 break
-            lines += said_number("bytes", self._client.call("bytes", self._now, piece))
+            lines += said_number("bytes", self._session.call("bytes", self._now, piece))
         return lines
 
     def _pass_on(self) -> list[str]:
-        """Hands the frames to the server, and answers the lines of the other outputs."""
+        """Hands the frames to the server, and answers the lines of what else is said, but for connections."""
         lines: list[str] = []
         frames = b""
-        for output in self._client.outputs():
+        for output in self._session.outputs():
             if output.kind == declared.SEND:
-                frames += self._client.text(output.length)[1]
-            else:
+                frames += self._session.text(output.length)[1]
+            elif output.kind not in (declared.DIAL, declared.HANG_UP):
                 lines += self._output_lines(output)
         self._server.answer(frames)
         return lines
@@ -116,44 +118,44 @@ class ClientPlay:
             f" null {word_of(output.is_null)} stat {word_of(output.has_stat)} version {output.stat.version} pzxid {output.stat.pzxid}"
         ]
         if output.length:
-            lines.append(text_line(self._client.text()[1]))
-        lines += [text_line(self._client.name(index)) for index in range(output.names)]
-        return lines + spelled_lines(self._client.counted("names")[2])
+            lines.append(text_line(self._session.text()[1]))
+        lines += [text_line(self._session.name(index)) for index in range(output.names)]
+        return lines + spelled_lines(self._session.counted("names")[2])
 
     def _peek(self, path: str) -> list[str]:
         """What is kept of a path: its data, the number of names, and the names."""
         spelled, lines = bytes_of(path), []
         data, names = declared._KeptData(), declared._KeptNames()
         room = create_string_buffer(WHOLE)
-        if self._client.call("peek_data", spelled, byref(data), room, WHOLE) == declared.OK:
+        if self._session.call("peek_data", spelled, byref(data), room, WHOLE) == declared.OK:
             lines.append(f"data {data.kind} {data.mark} null {word_of(data.is_null)}")
             lines += [text_line(room.raw[: data.length])] if data.length else []
-        if self._client.call("peek_children", spelled, byref(names)) == declared.OK:
+        if self._session.call("peek_children", spelled, byref(names)) == declared.OK:
             lines.append(f"names {names.mark} {names.count} pzxid {names.pzxid}")
-        return lines + spelled_lines(self._client.counted("peek_names", spelled)[2])
+        return lines + spelled_lines(self._session.counted("peek_names", spelled)[2])
 
     def _subtree(self, path: str, most: str) -> list[str]:
         """The nodes at and below a path, if they are at most this many, and the reads that `lacking` names."""
         words = (bytes_of(path), int(most))
-        nodes, lacking = self._client.counted("subtree", *words), self._client.counted("lacking", *words)
+        nodes, lacking = self._session.counted("subtree", *words), self._session.counted("lacking", *words)
         return copied_lines("nodes", nodes) + copied_lines("lacking", lacking)
 
     def _snapshot(self, nodes: str, parents: str) -> list[str]:
         """What is kept of these nodes, and of the names below these parents: paths, each after its length."""
-        return copied_lines("shown", self._client.counted("snapshot", bytes_of(nodes), bytes_of(parents)))
+        return copied_lines("shown", self._session.counted("snapshot", bytes_of(nodes), bytes_of(parents)))
 
     def _standing(self, name: str, listed: str, *names: str) -> list[str]:
         """Whether the session comes first in `/l` by its node of this name, by these names that were listed at a zxid."""
         spelled = b"".join(struct.pack(">i", len(other)) + other.encode() for other in names)
         token = c_int64()
         words = (b"/l", name.encode(), spelled, int(listed), MARKERS, byref(token))
-        result, _, before = self._client.counted("standing", *words)
+        result, _, before = self._session.counted("standing", *words)
         said = {declared.OK: [f"first {token.value}"], declared.WAITS: [text_line(before)], declared.NONE: ["unsure"]}
         return said.get(result, said_number("standing", result))
 
     def _holder(self, directory: str, prefix: str, path: str) -> list[str]:
         """Whether the session holds by its node of this path, of the names in a directory that begin with a prefix."""
-        result, token = self._client.token("holder", bytes_of(directory), bytes_of(prefix), bytes_of(path))
+        result, token = self._session.token("holder", bytes_of(directory), bytes_of(prefix), bytes_of(path))
         said = {declared.OK: [f"holds {token}"], declared.NONE: ["holds not"]}
         return said.get(result, said_number("holder", result))
 
@@ -162,7 +164,7 @@ class SessionPlay:
     """A dw_session. A row begins with the moment of its step, which is its ticket too."""
 
     def __init__(self) -> None:
-        self._session = Handle("dw_session_")
+        self._session = Handle()
         self._session.call("open", TIMEOUT_MS, 1, 1)
 
     def play(self, words: list[str]) -> list[str]:
@@ -262,15 +264,15 @@ class SpelledPlay(SessionPlay):
 
 
 class MachineTest(unittest.TestCase):
-    def _rows(self, table: str, rows: list[Row], play: ClientPlay | SessionPlay, beside: str = "") -> None:
+    def _rows(self, table: str, rows: list[Row], play: KeptPlay | SessionPlay, beside: str = "") -> None:
         for row in rows:
             self.assertEqual(row.wanted, play.play(row.words), f"{table}:{row.line}: {' '.join(row.words)}{beside}")
 
-    def test_clients(self) -> None:
+    def test_what_is_kept(self) -> None:
         """Each session whole, and then with the server's bytes in pieces of each length up to 64: the same is told."""
-        for case in cases_of("machine/clients.txt"):
+        for case in cases_of("machine/kept.txt"):
             for piece in (WHOLE, *range(1, LONGEST_PIECE + 1)):
-                self._rows("machine/clients.txt", case.rows, ClientPlay(piece), f", in pieces of {piece}")
+                self._rows("machine/kept.txt", case.rows, KeptPlay(piece), f", in pieces of {piece}")
 
     def test_sessions(self) -> None:
         for case in cases_of("machine/sessions.txt"):
@@ -290,7 +292,7 @@ class PiecesTest(unittest.TestCase):
     SIZES = (*range(1, 1_200), *range(1_200, 66_000, 113), 20_001, 59_999, 65_535, 65_536, 65_537)
 
     def setUp(self) -> None:
-        self.session, self.xid = Handle("dw_session_"), 0
+        self.session, self.xid = Handle(), 0
         self.session.call("open", TIMEOUT_MS, 1, 1)
         accepted = struct.pack(">iiiqi16s?", 37, 0, TIMEOUT_MS, 1, 16, b"", False)
         steps: list[list[Any]] = [["moment"], ["opened"], ["bytes", accepted]]

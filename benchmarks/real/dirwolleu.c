@@ -1,4 +1,4 @@
-/* The rows over dirwolleu.h, by one thread and one blocking socket.
+/* The rows over dirwolleu.h, by a loop of one thread and one blocking socket that does what a dw_session says.
  *
  * usage: dirwolleu PORT ROW COUNT TIMES
  *
@@ -22,9 +22,10 @@
 enum { TICK_MS = 100 };
 
 struct session {
-  dw_client client;
+  dw_session handle;
   int port, socket;
-  uint64_t dialled, answers, reports;
+  bool is_dialled; /* a connection is asked for */
+  uint64_t dialled, tickets, answers, reports;
   size_t unsent;
   uint8_t frames[1 << 16], came[1 << 16];
 };
@@ -56,7 +57,7 @@ static void flush(struct session *session) {
 static void write_large(struct session *session, size_t length) {
   uint8_t *frame = malloc(length);
   if (!frame) fail("memory");
-  dw_copy(&session->client, 0, frame, length);
+  dw_session_copy(&session->handle, 0, frame, length);
   write_all(session->socket, frame, length);
   free(frame);
 }
@@ -67,31 +68,44 @@ static void keep_frame(struct session *session, size_t length) {
     write_large(session, length);
     return;
   }
-  dw_copy(&session->client, 0, session->frames + session->unsent, length);
+  dw_session_copy(&session->handle, 0, session->frames + session->unsent, length);
   session->unsent += length;
 }
 
 static void take_answer(struct session *session, const dw_output *answer) {
   uint8_t data[NODE_BYTES];
   if (answer->outcome != DW_OUTCOME_REPLIED || answer->reply == DW_REPLY_CODE) fail("a call was not answered as wanted");
-  if (answer->reply == DW_REPLY_DATA && dw_copy(&session->client, 0, data, sizeof data) != sizeof data) fail("the data of a node");
+  if (answer->reply == DW_REPLY_DATA && dw_session_copy(&session->handle, 0, data, sizeof data) != sizeof data) fail("the data of a node");
   session->answers++;
 }
 
 static void take_report(struct session *session) {
   char path[64];
-  if (dw_copy(&session->client, 0, path, sizeof path) > sizeof path) fail("the path of a report");
+  if (dw_session_copy(&session->handle, 0, path, sizeof path) > sizeof path) fail("the path of a report");
   session->reports++;
 }
 
 static void take_outputs(struct session *session) {
   dw_output output;
-  while (dw_next(&session->client, &output) == DW_OK) {
+  while (dw_session_next(&session->handle, &output) == DW_OK) {
     if (output.kind == DW_KIND_SEND) keep_frame(session, output.length);
     if (output.kind == DW_KIND_ANSWER) take_answer(session, &output);
     if (output.kind == DW_KIND_REPORT) take_report(session);
     if (output.kind == DW_KIND_DROP) fail("the connection was given up");
+    session->is_dialled = session->is_dialled || output.kind == DW_KIND_DIAL;
   }
+}
+
+/* Waits until a connection is asked for. */
+static void await_dial(struct session *session) {
+  must(dw_session_moment(&session->handle, now_ms()), "a moment");
+  take_outputs(session);
+  while (!session->is_dialled) {
+    poll(NULL, 0, 1);
+    must(dw_session_moment(&session->handle, now_ms()), "a moment");
+    take_outputs(session);
+  }
+  session->is_dialled = false;
 }
 
 static void dial(struct session *session) {
@@ -99,21 +113,20 @@ static void dial(struct session *session) {
   struct timeval tick = {.tv_usec = TICK_MS * 1000};
   int on = 1;
   address.sin_addr.s_addr = htonl(INADDR_LOOPBACK);
+  await_dial(session);
   session->socket = socket(AF_INET, SOCK_STREAM, 0);
   setsockopt(session->socket, IPPROTO_TCP, TCP_NODELAY, &on, sizeof on);
   setsockopt(session->socket, SOL_SOCKET, SO_RCVTIMEO, &tick, sizeof tick);
   if (connect(session->socket, (struct sockaddr *)&address, sizeof address)) fail("connect");
   session->dialled++;
-  must(dw_tick(&session->client, now_ms()), "the first moment");
-  take_outputs(session);
-  must(dw_opened(&session->client, now_ms()), "a connection that begins");
+  must(dw_session_opened(&session->handle, now_ms()), "a connection that begins");
   take_outputs(session);
 }
 
 static void dial_again(struct session *session) {
   close(session->socket);
   session->unsent = 0;
-  must(dw_cut(&session->client, now_ms()), "a connection that is over");
+  must(dw_session_cut(&session->handle, now_ms()), "a connection that is over");
   take_outputs(session);
   dial(session);
 }
@@ -123,9 +136,9 @@ static void hear(struct session *session) {
   flush(session);
   ssize_t length = recv(session->socket, session->came, sizeof session->came, 0);
   if (length > 0) {
-    must(dw_bytes(&session->client, now_ms(), session->came, (size_t)length), "bytes");
+    must(dw_session_bytes(&session->handle, now_ms(), session->came, (size_t)length), "bytes");
   } else if (length < 0 && errno == EAGAIN) {
-    must(dw_tick(&session->client, now_ms()), "a moment");
+    must(dw_session_moment(&session->handle, now_ms()), "a moment");
   } else {
     dial_again(session);
   }
@@ -137,25 +150,25 @@ static void await(struct session *session, const uint64_t *counted, uint64_t wan
 }
 
 static void await_connected(struct session *session, uint64_t dialled) {
-  while (session->dialled < dialled || dw_state(&session->client) != DW_STATE_CONNECTED) hear(session);
+  while (session->dialled < dialled || dw_session_state(&session->handle) != DW_STATE_CONNECTED) hear(session);
 }
 
 typedef void asking(struct session *session, const char *path);
 
 static void ask_read(struct session *session, const char *path) {
-  must(dw_get_data(&session->client, now_ms(), 0, path, strlen(path), false), "getData");
+  must(dw_session_get_data(&session->handle, now_ms(), ++session->tickets, UINT64_MAX, path, strlen(path), false), "getData");
 }
 
 static void ask_watched(struct session *session, const char *path) {
-  must(dw_get_data(&session->client, now_ms(), 0, path, strlen(path), true), "getData with a watch");
+  must(dw_session_get_data(&session->handle, now_ms(), ++session->tickets, UINT64_MAX, path, strlen(path), true), "getData with a watch");
 }
 
 static void ask_write(struct session *session, const char *path) {
-  must(dw_set_data(&session->client, now_ms(), 0, path, strlen(path), (const uint8_t *)node_data, NODE_BYTES, false, -1), "setData");
+  must(dw_session_set_data(&session->handle, now_ms(), ++session->tickets, UINT64_MAX, path, strlen(path), (const uint8_t *)node_data, NODE_BYTES, false, -1), "setData");
 }
 
 static void ask_create(struct session *session, const char *path) {
-  must(dw_create(&session->client, now_ms(), 0, path, strlen(path), (const uint8_t *)node_data, NODE_BYTES, false, DW_MODE_PERSISTENT),
+  must(dw_session_create(&session->handle, now_ms(), ++session->tickets, UINT64_MAX, path, strlen(path), (const uint8_t *)node_data, NODE_BYTES, false, DW_MODE_PERSISTENT),
        "create");
 }
 
@@ -220,7 +233,7 @@ static void measure_reconnect(struct session *session, int count) {
 static bool await_line(struct session *session) {
   struct pollfd waited[2] = {{.fd = STDIN_FILENO, .events = POLLIN}, {.fd = session->socket, .events = POLLIN}};
   flush(session);
-  if (poll(waited, 2, TICK_MS) == 0) must(dw_tick(&session->client, now_ms()), "a moment");
+  if (poll(waited, 2, TICK_MS) == 0) must(dw_session_moment(&session->handle, now_ms()), "a moment");
   take_outputs(session);
   if (waited[1].revents != 0) hear(session);
   return waited[0].revents != 0;
@@ -248,18 +261,18 @@ static void run(struct session *session, const char *row, int count, int times) 
 
 static void close_session(struct session *session) {
   uint64_t answers = session->answers;
-  must(dw_close_session(&session->client, now_ms(), 0), "closeSession");
+  must(dw_session_close(&session->handle, now_ms(), ++session->tickets, UINT64_MAX), "closeSession");
   take_outputs(session);
   await(session, &session->answers, answers + 1);
   close(session->socket);
-  dw_close(&session->client);
+  dw_session_free(&session->handle);
 }
 
 int main(int words, char **word) {
   static struct session session;
   if (words != 5) fail("usage: dirwolleu PORT ROW COUNT TIMES");
   session.port = atoi(word[1]);
-  must(dw_open(&session.client, TIMEOUT_MS), "a client");
+  must(dw_session_open(&session.handle, TIMEOUT_MS, 1, 1), "a session");
   dial(&session);
   await_connected(&session, 1);
   run(&session, word[2], atoi(word[3]), atoi(word[4]));

@@ -187,10 +187,10 @@ static void count_all(void)
     count_names("a reply to getChildren, 10 names, that leaves a watch, a name", 0, LONG_STEPS, FEW);
     count_names("the same, 1,000 names, a name", 2 * LONG_STEPS, LONG_STEPS, MANY);
     count_names("the same, 50,000 names, a name", 4 * LONG_STEPS, 3, MOST);
-    count_peeks("dw_peek_data, of a path of 8 bytes", paths, SHORT);
-    count_peeks("dw_peek_data, of a path of 100 bytes", LONG_STEPS, MIDDLE);
-    count_peeks("dw_peek_data, of a path of 4,007 bytes", LONG_STEPS, LONG);
-    count_peeks_of_names("dw_peek_names, 10 names");
+    count_peeks("dw_session_peek_data, of a path of 8 bytes", paths, SHORT);
+    count_peeks("dw_session_peek_data, of a path of 100 bytes", LONG_STEPS, MIDDLE);
+    count_peeks("dw_session_peek_data, of a path of 4,007 bytes", LONG_STEPS, LONG);
+    count_peeks_of_names("dw_session_peek_names, 10 names");
     count_notices();
 }
 

@@ -363,11 +363,11 @@ static inline const dws_node *dws_next_child(const dws_tree *tree, const dws_nod
 /* Writes why there is no newer subtree, in words: the reason, the path, and what to do. */
 static inline void dws_tree_words(dws_session *s, const dws_tree *tree, char *room, size_t size);
 
-/* Takes a node out of what dw_subtree has copied, from this place on, and goes on to the next: for programs that have a client and no session. The
+/* Takes a node out of what dw_session_subtree has copied, from this place on, and goes on to the next: for programs with a loop of their own. The
  * texts stay there. False where there is none any more. */
 static inline bool dws_read_node(uint8_t **at, const uint8_t *end, dws_node *node);
 
-/* Takes a read out of what dw_lacking has copied, in the same way. The path is not ended by a 0. */
+/* Takes a read out of what dw_session_lacking has copied, in the same way. The path is not ended by a 0. */
 static inline bool dws_read_lacking(const uint8_t **at, const uint8_t *end, const char **path, size_t *length, enum dw_side *side);
 
 /* The context of the options. */
@@ -387,7 +387,7 @@ static inline int64_t dws_heard_ms(dws_session *s);
 /* The number of the session: the owner of its ephemeral nodes. It is 0 before a server has accepted it. */
 static inline int64_t dws_id(dws_session *s);
 
-/* Writes what the options take up as `saved`, as many bytes as there is room for, and how many there are: as dw_saved does. It is a secret. */
+/* Writes what the options take up as `saved`, as many bytes as there is room for, and how many there are: as dw_session_saved does. It is a secret. */
 static inline enum dw_result dws_saved(dws_session *s, uint8_t *room, size_t size, size_t *length);
 
 /* What follows is the session's own. */
@@ -511,7 +511,7 @@ static inline const char *dws_advice_of_result(enum dw_result result)
     case DW_NOT_PATH: return "";
     case DW_BAD_TIMEOUT: return "";
     case DW_NO_SUCH_MODE: return "";
-    case DW_NOT_SAVED: return "take all of those that dw_saved gave";
+    case DW_NOT_SAVED: return "take all of those that dw_session_saved gave";
     case DW_NOT_WHOLE: return "read what is lacking, with a watch";
     case DW_TOO_MANY: return "ask for more, or for a path below";
     case DW_NOT_TEXTS: return "";

@@ -1,4 +1,4 @@
-/* A client at the server in memory, which is proved to be one of the model: no socket, no clock, and bytes are cut where the test says. */
+/* A session at the server in memory, which is proved to be one of the model: no socket, no clock, and bytes are cut where the test says. */
 #include "dirwolleu.h"
 #include "dirwolleu_bench.h"
 #include "expect.h"
@@ -7,34 +7,37 @@
 
 enum { TIMEOUT_MS = 6000, ROOM = 4096, NUMBER = 77 };
 
-static dw_client client;
+static dw_session session;
 static dw_bench bench;
 static uint64_t now_ms;
 static dw_output answer, report; /* the last of each */
 static int answers, reports;
+static bool is_dialled; /* a connection is asked for */
+static bool is_renewed; /* the session has expired */
 
 static void begin(void)
 {
     now_ms = 1000;
     answers = reports = 0;
+    is_dialled = is_renewed = false;
     EXPECT_NUMBER(DW_BENCH_OK, dw_bench_open(&bench, NUMBER));
-    EXPECT_NUMBER(DW_OK, dw_open(&client, TIMEOUT_MS));
+    EXPECT_NUMBER(DW_OK, dw_session_open(&session, TIMEOUT_MS, 1, 1));
 }
 
 static void end(void)
 {
-    dw_close(&client);
+    dw_session_free(&session);
     dw_bench_close(&bench);
 }
 
-/* What the client says goes to the server, which processes it, or is noted. */
+/* What the session says goes to the server, which processes it, or is noted. */
 static void take_outputs(void)
 {
     uint8_t frame[ROOM];
     dw_output output;
-    while (dw_next(&client, &output) == DW_OK) {
+    while (dw_session_next(&session, &output) == DW_OK) {
         if (output.kind == DW_KIND_SEND) {
-            size_t length = dw_copy(&client, 0, frame, sizeof frame);
+            size_t length = dw_session_copy(&session, 0, frame, sizeof frame);
             EXPECT(length <= sizeof frame);
             EXPECT_NUMBER(DW_BENCH_OK, dw_bench_hear(&bench, frame, length));
             EXPECT_NUMBER(DW_BENCH_OK, dw_bench_process(&bench, now_ms));
@@ -46,6 +49,8 @@ static void take_outputs(void)
             report = output;
             reports++;
         }
+        is_dialled = is_dialled || output.kind == DW_KIND_DIAL;
+        is_renewed = is_renewed || output.kind == DW_KIND_RENEWED;
     }
 }
 
@@ -60,7 +65,7 @@ static bool move(size_t piece)
         result = dw_bench_say(&bench, bytes, piece, &count);
         EXPECT(result == DW_BENCH_OK || result == DW_BENCH_NONE);
         if (count > 0) {
-            EXPECT_NUMBER(DW_OK, dw_bytes(&client, now_ms, bytes, count));
+            EXPECT_NUMBER(DW_OK, dw_session_bytes(&session, now_ms, bytes, count));
             take_outputs();
         }
     }
@@ -74,18 +79,24 @@ static void change(enum dw_bench_change_kind kind, const char *path, const char 
     EXPECT_NUMBER(DW_BENCH_OK, dw_bench_take(&bench, 1));
 }
 
-/* A new connection to a server. Whether it admits the client. */
+/* A new connection to a server, once it is asked for. Whether the server admits the session. */
 static bool connect_to(int32_t server, size_t piece)
 {
+    while (!is_dialled) {
+        EXPECT_NUMBER(DW_OK, dw_session_moment(&session, now_ms));
+        take_outputs();
+        EXPECT_NUMBER(DW_OK, dw_session_deadline(&session, &now_ms));
+    }
+    is_dialled = false;
     EXPECT_NUMBER(DW_BENCH_OK, dw_bench_connect(&bench, server));
-    EXPECT_NUMBER(DW_OK, dw_opened(&client, now_ms));
+    EXPECT_NUMBER(DW_OK, dw_session_opened(&session, now_ms));
     return move(piece);
 }
 
 static void cut(void)
 {
     EXPECT_NUMBER(DW_BENCH_OK, dw_bench_cut(&bench));
-    EXPECT_NUMBER(DW_OK, dw_cut(&client, now_ms));
+    EXPECT_NUMBER(DW_OK, dw_session_cut(&session, now_ms));
     take_outputs();
 }
 
@@ -95,13 +106,13 @@ static void read_data(const char *path, const char *data, int64_t zxid, size_t p
     uint8_t text[ROOM];
     dw_kept_data kept;
     int before = answers;
-    EXPECT_NUMBER(DW_OK, dw_get_data(&client, now_ms, 5, path, strlen(path), true));
+    EXPECT_NUMBER(DW_OK, dw_session_get_data(&session, now_ms, 5, UINT64_MAX, path, strlen(path), true));
     EXPECT(move(piece));
     EXPECT_NUMBER(before + 1, answers);
     EXPECT_NUMBER(DW_OUTCOME_REPLIED, answer.outcome);
     EXPECT_NUMBER(DW_REPLY_DATA, answer.reply);
     EXPECT_NUMBER(zxid, answer.zxid);
-    EXPECT_NUMBER(DW_OK, dw_peek_data(&client, path, strlen(path), &kept, text, sizeof text));
+    EXPECT_NUMBER(DW_OK, dw_session_peek_data(&session, path, strlen(path), &kept, text, sizeof text));
     EXPECT(kept.mark == DW_MARK_GOOD && kept.length == strlen(data) && memcmp(text, data, kept.length) == 0);
 }
 
@@ -109,7 +120,7 @@ static enum dw_mark mark_of(const char *path)
 {
     uint8_t text[ROOM];
     dw_kept_data kept;
-    EXPECT_NUMBER(DW_OK, dw_peek_data(&client, path, strlen(path), &kept, text, sizeof text));
+    EXPECT_NUMBER(DW_OK, dw_session_peek_data(&session, path, strlen(path), &kept, text, sizeof text));
     return kept.mark;
 }
 
@@ -119,7 +130,7 @@ static void follow_a_node(size_t piece)
     begin();
     change(DW_BENCH_MADE, "/a", "one");
     EXPECT(connect_to(1, piece));
-    EXPECT_NUMBER(DW_STATE_CONNECTED, dw_state(&client));
+    EXPECT_NUMBER(DW_STATE_CONNECTED, dw_session_state(&session));
     read_data("/a", "one", 1, piece);
     change(DW_BENCH_WRITTEN, "/a", "two");
     EXPECT_NUMBER(DW_MARK_GOOD, mark_of("/a")); /* the notice is on its way */
@@ -134,7 +145,7 @@ static void follow_a_node(size_t piece)
     end();
 }
 
-/* A server that is behind what the client has seen ends the connection without an answer. */
+/* A server that is behind what the session has seen ends the connection without an answer. */
 static void meet_a_server_that_is_behind(void)
 {
     begin();
@@ -143,11 +154,11 @@ static void meet_a_server_that_is_behind(void)
     read_data("/a", "one", 1, ROOM);
     cut();
     EXPECT(!connect_to(2, ROOM));
-    EXPECT_NUMBER(DW_STATE_CONNECTING, dw_state(&client));
+    EXPECT_NUMBER(DW_STATE_CONNECTING, dw_session_state(&session));
     cut();
     EXPECT_NUMBER(DW_BENCH_OK, dw_bench_take(&bench, 2));
     EXPECT(connect_to(2, ROOM));
-    EXPECT_NUMBER(DW_STATE_CONNECTED, dw_state(&client));
+    EXPECT_NUMBER(DW_STATE_CONNECTED, dw_session_state(&session));
     end();
 }
 
@@ -158,11 +169,10 @@ static void expire(void)
     cut();
     EXPECT_NUMBER(DW_BENCH_OK, dw_bench_expire(&bench, true));
     EXPECT(!connect_to(1, ROOM));
-    EXPECT_NUMBER(DW_STATE_EXPIRED, dw_state(&client));
+    EXPECT(is_renewed);
     EXPECT_NUMBER(DW_BENCH_OK, dw_bench_expire(&bench, false));
-    EXPECT_NUMBER(DW_OK, dw_renew(&client, TIMEOUT_MS));
     EXPECT(connect_to(1, ROOM));
-    EXPECT_NUMBER(DW_STATE_CONNECTED, dw_state(&client));
+    EXPECT_NUMBER(DW_STATE_CONNECTED, dw_session_state(&session));
     end();
 }
 
@@ -173,7 +183,7 @@ static void learn_of_another_session(void)
     memset(&other, 0, sizeof other);
     begin();
     EXPECT(connect_to(1, ROOM));
-    EXPECT_NUMBER(DW_OK, dw_create(&client, now_ms, 1, "/mine", 5, (const uint8_t *)"x", 1, false, DW_MODE_EPHEMERAL));
+    EXPECT_NUMBER(DW_OK, dw_session_create(&session, now_ms, 1, UINT64_MAX, "/mine", 5, (const uint8_t *)"x", 1, false, DW_MODE_EPHEMERAL));
     EXPECT(move(ROOM));
     EXPECT_NUMBER(DW_REPLY_CREATED, answer.reply);
     read_data("/mine", "x", 1, ROOM);

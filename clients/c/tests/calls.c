@@ -17,97 +17,89 @@ static void expect_text(const char *wanted, const char *text, const char *file, 
 }
 
 /* The next output is of this kind. */
-static dw_output expect_next(dw_client *client, enum dw_kind kind)
+static dw_output expect_next(dw_session *session, enum dw_kind kind)
 {
     dw_output output;
-    EXPECT_NUMBER(DW_OK, dw_next(client, &output));
+    EXPECT_NUMBER(DW_OK, dw_session_next(session, &output));
     EXPECT_NUMBER(kind, output.kind);
     return output;
 }
 
-static void expect_no_more(dw_client *client)
+static void expect_no_more(dw_session *session)
 {
     dw_output output;
-    EXPECT_NUMBER(DW_NONE, dw_next(client, &output));
+    EXPECT_NUMBER(DW_NONE, dw_session_next(session, &output));
 }
 
 /* The text of the output that was told last is this one. */
-static void expect_copied(dw_client *client, const char *wanted)
+static void expect_copied(dw_session *session, const char *wanted)
 {
     char text[64];
-    size_t length = dw_copy(client, 0, text, sizeof text - 1);
+    size_t length = dw_session_copy(session, 0, text, sizeof text - 1);
     EXPECT(length < sizeof text);
     text[length] = 0;
     EXPECT_TEXT(wanted, text);
 }
 
-static void hand_in(dw_client *client, const struct bytes *bytes)
+static void hand_in(dw_session *session, const struct bytes *bytes)
 {
-    enum dw_result result = dw_bytes(client, 1, bytes->at, bytes->length);
+    enum dw_result result = dw_session_bytes(session, 1, bytes->at, bytes->length);
     EXPECT_TEXT("done", dw_result_words(result));
 }
 
 /* A connection that a server admits. */
-static void connect_client(dw_client *client)
+static void connect(dw_session *session)
 {
     struct bytes response;
     response.length = 0;
     add_connected(&response);
-    EXPECT_NUMBER(DW_OK, dw_tick(client, 1));
-    EXPECT_NUMBER(DW_OK, dw_opened(client, 1));
-    EXPECT_NUMBER(49, expect_next(client, DW_KIND_SEND).length);
-    EXPECT_NUMBER(DW_STATE_CONNECTING, expect_next(client, DW_KIND_STATE).state);
-    hand_in(client, &response);
-    EXPECT_NUMBER(DW_STATE_CONNECTED, expect_next(client, DW_KIND_STATE).state);
-    EXPECT(dw_state(client) == DW_STATE_CONNECTED);
+    EXPECT_NUMBER(DW_OK, dw_session_moment(session, 1));
+    EXPECT_NUMBER(0, expect_next(session, DW_KIND_DIAL).place);
+    EXPECT_NUMBER(DW_OK, dw_session_opened(session, 1));
+    EXPECT_NUMBER(49, expect_next(session, DW_KIND_SEND).length);
+    EXPECT_NUMBER(DW_STATE_CONNECTING, expect_next(session, DW_KIND_STATE).state);
+    hand_in(session, &response);
+    EXPECT_NUMBER(DW_STATE_CONNECTED, expect_next(session, DW_KIND_STATE).state);
+    EXPECT(dw_session_state(session) == DW_STATE_CONNECTED);
 }
 
 /* There is no node, which is kept; then one is made, which is reported. */
-static void follow_an_absent_node(dw_client *client)
+static void follow_an_absent_node(dw_session *session)
 {
     struct bytes came;
     dw_kept_data kept;
     uint8_t data[8];
-    EXPECT_NUMBER(DW_OK, dw_exists(client, 1, 1, "/config", 7, true));
-    expect_next(client, DW_KIND_SEND);
+    EXPECT_NUMBER(DW_OK, dw_session_exists(session, 1, 1, UINT64_MAX, "/config", 7, true));
+    expect_next(session, DW_KIND_SEND);
     came.length = 0;
     add_header(&came, 1, 5, CODE_NO_NODE);
     add_notice(&came, DW_EVENT_CREATED, "/config");
-    hand_in(client, &came);
-    dw_output answer = expect_next(client, DW_KIND_ANSWER);
+    hand_in(session, &came);
+    dw_output answer = expect_next(session, DW_KIND_ANSWER);
     EXPECT_NUMBER(DW_OUTCOME_REPLIED, answer.outcome);
     EXPECT_NUMBER(DW_REPLY_CODE, answer.reply);
     EXPECT_NUMBER(DW_CODE_NO_NODE, answer.code);
     EXPECT_TEXT("no node", dw_code_words(answer.code));
-    dw_output report = expect_next(client, DW_KIND_REPORT);
+    dw_output report = expect_next(session, DW_KIND_REPORT);
     EXPECT_NUMBER(DW_EVENT_CREATED, report.event);
     EXPECT_NUMBER(DW_SIDE_DATA, report.side);
-    expect_copied(client, "/config");
-    EXPECT_NUMBER(DW_OK, dw_peek_data(client, "/config", 7, &kept, data, sizeof data));
+    expect_copied(session, "/config");
+    EXPECT_NUMBER(DW_OK, dw_session_peek_data(session, "/config", 7, &kept, data, sizeof data));
     EXPECT(kept.kind == DW_KEPT_ABSENT && kept.mark == DW_MARK_STALE);
 }
 
-/* The revision is 1 at first, and rises by one at a step that told a state, a reply or a report, however many of them, and at no other. */
-static void expect_revision(dw_client *client)
+/* The revision is 1 at first, and rises by one at a step to which bytes came or which told a state, and at no other. */
+static void expect_revision(dw_session *session)
 {
     struct bytes came;
-    EXPECT_NUMBER(1 + 3, dw_revision(client)); /* connecting; connected; the reply and the report */
-    EXPECT_NUMBER(DW_OK, dw_tick(client, 1));
+    EXPECT_NUMBER(1 + 3, dw_session_revision(session)); /* connecting; bytes twice */
+    EXPECT_NUMBER(DW_OK, dw_session_moment(session, 1));
+    EXPECT_NUMBER(1 + 3, dw_session_revision(session));
     came.length = 0;
     add_notice(&came, DW_EVENT_DATA_CHANGED, "/config"); /* which nobody watches any more */
-    hand_in(client, &came);
-    expect_no_more(client);
-    EXPECT_NUMBER(1 + 3, dw_revision(client));
-}
-
-/* Another session: nothing is kept of what was. */
-static void renew_the_session(dw_client *client)
-{
-    uint64_t revision = dw_revision(client);
-    EXPECT_NUMBER(DW_BAD_TIMEOUT, dw_renew(client, 0));
-    EXPECT_NUMBER(revision, dw_revision(client));
-    EXPECT_NUMBER(DW_OK, dw_renew(client, 10000));
-    EXPECT_NUMBER(revision + 1, dw_revision(client));
+    hand_in(session, &came);
+    expect_no_more(session);
+    EXPECT_NUMBER(1 + 4, dw_session_revision(session));
 }
 
 /* The bytes that are spelled at `at` are these. */
@@ -117,14 +109,14 @@ static void expect_spelled(const struct bytes *wanted, const uint8_t *at, size_t
     EXPECT(memcmp(wanted->at, at, length) == 0);
 }
 
-/* A path and a side, as dw_lacking spells them. */
+/* A path and a side, as dw_session_lacking spells them. */
 static void put_read(struct bytes *bytes, const char *path, int32_t side)
 {
     put_buffer(bytes, path, strlen(path));
     put_int(bytes, side);
 }
 
-/* The numbers of a node, as dw_subtree and dw_snapshot spell them. */
+/* The numbers of a node, as dw_session_subtree and dw_session_snapshot spell them. */
 static void put_numbers(struct bytes *bytes, const dw_stat *stat)
 {
     put_long(bytes, stat->czxid);
@@ -136,7 +128,7 @@ static void put_numbers(struct bytes *bytes, const dw_stat *stat)
     put_int(bytes, stat->data_length);
 }
 
-/* A node, as dw_subtree spells it. */
+/* A node, as dw_session_subtree spells it. */
 static void put_node(struct bytes *bytes, const char *path, const char *data, const dw_stat *stat)
 {
     put_buffer(bytes, path, strlen(path));
@@ -146,17 +138,17 @@ static void put_node(struct bytes *bytes, const char *path, const char *data, co
 }
 
 /* These reads are lacking at and below /t. */
-static void expect_lacking(dw_client *client, const struct bytes *wanted)
+static void expect_lacking(dw_session *session, const struct bytes *wanted)
 {
     uint8_t room[128];
     size_t count = 1;
-    EXPECT_NUMBER(DW_OK, dw_lacking(client, "/t", 2, 4, room, sizeof room, &count));
+    EXPECT_NUMBER(DW_OK, dw_session_lacking(session, "/t", 2, 4, room, sizeof room, &count));
     expect_spelled(wanted, room, count);
-    EXPECT_NUMBER(wanted->length == 0 ? DW_OK : DW_NOT_WHOLE, dw_subtree(client, "/t", 2, 4, room, sizeof room, &count));
+    EXPECT_NUMBER(wanted->length == 0 ? DW_OK : DW_NOT_WHOLE, dw_session_subtree(session, "/t", 2, 4, room, sizeof room, &count));
 }
 
 /* A node without children: what is lacking is read, and then all of it is told. */
-static void collect_a_leaf(dw_client *client)
+static void collect_a_leaf(dw_session *session)
 {
     dw_stat stat = {3, 5, 1000, 2000, 77, 4, 1, 6, 7, 5, 0};
     struct bytes came, wanted;
@@ -165,25 +157,25 @@ static void collect_a_leaf(dw_client *client)
     wanted.length = came.length = 0;
     put_read(&wanted, "/t", DW_SIDE_DATA);
     put_read(&wanted, "/t", DW_SIDE_CHILDREN);
-    expect_lacking(client, &wanted);
-    EXPECT_NUMBER(DW_OK, dw_get_data(client, 1, 8, "/t", 2, true));
-    EXPECT_NUMBER(DW_OK, dw_get_children(client, 1, 9, "/t", 2, true));
+    expect_lacking(session, &wanted);
+    EXPECT_NUMBER(DW_OK, dw_session_get_data(session, 1, 8, UINT64_MAX, "/t", 2, true));
+    EXPECT_NUMBER(DW_OK, dw_session_get_children(session, 1, 9, UINT64_MAX, "/t", 2, true));
     add_data(&came, 3, 6, "first", &stat);
     add_no_names(&came, 4, 6, &stat);
-    hand_in(client, &came);
+    hand_in(session, &came);
     wanted.length = 0;
-    expect_lacking(client, &wanted);
+    expect_lacking(session, &wanted);
     put_node(&wanted, "/t", "first", &stat);
-    EXPECT_NUMBER(DW_OK, dw_subtree(client, "/t", 2, 1, room, sizeof room, &count));
+    EXPECT_NUMBER(DW_OK, dw_session_subtree(session, "/t", 2, 1, room, sizeof room, &count));
     expect_spelled(&wanted, room, count);
-    EXPECT_NUMBER(DW_OK, dw_subtree(client, "/t", 2, 1, room, 0, &count));
+    EXPECT_NUMBER(DW_OK, dw_session_subtree(session, "/t", 2, 1, room, 0, &count));
     EXPECT_NUMBER(wanted.length, count);
-    EXPECT_NUMBER(DW_TOO_MANY, dw_subtree(client, "/t", 2, 0, room, sizeof room, &count));
+    EXPECT_NUMBER(DW_TOO_MANY, dw_session_subtree(session, "/t", 2, 0, room, sizeof room, &count));
     EXPECT_NUMBER(0, count);
 }
 
 /* The node that was made is read with a watch: whoever has the least number stands first, by its czxid, and another one waits. */
-static void stand_first(dw_client *client)
+static void stand_first(dw_session *session)
 {
     dw_stat stat = {6, 6, 0, 0, SESSION, 6, 0, 0, 0, 1, 0};
     struct bytes came, names, markers;
@@ -191,24 +183,24 @@ static void stand_first(dw_client *client)
     size_t count = 1;
     char rival[16];
     came.length = names.length = markers.length = 0;
-    EXPECT_NUMBER(DW_OK, dw_get_data(client, 1, 11, "/n-0000000000", 13, true));
+    EXPECT_NUMBER(DW_OK, dw_session_get_data(session, 1, 11, UINT64_MAX, "/n-0000000000", 13, true));
     add_data(&came, 6, 6, "x", &stat);
-    hand_in(client, &came);
+    hand_in(session, &came);
     put_buffer(&names, "n-0000000001", 12);
     put_buffer(&names, "n-0000000000", 12);
     put_buffer(&markers, "n-", 2);
     put_buffer(&markers, "n-", 2);
-    EXPECT_NUMBER(DW_OK, dw_standing(client, "/", 1, "n-0000000000", 12, names.at, names.length, 6, markers.at, markers.length, &token,
+    EXPECT_NUMBER(DW_OK, dw_session_standing(session, "/", 1, "n-0000000000", 12, names.at, names.length, 6, markers.at, markers.length, &token,
                                      rival, sizeof rival, &count));
     EXPECT(token == 6 && count == 0);
-    EXPECT_NUMBER(DW_WAITS, dw_standing(client, "/", 1, "n-0000000001", 12, names.at, names.length, 6, markers.at, markers.length, &token,
+    EXPECT_NUMBER(DW_WAITS, dw_session_standing(session, "/", 1, "n-0000000001", 12, names.at, names.length, 6, markers.at, markers.length, &token,
                                         rival, sizeof rival, &count));
     EXPECT(token == 0 && count == 12 && memcmp(rival, "n-0000000000", 12) == 0);
-    EXPECT_NUMBER(DW_NONE, dw_standing(client, "/", 1, "n-0000000000", 12, names.at, names.length, 5, markers.at, markers.length, &token,
+    EXPECT_NUMBER(DW_NONE, dw_session_standing(session, "/", 1, "n-0000000000", 12, names.at, names.length, 5, markers.at, markers.length, &token,
                                        rival, sizeof rival, &count));
-    EXPECT_NUMBER(DW_NOT_TEXTS, dw_standing(client, "/", 1, "n-0000000000", 12, names.at, names.length - 1, 6, markers.at,
+    EXPECT_NUMBER(DW_NOT_TEXTS, dw_session_standing(session, "/", 1, "n-0000000000", 12, names.at, names.length - 1, 6, markers.at,
                                             markers.length, &token, rival, sizeof rival, &count));
-    EXPECT_NUMBER(DW_NOT_TEXTS, dw_standing(client, "/", 1, "n-0000000000", 12, names.at, names.length, 6, markers.at, 0, &token, rival,
+    EXPECT_NUMBER(DW_NOT_TEXTS, dw_session_standing(session, "/", 1, "n-0000000000", 12, names.at, names.length, 6, markers.at, 0, &token, rival,
                                             sizeof rival, &count));
     EXPECT(token == 0 && count == 0);
 }
@@ -226,20 +218,20 @@ static void put_shown(struct bytes *bytes, enum dw_kept kind, const char *data, 
 }
 
 /* A node that is read, one that is not there and one whose data were not read, and names: all of one moment. */
-static void take_a_snapshot(dw_client *client)
+static void take_a_snapshot(dw_session *session)
 {
     const dw_stat read = {3, 5, 1000, 2000, 77, 4, 1, 6, 7, 5, 0}, none = {0, 0, 0, 0, 0, 0, 0, 0, 0, 0, 0};
     struct bytes came, nodes, parents, wanted;
     uint8_t room[512];
     size_t count = 1;
     came.length = nodes.length = parents.length = wanted.length = 0;
-    EXPECT_NUMBER(DW_OK, dw_exists(client, 1, 12, "/no", 3, true));
-    EXPECT_NUMBER(DW_OK, dw_exists(client, 1, 13, "/yes", 4, true));
-    EXPECT_NUMBER(DW_OK, dw_get_children(client, 1, 14, "/", 1, true));
+    EXPECT_NUMBER(DW_OK, dw_session_exists(session, 1, 12, UINT64_MAX, "/no", 3, true));
+    EXPECT_NUMBER(DW_OK, dw_session_exists(session, 1, 13, UINT64_MAX, "/yes", 4, true));
+    EXPECT_NUMBER(DW_OK, dw_session_get_children(session, 1, 14, UINT64_MAX, "/", 1, true));
     add_header(&came, 7, 6, DW_CODE_NO_NODE);
     add_stat(&came, 8, 6, &read);
     add_names(&came, 9, 6, "n-0000000001", "n-0000000000", &read);
-    hand_in(client, &came);
+    hand_in(session, &came);
     put_buffer(&nodes, "/t", 2);
     put_buffer(&nodes, "/no", 3);
     put_buffer(&nodes, "/yes", 4);
@@ -255,95 +247,92 @@ static void take_a_snapshot(dw_client *client)
     put_buffer(&wanted, "n-0000000000", 12);
     put_buffer(&wanted, "n-0000000001", 12);
     put_long(&wanted, read.pzxid);
-    EXPECT_NUMBER(DW_OK, dw_snapshot(client, nodes.at, nodes.length, parents.at, parents.length, room, sizeof room, &count));
+    EXPECT_NUMBER(DW_OK, dw_session_snapshot(session, nodes.at, nodes.length, parents.at, parents.length, room, sizeof room, &count));
     expect_spelled(&wanted, room, count);
-    EXPECT_NUMBER(DW_OK, dw_snapshot(client, nodes.at, nodes.length, parents.at, parents.length, room, 0, &count));
+    EXPECT_NUMBER(DW_OK, dw_session_snapshot(session, nodes.at, nodes.length, parents.at, parents.length, room, 0, &count));
     EXPECT_NUMBER(wanted.length, count);
-    EXPECT_NUMBER(DW_NOT_TEXTS, dw_snapshot(client, nodes.at, nodes.length - 1, parents.at, parents.length, room, sizeof room, &count));
-    EXPECT_NUMBER(DW_NOT_TEXTS, dw_snapshot(client, nodes.at, nodes.length, parents.at, 4, room, sizeof room, &count));
+    EXPECT_NUMBER(DW_NOT_TEXTS, dw_session_snapshot(session, nodes.at, nodes.length - 1, parents.at, parents.length, room, sizeof room, &count));
+    EXPECT_NUMBER(DW_NOT_TEXTS, dw_session_snapshot(session, nodes.at, nodes.length, parents.at, 4, room, sizeof room, &count));
     put_buffer(&nodes, "/config", 7);
-    EXPECT_NUMBER(DW_NOT_WHOLE, dw_snapshot(client, nodes.at, nodes.length, parents.at, parents.length, room, sizeof room, &count));
+    EXPECT_NUMBER(DW_NOT_WHOLE, dw_session_snapshot(session, nodes.at, nodes.length, parents.at, parents.length, room, sizeof room, &count));
     EXPECT_NUMBER(0, count);
     put_buffer(&nodes, "t", 1);
-    EXPECT_NUMBER(DW_NOT_PATH, dw_snapshot(client, nodes.at, nodes.length, parents.at, parents.length, room, sizeof room, &count));
-    EXPECT_NUMBER(DW_OK, dw_snapshot(client, nodes.at, 0, parents.at, 0, room, sizeof room, &count));
+    EXPECT_NUMBER(DW_NOT_PATH, dw_session_snapshot(session, nodes.at, nodes.length, parents.at, parents.length, room, sizeof room, &count));
+    EXPECT_NUMBER(DW_OK, dw_session_snapshot(session, nodes.at, 0, parents.at, 0, room, sizeof room, &count));
     EXPECT_NUMBER(0, count);
 }
 
 /* By all names of the directory, which are kept now, the node that was made is the first of its prefix. */
-static void hold_first(dw_client *client)
+static void hold_first(dw_session *session)
 {
     int64_t token = 1;
-    EXPECT_NUMBER(DW_OK, dw_holder(client, "/", 1, "n-", 2, "/n-0000000000", 13, &token));
+    EXPECT_NUMBER(DW_OK, dw_session_holder(session, "/", 1, "n-", 2, "/n-0000000000", 13, &token));
     EXPECT_NUMBER(6, token);
-    EXPECT_NUMBER(DW_NONE, dw_holder(client, "/", 1, "m-", 2, "/n-0000000000", 13, &token));
+    EXPECT_NUMBER(DW_NONE, dw_session_holder(session, "/", 1, "m-", 2, "/n-0000000000", 13, &token));
     EXPECT_NUMBER(0, token);
-    EXPECT_NUMBER(DW_NONE, dw_holder(client, "/", 1, "n-", 2, "/n-0000000001", 13, &token));
-    EXPECT_NUMBER(DW_NOT_TEXT, dw_holder(client, "/", 1, "\xff", 1, "/n-0000000000", 13, &token));
-    EXPECT_NUMBER(DW_NOT_PATH, dw_holder(client, "/", 1, "n-", 2, "n-0000000000", 12, &token));
+    EXPECT_NUMBER(DW_NONE, dw_session_holder(session, "/", 1, "n-", 2, "/n-0000000001", 13, &token));
+    EXPECT_NUMBER(DW_NOT_TEXT, dw_session_holder(session, "/", 1, "\xff", 1, "/n-0000000000", 13, &token));
+    EXPECT_NUMBER(DW_NOT_PATH, dw_session_holder(session, "/", 1, "n-", 2, "n-0000000000", 12, &token));
     EXPECT_NUMBER(0, token);
 }
 
 /* All names of a listing, in the order of the reply. */
-static void list_names(dw_client *client)
+static void list_names(dw_session *session)
 {
     const dw_stat stat = {0, 0, 0, 0, 0, 0, 0, 0, 0, 0, 0};
     struct bytes came, wanted;
     uint8_t room[32];
     size_t count = 1;
     came.length = wanted.length = 0;
-    EXPECT_NUMBER(DW_OK, dw_get_children(client, 1, 10, "/", 1, false));
+    EXPECT_NUMBER(DW_OK, dw_session_get_children(session, 1, 10, UINT64_MAX, "/", 1, false));
     add_names(&came, 5, 6, "right", "left", &stat);
-    hand_in(client, &came);
-    EXPECT_NUMBER(2, expect_next(client, DW_KIND_ANSWER).names);
+    hand_in(session, &came);
+    EXPECT_NUMBER(2, expect_next(session, DW_KIND_ANSWER).names);
     put_buffer(&wanted, "right", 5);
     put_buffer(&wanted, "left", 4);
-    EXPECT_NUMBER(DW_OK, dw_names(client, room, sizeof room, &count));
+    EXPECT_NUMBER(DW_OK, dw_session_names(session, room, sizeof room, &count));
     expect_spelled(&wanted, room, count);
-    expect_no_more(client);
+    expect_no_more(session);
 }
 
 /* A sequential node is made, and its path is told. */
-static void create_a_node(dw_client *client)
+static void create_a_node(dw_session *session)
 {
     const uint8_t data[] = {'x'};
     struct bytes came;
-    EXPECT_NUMBER(DW_OK, dw_create(client, 1, 2, "/n-", 3, data, sizeof data, false, DW_MODE_EPHEMERAL | DW_MODE_SEQUENTIAL));
-    expect_next(client, DW_KIND_SEND);
+    EXPECT_NUMBER(DW_OK, dw_session_create(session, 1, 2, UINT64_MAX, "/n-", 3, data, sizeof data, false, DW_MODE_EPHEMERAL | DW_MODE_SEQUENTIAL));
+    expect_next(session, DW_KIND_SEND);
     came.length = 0;
     add_created(&came, 2, 6, "/n-0000000000");
-    hand_in(client, &came);
-    dw_output answer = expect_next(client, DW_KIND_ANSWER);
+    hand_in(session, &came);
+    dw_output answer = expect_next(session, DW_KIND_ANSWER);
     EXPECT(answer.outcome == DW_OUTCOME_REPLIED && answer.reply == DW_REPLY_CREATED);
-    expect_copied(client, "/n-0000000000");
+    expect_copied(session, "/n-0000000000");
 }
 
-/* A reply for which nobody asked, and a call after it. */
-static void lose_the_connection(dw_client *client)
+/* A reply for which nobody asked. */
+static void lose_the_connection(dw_session *session)
 {
     struct bytes came;
     char words[128];
     size_t length;
     came.length = 0;
     add_header(&came, 99, 7, 0);
-    hand_in(client, &came);
-    dw_output drop = expect_next(client, DW_KIND_DROP);
+    hand_in(session, &came);
+    dw_output drop = expect_next(session, DW_KIND_DROP);
     EXPECT_NUMBER(DW_CAUSE_BAD_PAYLOAD, drop.cause);
     EXPECT_TEXT("the server sent a frame that does not read, or is out of turn", dw_cause_words(drop.cause));
-    expect_copied(client, "C2");
-    EXPECT_NUMBER(DW_OK, dw_words(client, words, sizeof words, &length));
+    expect_copied(session, "C2");
+    EXPECT_NUMBER(DW_OK, dw_session_words(session, words, sizeof words, &length));
     EXPECT(length > 0 && length < sizeof words);
-    EXPECT_NUMBER(DW_STATE_IDLE, expect_next(client, DW_KIND_STATE).state);
-    expect_no_more(client);
-    EXPECT_NUMBER(DW_OK, dw_get_children(client, 1, 3, "/", 1, true));
-    dw_output answer = expect_next(client, DW_KIND_ANSWER);
-    EXPECT_NUMBER(DW_OUTCOME_NOT_CONNECTED, answer.outcome);
-    EXPECT_TEXT("no server has accepted the session", dw_outcome_words(answer.outcome));
+    EXPECT_NUMBER(DW_STATE_IDLE, expect_next(session, DW_KIND_STATE).state);
+    expect_next(session, DW_KIND_HANG_UP);
 }
 
-/* Numbers that the header does not have are told to be so. */
-static void expect_unknown(void)
+/* Each number has words, and those that the header does not have are told to be so. */
+static void expect_words(void)
 {
+    EXPECT_TEXT("no server has accepted the session", dw_outcome_words(DW_OUTCOME_NOT_CONNECTED));
     EXPECT_TEXT("the library answers a number that its header does not have", dw_result_words((enum dw_result)77));
     EXPECT_TEXT("there is no reply, for a reason that the header does not have", dw_outcome_words((enum dw_outcome)77));
     EXPECT_TEXT("the connection is given up, for a reason that the header does not have", dw_cause_words((enum dw_cause)77));
@@ -361,24 +350,23 @@ static void expect_version(void)
 
 int main(void)
 {
-    static dw_client client; /* zeros */
+    static dw_session session; /* zeros */
     expect_version();
-    expect_unknown();
-    EXPECT_NUMBER(DW_OK, dw_open(&client, 10000));
-    EXPECT_NUMBER(1, dw_revision(&client));
-    EXPECT_TEXT("the text is no path", dw_result_words(dw_exists(&client, 0, 1, "config", 6, true)));
-    connect_client(&client);
-    follow_an_absent_node(&client);
-    expect_revision(&client);
-    create_a_node(&client);
-    collect_a_leaf(&client);
-    list_names(&client);
-    stand_first(&client);
-    take_a_snapshot(&client);
-    hold_first(&client);
-    lose_the_connection(&client);
-    renew_the_session(&client);
-    dw_close(&client);
+    expect_words();
+    EXPECT_NUMBER(DW_OK, dw_session_open(&session, 10000, 1, 1));
+    EXPECT_NUMBER(1, dw_session_revision(&session));
+    EXPECT_TEXT("the text is no path", dw_result_words(dw_session_exists(&session, 0, 1, UINT64_MAX, "config", 6, true)));
+    connect(&session);
+    follow_an_absent_node(&session);
+    expect_revision(&session);
+    create_a_node(&session);
+    collect_a_leaf(&session);
+    list_names(&session);
+    stand_first(&session);
+    take_a_snapshot(&session);
+    hold_first(&session);
+    lose_the_connection(&session);
+    dw_session_free(&session);
     printf("calls: passed\n");
     return 0;
 }

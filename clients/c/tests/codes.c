@@ -6,7 +6,9 @@
 
 #include <string.h>
 
-enum { NOW = 1, ROOM = 8, UNTOUCHED = 0x5a };
+enum { NOW = 1, ROOM = 8, UNTOUCHED = 0x5a, ADDRESSES = 3, SEED = 1 };
+
+#define NEVER UINT64_MAX
 
 #define TEXT(text) (text), sizeof(text) - 1
 #define DATA(text) (const uint8_t *)(text), sizeof(text) - 1
@@ -27,56 +29,69 @@ static void expect_untouched(const void *at, size_t length)
     }
 }
 
-static void expect_closed_steps(dw_client *none)
+static void expect_closed_steps(dw_session *none)
 {
-    EXPECT_NUMBER(DW_CLOSED, dw_opened(none, NOW));
-    EXPECT_NUMBER(DW_CLOSED, dw_cut(none, NOW));
-    EXPECT_NUMBER(DW_CLOSED, dw_tick(none, NOW));
-    EXPECT_NUMBER(DW_CLOSED, dw_bytes(none, NOW, DATA("x")));
-    EXPECT_NUMBER(DW_CLOSED, dw_exists(none, NOW, 1, TEXT("/a"), true));
-    EXPECT_NUMBER(DW_CLOSED, dw_get_data(none, NOW, 1, TEXT("/a"), true));
-    EXPECT_NUMBER(DW_CLOSED, dw_get_children(none, NOW, 1, TEXT("/a"), true));
-    EXPECT_NUMBER(DW_CLOSED, dw_set_data(none, NOW, 1, TEXT("/a"), DATA("x"), false, -1));
-    EXPECT_NUMBER(DW_CLOSED, dw_create(none, NOW, 1, TEXT("/a"), DATA("x"), false, DW_MODE_PERSISTENT));
-    EXPECT_NUMBER(DW_CLOSED, dw_delete(none, NOW, 1, TEXT("/a"), -1));
-    EXPECT_NUMBER(DW_CLOSED, dw_close_session(none, NOW, 1));
+    EXPECT_NUMBER(DW_CLOSED, dw_session_opened(none, NOW));
+    EXPECT_NUMBER(DW_CLOSED, dw_session_cut(none, NOW));
+    EXPECT_NUMBER(DW_CLOSED, dw_session_moment(none, NOW));
+    EXPECT_NUMBER(DW_CLOSED, dw_session_bytes(none, NOW, DATA("x")));
+    EXPECT_NUMBER(DW_CLOSED, dw_session_exists(none, NOW, 1, NEVER, TEXT("/a"), true));
+    EXPECT_NUMBER(DW_CLOSED, dw_session_get_data(none, NOW, 1, NEVER, TEXT("/a"), true));
+    EXPECT_NUMBER(DW_CLOSED, dw_session_get_children(none, NOW, 1, NEVER, TEXT("/a"), true));
+    EXPECT_NUMBER(DW_CLOSED, dw_session_set_data(none, NOW, 1, NEVER, TEXT("/a"), DATA("x"), false, -1));
+    EXPECT_NUMBER(DW_CLOSED, dw_session_create(none, NOW, 1, NEVER, TEXT("/a"), DATA("x"), false, DW_MODE_PERSISTENT));
+    EXPECT_NUMBER(DW_CLOSED, dw_session_delete(none, NOW, 1, NEVER, TEXT("/a"), -1));
+    EXPECT_NUMBER(DW_CLOSED, dw_session_close(none, NOW, 1, NEVER));
+    EXPECT_NUMBER(DW_CLOSED, dw_session_raw(none, NOW, 1, NEVER, DW_OPERATION_SYNC, DATA("x")));
+    EXPECT_NUMBER(DW_CLOSED, dw_session_credential(none, NOW, TEXT("digest"), DATA("x")));
+    EXPECT_NUMBER(DW_CLOSED, dw_session_failed(none, NOW));
+    EXPECT_NUMBER(DW_CLOSED, dw_session_addresses(none, NOW, ADDRESSES));
+    EXPECT_NUMBER(DW_CLOSED, dw_session_follow_data(none, NOW, 1, TEXT("/a")));
+    EXPECT_NUMBER(DW_CLOSED, dw_session_follow_names(none, NOW, 1, TEXT("/a")));
+    EXPECT_NUMBER(DW_CLOSED, dw_session_unfollow(none, NOW, 1));
+    EXPECT_NUMBER(DW_CLOSED, dw_session_follow_tree(none, NOW, 1, TEXT("/a"), 3));
+    EXPECT_NUMBER(DW_CLOSED, dw_session_unfollow_tree(none, NOW, 1));
 }
 
-static void expect_closed_outputs(dw_client *none)
+static void expect_closed_outputs(dw_session *none)
 {
     char room[ROOM];
     dw_output output;
     size_t count;
     memset(room, UNTOUCHED, sizeof room);
     memset(&output, UNTOUCHED, sizeof output);
-    EXPECT_NUMBER(DW_CLOSED, dw_next(none, &output));
+    EXPECT_NUMBER(DW_CLOSED, dw_session_next(none, &output));
     expect_untouched(&output, sizeof output);
-    EXPECT_NUMBER(0, dw_copy(none, 0, room, sizeof room));
-    EXPECT_NUMBER(0, dw_name(none, 0, room, sizeof room));
-    EXPECT_NONE(DW_CLOSED, dw_words(none, room, sizeof room, &count));
-    EXPECT_NONE(DW_CLOSED, dw_names(none, (uint8_t *)room, sizeof room, &count));
+    EXPECT_NUMBER(0, dw_session_copy(none, 0, room, sizeof room));
+    EXPECT_NUMBER(0, dw_session_name(none, 0, room, sizeof room));
+    EXPECT_NONE(DW_CLOSED, dw_session_words(none, room, sizeof room, &count));
+    EXPECT_NONE(DW_CLOSED, dw_session_names(none, (uint8_t *)room, sizeof room, &count));
+    EXPECT_NONE(DW_CLOSED, dw_session_outputs(none, (uint8_t *)room, sizeof room, &count));
     expect_untouched(room, sizeof room);
 }
 
-static void expect_closed_session(dw_client *none)
+static void expect_closed_session(dw_session *none)
 {
     uint8_t room[ROOM];
     uint64_t first_ms = 1;
     size_t count;
     memset(room, UNTOUCHED, sizeof room);
-    EXPECT_NUMBER(DW_CLOSED, dw_state(none));
-    EXPECT_NUMBER(0, dw_revision(none));
-    EXPECT_NUMBER(DW_CLOSED, dw_last_zxid(none));
-    EXPECT_NUMBER(DW_CLOSED, dw_timeout_ms(none));
-    EXPECT_NUMBER(DW_CLOSED, dw_deadline(none, &first_ms));
+    EXPECT_NUMBER(DW_CLOSED, dw_session_state(none));
+    EXPECT_NUMBER(0, dw_session_revision(none));
+    EXPECT_NUMBER(DW_CLOSED, dw_session_last_zxid(none));
+    EXPECT_NUMBER(DW_CLOSED, dw_session_timeout_ms(none));
+    EXPECT_NUMBER(DW_CLOSED, dw_session_deadline(none, &first_ms));
     EXPECT_NUMBER(0, first_ms);
-    EXPECT_NONE(DW_CLOSED, dw_saved(none, room, sizeof room, &count));
-    EXPECT_NUMBER(DW_CLOSED, dw_forget(none));
+    first_ms = 1;
+    EXPECT_NUMBER(DW_CLOSED, dw_session_heard_at(none, &first_ms));
+    EXPECT_NUMBER(0, first_ms);
+    EXPECT_NONE(DW_CLOSED, dw_session_saved(none, room, sizeof room, &count));
+    EXPECT_NUMBER(DW_CLOSED, dw_session_forget(none));
     expect_untouched(room, sizeof room);
 }
 
 /* The look-ups of a path answer this and write nothing except the counts of bytes. */
-static void expect_no_look_up(dw_client *client, enum dw_result result, const char *path, size_t length)
+static void expect_no_look_up(dw_session *session, enum dw_result result, const char *path, size_t length)
 {
     uint8_t room[ROOM];
     char name[ROOM];
@@ -88,21 +103,21 @@ static void expect_no_look_up(dw_client *client, enum dw_result result, const ch
     memset(name, UNTOUCHED, sizeof name);
     memset(&data, UNTOUCHED, sizeof data);
     memset(&names, UNTOUCHED, sizeof names);
-    EXPECT_NUMBER(result, dw_peek_data(client, path, length, &data, room, sizeof room));
-    EXPECT_NUMBER(result, dw_peek_children(client, path, length, &names));
-    EXPECT_NONE(result, dw_peek_name(client, path, length, 0, name, sizeof name, &count));
-    EXPECT_NONE(result, dw_peek_names(client, path, length, room, sizeof room, &count));
-    EXPECT_NONE(result, dw_subtree(client, path, length, 1, room, sizeof room, &count));
-    EXPECT_NONE(result, dw_lacking(client, path, length, 1, room, sizeof room, &count));
+    EXPECT_NUMBER(result, dw_session_peek_data(session, path, length, &data, room, sizeof room));
+    EXPECT_NUMBER(result, dw_session_peek_children(session, path, length, &names));
+    EXPECT_NONE(result, dw_session_peek_name(session, path, length, 0, name, sizeof name, &count));
+    EXPECT_NONE(result, dw_session_peek_names(session, path, length, room, sizeof room, &count));
+    EXPECT_NONE(result, dw_session_subtree(session, path, length, 1, room, sizeof room, &count));
+    EXPECT_NONE(result, dw_session_lacking(session, path, length, 1, room, sizeof room, &count));
     count = 1;
-    EXPECT_NUMBER(result, dw_standing(client, path, length, TEXT("n-0000000000"), DATA("\0\0\0\1n"), 1, DATA("\0\0\0\1n"), &token, name,
+    EXPECT_NUMBER(result, dw_session_standing(session, path, length, TEXT("n-0000000000"), DATA("\0\0\0\1n"), 1, DATA("\0\0\0\1n"), &token, name,
                                       sizeof name, &count));
     EXPECT(token == 0 && count == 0);
     token = 1;
-    EXPECT_NUMBER(result, dw_holder(client, path, length, TEXT("n-"), TEXT("/a"), &token));
+    EXPECT_NUMBER(result, dw_session_holder(session, path, length, TEXT("n-"), TEXT("/a"), &token));
     EXPECT_NUMBER(0, token);
     token = 1;
-    EXPECT_NUMBER(result, dw_holder(client, TEXT("/a"), TEXT("n-"), path, length, &token));
+    EXPECT_NUMBER(result, dw_session_holder(session, TEXT("/a"), TEXT("n-"), path, length, &token));
     EXPECT_NUMBER(0, token);
     expect_untouched(room, sizeof room);
     expect_untouched(name, sizeof name);
@@ -111,7 +126,7 @@ static void expect_no_look_up(dw_client *client, enum dw_result result, const ch
 }
 
 /* A snapshot of this path answers this and writes nothing except the count of bytes. */
-static void expect_no_snapshot(dw_client *client, enum dw_result result, const char *path, size_t length)
+static void expect_no_snapshot(dw_session *session, enum dw_result result, const char *path, size_t length)
 {
     uint8_t room[ROOM];
     struct bytes spelled;
@@ -119,81 +134,84 @@ static void expect_no_snapshot(dw_client *client, enum dw_result result, const c
     spelled.length = 0;
     put_buffer(&spelled, path, length);
     memset(room, UNTOUCHED, sizeof room);
-    EXPECT_NONE(result, dw_snapshot(client, spelled.at, spelled.length, DATA("\0\0\0\2/a"), room, sizeof room, &count));
-    EXPECT_NONE(result, dw_snapshot(client, DATA("\0\0\0\2/a"), spelled.at, spelled.length, room, sizeof room, &count));
+    EXPECT_NONE(result, dw_session_snapshot(session, spelled.at, spelled.length, DATA("\0\0\0\2/a"), room, sizeof room, &count));
+    EXPECT_NONE(result, dw_session_snapshot(session, DATA("\0\0\0\2/a"), spelled.at, spelled.length, room, sizeof room, &count));
     expect_untouched(room, sizeof room);
 }
 
-static void expect_closed(dw_client *none)
+static void expect_closed(dw_session *none)
 {
     expect_closed_steps(none);
     expect_closed_outputs(none);
     expect_closed_session(none);
     expect_no_look_up(none, DW_CLOSED, TEXT("/a"));
     expect_no_snapshot(none, DW_CLOSED, TEXT("/a"));
-    dw_close(none);
+    dw_session_free(none);
 }
 
-/* No step is made: the outputs of the step before are there still. */
-static void expect_refused_path(dw_client *client, enum dw_result result, const char *path, size_t length)
+/* No step is made: what the step before said is there still. */
+static void expect_refused_path(dw_session *session, enum dw_result result, const char *path, size_t length)
 {
     dw_output output;
-    EXPECT_NUMBER(DW_OK, dw_exists(client, NOW, 1, TEXT("/a"), false));
-    EXPECT_NUMBER(result, dw_exists(client, NOW, 2, path, length, true));
-    EXPECT_NUMBER(result, dw_get_data(client, NOW, 2, path, length, true));
-    EXPECT_NUMBER(result, dw_get_children(client, NOW, 2, path, length, true));
-    EXPECT_NUMBER(result, dw_set_data(client, NOW, 2, path, length, DATA("x"), false, -1));
-    EXPECT_NUMBER(result, dw_create(client, NOW, 2, path, length, DATA("x"), false, DW_MODE_PERSISTENT));
-    EXPECT_NUMBER(result, dw_delete(client, NOW, 2, path, length, -1));
-    expect_no_look_up(client, result, path, length);
-    expect_no_snapshot(client, result == DW_NOT_TEXT ? DW_NOT_TEXTS : result, path, length);
-    EXPECT_NUMBER(DW_OK, dw_next(client, &output));
-    EXPECT_NUMBER(1, output.ticket);
+    EXPECT_NUMBER(DW_OK, dw_session_exists(session, NOW, 1, NOW, TEXT("/a"), false)); /* which times out at once */
+    EXPECT_NUMBER(result, dw_session_exists(session, NOW, 2, NEVER, path, length, true));
+    EXPECT_NUMBER(result, dw_session_get_data(session, NOW, 2, NEVER, path, length, true));
+    EXPECT_NUMBER(result, dw_session_get_children(session, NOW, 2, NEVER, path, length, true));
+    EXPECT_NUMBER(result, dw_session_set_data(session, NOW, 2, NEVER, path, length, DATA("x"), false, -1));
+    EXPECT_NUMBER(result, dw_session_create(session, NOW, 2, NEVER, path, length, DATA("x"), false, DW_MODE_PERSISTENT));
+    EXPECT_NUMBER(result, dw_session_delete(session, NOW, 2, NEVER, path, length, -1));
+    EXPECT_NUMBER(result, dw_session_follow_data(session, NOW, 2, path, length));
+    EXPECT_NUMBER(result, dw_session_follow_names(session, NOW, 2, path, length));
+    EXPECT_NUMBER(result, dw_session_follow_tree(session, NOW, 2, path, length, 3));
+    expect_no_look_up(session, result, path, length);
+    expect_no_snapshot(session, result == DW_NOT_TEXT ? DW_NOT_TEXTS : result, path, length);
+    EXPECT_NUMBER(DW_OK, dw_session_next(session, &output));
+    EXPECT(output.kind == DW_KIND_TIMED_OUT && output.ticket == 1);
 }
 
-static void expect_refused_paths(dw_client *client)
+static void expect_refused_paths(dw_session *session)
 {
-    expect_refused_path(client, DW_NOT_TEXT, TEXT("/\xff"));
-    expect_refused_path(client, DW_NOT_TEXT, TEXT("\xc3"));
-    expect_refused_path(client, DW_NOT_PATH, TEXT(""));
-    expect_refused_path(client, DW_NOT_PATH, TEXT("a"));
-    expect_refused_path(client, DW_NOT_PATH, TEXT("/a/"));
-    expect_refused_path(client, DW_NOT_PATH, TEXT("/a//b"));
-    expect_refused_path(client, DW_NOT_PATH, TEXT("/a/../b"));
-    expect_refused_path(client, DW_NOT_PATH, TEXT("/\0"));
-    EXPECT_NUMBER(DW_NO_SUCH_MODE, dw_create(client, NOW, 2, TEXT("/a"), DATA("x"), false, 4));
-    EXPECT_NUMBER(DW_NO_SUCH_MODE, dw_create(client, NOW, 2, TEXT("/a"), DATA("x"), false, UINT32_MAX));
+    expect_refused_path(session, DW_NOT_TEXT, TEXT("/\xff"));
+    expect_refused_path(session, DW_NOT_TEXT, TEXT("\xc3"));
+    expect_refused_path(session, DW_NOT_PATH, TEXT(""));
+    expect_refused_path(session, DW_NOT_PATH, TEXT("a"));
+    expect_refused_path(session, DW_NOT_PATH, TEXT("/a/"));
+    expect_refused_path(session, DW_NOT_PATH, TEXT("/a//b"));
+    expect_refused_path(session, DW_NOT_PATH, TEXT("/a/../b"));
+    expect_refused_path(session, DW_NOT_PATH, TEXT("/\0"));
+    EXPECT_NUMBER(DW_NO_SUCH_MODE, dw_session_create(session, NOW, 2, NEVER, TEXT("/a"), DATA("x"), false, 4));
+    EXPECT_NUMBER(DW_NO_SUCH_MODE, dw_session_create(session, NOW, 2, NEVER, TEXT("/a"), DATA("x"), false, UINT32_MAX));
 }
 
-/* A handle that held a client holds nothing where dw_open or dw_resume refuses. */
-static void expect_refused_makings(dw_client *client)
+/* A handle that held a session holds nothing where dw_open or dw_resume refuses. */
+static void expect_refused_makings(dw_session *session)
 {
     static const int32_t timeouts[] = {0, -1, INT32_MIN};
     uint8_t saved[37] = {0}, behind[36] = {0};
     saved[11] = behind[11] = 16; /* the length of the password */
     behind[28] = 0x80;           /* a zxid below 0 */
     for (size_t i = 0; i < sizeof timeouts / sizeof timeouts[0]; i++) {
-        EXPECT_NUMBER(DW_OK, dw_open(client, 1));
-        EXPECT_NUMBER(DW_BAD_TIMEOUT, dw_open(client, timeouts[i]));
-        expect_closed(client);
-        EXPECT_NUMBER(DW_BAD_TIMEOUT, dw_resume(client, timeouts[i], saved, 36));
-        expect_closed(client);
+        EXPECT_NUMBER(DW_OK, dw_session_open(session, 1, ADDRESSES, SEED));
+        EXPECT_NUMBER(DW_BAD_TIMEOUT, dw_session_open(session, timeouts[i], ADDRESSES, SEED));
+        expect_closed(session);
+        EXPECT_NUMBER(DW_BAD_TIMEOUT, dw_session_resume(session, timeouts[i], ADDRESSES, SEED, saved, 36));
+        expect_closed(session);
     }
-    EXPECT_NUMBER(DW_OK, dw_resume(client, 1, saved, 36));
-    EXPECT_NUMBER(DW_STATE_IDLE, dw_state(client));
-    EXPECT_NUMBER(DW_NOT_SAVED, dw_resume(client, 1, saved, 0));
-    expect_closed(client);
-    EXPECT_NUMBER(DW_NOT_SAVED, dw_resume(client, 1, saved, 35));
-    EXPECT_NUMBER(DW_NOT_SAVED, dw_resume(client, 1, saved, 37));
-    EXPECT_NUMBER(DW_NOT_SAVED, dw_resume(client, 1, behind, 36));
-    expect_closed(client);
+    EXPECT_NUMBER(DW_OK, dw_session_resume(session, 1, ADDRESSES, SEED, saved, 36));
+    EXPECT_NUMBER(DW_STATE_IDLE, dw_session_state(session));
+    EXPECT_NUMBER(DW_NOT_SAVED, dw_session_resume(session, 1, ADDRESSES, SEED, saved, 0));
+    expect_closed(session);
+    EXPECT_NUMBER(DW_NOT_SAVED, dw_session_resume(session, 1, ADDRESSES, SEED, saved, 35));
+    EXPECT_NUMBER(DW_NOT_SAVED, dw_session_resume(session, 1, ADDRESSES, SEED, saved, 37));
+    EXPECT_NUMBER(DW_NOT_SAVED, dw_session_resume(session, 1, ADDRESSES, SEED, behind, 36));
+    expect_closed(session);
 }
 
 /* The next output answers the ticket without a reply. */
-static void expect_answer(dw_client *client, uint64_t ticket, enum dw_outcome outcome)
+static void expect_answer(dw_session *session, uint64_t ticket, enum dw_outcome outcome)
 {
     dw_output output;
-    EXPECT_NUMBER(DW_OK, dw_next(client, &output));
+    EXPECT_NUMBER(DW_OK, dw_session_next(session, &output));
     EXPECT_NUMBER(DW_KIND_ANSWER, output.kind);
     EXPECT_NUMBER(ticket, output.ticket);
     EXPECT_NUMBER(outcome, output.outcome);
@@ -201,105 +219,123 @@ static void expect_answer(dw_client *client, uint64_t ticket, enum dw_outcome ou
     EXPECT_NUMBER(0, output.length);
 }
 
-static void connect_client(dw_client *client)
+/* The outputs of the last step up to the next one of this kind. */
+static dw_output pass_on_to(dw_session *session, enum dw_kind kind)
+{
+    dw_output output;
+    do {
+        EXPECT_NUMBER(DW_OK, dw_session_next(session, &output));
+    } while (output.kind != kind);
+    return output;
+}
+
+static void connect_session(dw_session *session)
 {
     struct bytes response;
     response.length = 0;
     add_connected(&response);
-    EXPECT_NUMBER(DW_OK, dw_open(client, 10000));
-    EXPECT_NUMBER(DW_OK, dw_tick(client, NOW));
-    EXPECT_NUMBER(DW_OK, dw_opened(client, NOW));
-    EXPECT_NUMBER(DW_STATE_CONNECTING, dw_state(client));
-    EXPECT_NUMBER(10000, dw_timeout_ms(client));
-    EXPECT_NUMBER(DW_OK, dw_bytes(client, NOW, response.at, response.length));
-    EXPECT_NUMBER(DW_STATE_CONNECTED, dw_state(client));
-    EXPECT_NUMBER(GRANTED_MS, dw_timeout_ms(client));
+    EXPECT_NUMBER(DW_OK, dw_session_open(session, 10000, ADDRESSES, SEED));
+    EXPECT_NUMBER(DW_OK, dw_session_moment(session, NOW));
+    EXPECT_NUMBER(DW_OK, dw_session_opened(session, NOW));
+    EXPECT_NUMBER(DW_STATE_CONNECTING, dw_session_state(session));
+    EXPECT_NUMBER(10000, dw_session_timeout_ms(session));
+    EXPECT_NUMBER(DW_OK, dw_session_bytes(session, NOW, response.at, response.length));
+    EXPECT_NUMBER(DW_STATE_CONNECTED, dw_session_state(session));
+    EXPECT_NUMBER(GRANTED_MS, dw_session_timeout_ms(session));
 }
 
-/* K4 without a connection, K6 for a payload above 1,048,575 bytes, K7 where 1,024 calls wait, K1 at the end of the connection. */
-static void expect_answers_without_reply(dw_client *client)
+/* K6 for a payload above 1,048,575 bytes; where 1,024 calls are on their way another one waits; K1 for writes at the end of the connection. */
+static void expect_answers_without_reply(dw_session *session)
 {
     enum { MOST_PENDING = 1024, LONGEST = 1048575 };
     static const uint8_t data[LONGEST] = {0};
-    EXPECT_NUMBER(DW_OK, dw_open(client, 10000));
-    EXPECT_NUMBER(DW_OK, dw_get_data(client, NOW, 5, TEXT("/a"), false));
-    expect_answer(client, 5, DW_OUTCOME_NOT_CONNECTED);
-    connect_client(client);
-    EXPECT_NUMBER(DW_OK, dw_set_data(client, NOW, 6, TEXT("/a"), data, sizeof data, false, -1));
-    expect_answer(client, 6, DW_OUTCOME_TOO_LARGE);
+    dw_output output;
+    connect_session(session);
+    EXPECT_NUMBER(DW_OK, dw_session_set_data(session, NOW, MOST_PENDING + 2, NEVER, TEXT("/a"), data, sizeof data, false, -1));
+    expect_answer(session, MOST_PENDING + 2, DW_OUTCOME_TOO_LARGE);
     for (uint64_t ticket = 1; ticket <= MOST_PENDING; ticket++) {
-        EXPECT_NUMBER(DW_OK, dw_get_data(client, NOW, ticket, TEXT("/a"), false));
+        EXPECT_NUMBER(DW_OK, dw_session_delete(session, NOW, ticket, NEVER, TEXT("/a"), -1));
+        pass_on_to(session, DW_KIND_SEND);
     }
-    EXPECT_NUMBER(DW_OK, dw_get_data(client, NOW, UINT64_MAX, TEXT("/a"), false));
-    expect_answer(client, UINT64_MAX, DW_OUTCOME_TOO_MANY_PENDING);
-    EXPECT_NUMBER(DW_OK, dw_cut(client, NOW));
+    EXPECT_NUMBER(DW_OK, dw_session_delete(session, NOW, MOST_PENDING + 1, NEVER, TEXT("/a"), -1));
+    EXPECT_NUMBER(DW_NONE, dw_session_next(session, &output));
+    EXPECT_NUMBER(DW_OK, dw_session_cut(session, NOW));
     for (uint64_t ticket = 1; ticket <= MOST_PENDING; ticket++) {
-        expect_answer(client, ticket, DW_OUTCOME_LOST);
+        expect_answer(session, ticket, DW_OUTCOME_LOST);
     }
+    EXPECT_NUMBER(DW_STATE_IDLE, pass_on_to(session, DW_KIND_STATE).state);
 }
 
-/* K2 after an expiry, K3 after a close. */
-static void expect_ended(dw_client *client)
+/* K3 while the session is closed and after it, K2 for what waits at an expiry. */
+static void expect_ended(dw_session *session)
 {
     struct bytes came;
+    uint64_t first_ms;
     came.length = 0;
-    connect_client(client);
-    EXPECT_NUMBER(DW_OK, dw_close_session(client, NOW, 7));
-    EXPECT_NUMBER(DW_OK, dw_get_data(client, NOW, 8, TEXT("/a"), false));
-    expect_answer(client, 8, DW_OUTCOME_CLOSED);
+    connect_session(session);
+    EXPECT_NUMBER(DW_OK, dw_session_close(session, NOW, 7, NEVER));
+    EXPECT_NUMBER(DW_OK, dw_session_get_data(session, NOW, 8, NEVER, TEXT("/a"), false));
+    expect_answer(session, 8, DW_OUTCOME_CLOSED);
     add_header(&came, 1, 0, 0);
-    EXPECT_NUMBER(DW_OK, dw_bytes(client, NOW, came.at, came.length));
-    EXPECT_NUMBER(DW_STATE_CLOSED, dw_state(client));
-    connect_client(client);
+    EXPECT_NUMBER(DW_OK, dw_session_bytes(session, NOW, came.at, came.length));
+    EXPECT_NUMBER(DW_STATE_CLOSED, dw_session_state(session));
+    EXPECT_NUMBER(DW_NONE, dw_session_deadline(session, &first_ms));
+    EXPECT_NUMBER(0, first_ms);
+    EXPECT_NUMBER(DW_OK, dw_session_get_data(session, NOW, 9, NEVER, TEXT("/a"), false));
+    expect_answer(session, 9, DW_OUTCOME_CLOSED);
+    connect_session(session);
     came.length = 0;
     add_expired(&came);
-    EXPECT_NUMBER(DW_OK, dw_cut(client, NOW));
-    EXPECT_NUMBER(DW_OK, dw_opened(client, NOW));
-    EXPECT_NUMBER(DW_OK, dw_bytes(client, NOW, came.at, came.length));
-    EXPECT_NUMBER(DW_STATE_EXPIRED, dw_state(client));
-    EXPECT_NUMBER(DW_OK, dw_get_data(client, NOW, 9, TEXT("/a"), false));
-    expect_answer(client, 9, DW_OUTCOME_EXPIRED);
+    EXPECT_NUMBER(DW_OK, dw_session_cut(session, NOW));
+    EXPECT_NUMBER(DW_OK, dw_session_get_data(session, NOW, 10, NEVER, TEXT("/a"), false));
+    EXPECT_NUMBER(DW_OK, dw_session_deadline(session, &first_ms));
+    EXPECT_NUMBER(DW_OK, dw_session_moment(session, first_ms));
+    pass_on_to(session, DW_KIND_DIAL);
+    EXPECT_NUMBER(DW_OK, dw_session_opened(session, first_ms));
+    EXPECT_NUMBER(DW_OK, dw_session_bytes(session, first_ms, came.at, came.length));
+    EXPECT_NUMBER(DW_STATE_EXPIRED, pass_on_to(session, DW_KIND_STATE).state);
+    EXPECT_NUMBER(DW_OUTCOME_EXPIRED, pass_on_to(session, DW_KIND_ANSWER).outcome);
+    pass_on_to(session, DW_KIND_RENEWED);
+    EXPECT_NUMBER(DW_STATE_IDLE, dw_session_state(session));
 }
 
 /* A ping (xid -2, type 11) a third of the granted timeout after the last frame that was sent, and silence two thirds after the last byte
  * that came. */
-static void expect_deadlines(dw_client *client)
+static void expect_deadlines(dw_session *session)
 {
     static const uint8_t ping[] = {0, 0, 0, 8, 0xff, 0xff, 0xff, 0xfe, 0, 0, 0, 11};
     uint8_t frame[sizeof ping];
     uint64_t first_ms;
     dw_output output;
-    connect_client(client);
-    EXPECT_NUMBER(DW_OK, dw_deadline(client, &first_ms));
+    connect_session(session);
+    EXPECT_NUMBER(DW_OK, dw_session_deadline(session, &first_ms));
     EXPECT(first_ms == NOW + GRANTED_MS / 3 || first_ms == NOW + GRANTED_MS / 3 + 1);
-    EXPECT_NUMBER(DW_OK, dw_tick(client, first_ms - 1));
-    EXPECT_NUMBER(DW_NONE, dw_next(client, &output));
-    EXPECT_NUMBER(DW_OK, dw_tick(client, first_ms));
-    EXPECT_NUMBER(DW_OK, dw_next(client, &output));
+    EXPECT_NUMBER(DW_OK, dw_session_moment(session, first_ms - 1));
+    EXPECT_NUMBER(DW_NONE, dw_session_next(session, &output));
+    EXPECT_NUMBER(DW_OK, dw_session_moment(session, first_ms));
+    EXPECT_NUMBER(DW_OK, dw_session_next(session, &output));
     EXPECT_NUMBER(DW_KIND_SEND, output.kind);
-    EXPECT_NUMBER(sizeof ping, dw_copy(client, 0, frame, sizeof frame));
+    EXPECT_NUMBER(sizeof ping, dw_session_copy(session, 0, frame, sizeof frame));
     EXPECT(memcmp(frame, ping, sizeof ping) == 0);
-    EXPECT_NUMBER(DW_OK, dw_tick(client, NOW + 2 * GRANTED_MS / 3 + 1));
-    EXPECT_NUMBER(DW_OK, dw_next(client, &output));
+    EXPECT_NUMBER(DW_OK, dw_session_moment(session, NOW + 2 * GRANTED_MS / 3 + 1));
+    EXPECT_NUMBER(DW_OK, dw_session_next(session, &output));
     EXPECT_NUMBER(DW_KIND_DROP, output.kind);
     EXPECT_NUMBER(DW_CAUSE_SILENT, output.cause);
-    EXPECT_NUMBER(DW_STATE_IDLE, dw_state(client));
-    EXPECT_NUMBER(DW_NONE, dw_deadline(client, &first_ms));
-    EXPECT_NUMBER(0, first_ms);
+    EXPECT_NUMBER(DW_STATE_IDLE, dw_session_state(session));
 }
 
 int main(void)
 {
-    static dw_client client; /* zeros */
-    expect_closed(&client);
-    EXPECT_NUMBER(DW_OK, dw_open(&client, INT32_MAX));
-    expect_refused_paths(&client);
-    expect_refused_makings(&client);
-    expect_answers_without_reply(&client);
-    expect_ended(&client);
-    expect_deadlines(&client);
-    dw_close(&client);
-    expect_closed(&client);
+    static dw_session session; /* zeros */
+    expect_closed(&session);
+    EXPECT_NUMBER(DW_OK, dw_session_open(&session, INT32_MAX, ADDRESSES, SEED));
+    expect_refused_paths(&session);
+    expect_refused_makings(&session);
+    expect_answers_without_reply(&session);
+    expect_ended(&session);
+    expect_deadlines(&session);
+    dw_session_free(&session);
+    expect_closed(&session);
     printf("codes: passed\n");
     return 0;
 }

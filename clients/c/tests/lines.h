@@ -1,4 +1,4 @@
-/* What a client says and keeps, as lines of text that tests compare. */
+/* What a session says and keeps, as lines of text that tests compare. */
 #ifndef DIRWOLLEU_TESTS_LINES_H
 #define DIRWOLLEU_TESTS_LINES_H
 
@@ -15,7 +15,7 @@ uint32_t read_int(const uint8_t *at);
 /* Adds to the lines, as printf does. */
 void add_line(struct lines *lines, const char *format, ...);
 
-/* Adds the outputs of the last step, all of them:
+/* Adds what the last step says, all of it:
  *   send HEX
  *   answer TICKET K1                                     where there is no reply
  *   answer TICKET at ZXID code -101
@@ -24,15 +24,19 @@ void add_line(struct lines *lines, const char *format, ...);
  *   answer TICKET at ZXID names "A" "B" [STAT]
  *   answer TICKET at ZXID created "PATH"
  *   answer TICKET at ZXID done
+ *   answer TICKET at ZXID raw
  *   report EVENT SIDE "PATH"
  *   state NUMBER
  *   drop NUMBER "CODE" WORDS
+ *   dial PLACE MILLISECONDS
+ *   hang up
+ *   kind KIND TICKET                                     of all else
  * A STAT is its eleven numbers in the order of zookeeper.jute. */
-void add_outputs(struct lines *lines, dw_client *client);
+void add_outputs(struct lines *lines, dw_session *session);
 
 /* Add what is kept of a path: `data KIND MARK "TEXT"` where its data are, and `names MARK PZXID "A" "B"`. They answer what the
  * look-up does, and add nothing where it is not DW_OK. */
-enum dw_result add_kept_data(struct lines *lines, dw_client *client, const char *path);
-enum dw_result add_kept_names(struct lines *lines, dw_client *client, const char *path);
+enum dw_result add_kept_data(struct lines *lines, dw_session *session, const char *path);
+enum dw_result add_kept_names(struct lines *lines, dw_session *session, const char *path);
 
 #endif

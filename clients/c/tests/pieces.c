@@ -1,4 +1,4 @@
-/* However the stream of a server is cut into pieces, a client says the same. A session is played at once, byte by byte, in pieces of
+/* However the stream of a server is cut into pieces, a session says the same. One is played at once, byte by byte, in pieces of
  * several sizes, and cut in two at each place; what came of it is compared with what zookeeper.jute and the header say. */
 #include "dirwolleu.h"
 #include "expect.h"
@@ -17,8 +17,13 @@ static const dw_stat STAT = {
     .ephemeral_owner = 0, .data_length = 5, .num_children = 2, .pzxid = 4,
 };
 
+/* The moment of a step. The second connection begins later than any pause before it is over. */
+enum { FIRST_MS = 1, SECOND_MS = 20000 };
+static uint64_t now_ms;
+
 /* What is to come of the session. Frames are spelled by zookeeper.jute. */
 static const char EXPECTED[] =
+    "dial 0 3333\n"
     /* ConnectRequest: version 0, last zxid 0, timeout 10,000, session 0, a password of 16 zeros, read only 0 */
     "send 0000002d" "00000000" "0000000000000000" "00002710" "0000000000000000"
     "00000010" "00000000000000000000000000000000" "00\n"
@@ -46,6 +51,7 @@ static const char EXPECTED[] =
     "names 2 4 \"left\" \"right\"\n"
     "data 1 1 \"\"\n"
     "state 0\n"
+    "dial 0 2000\n"
     /* ConnectRequest of the session: last zxid 8, timeout 10,000 as before, session 0x1234, its password */
     "send 0000002d" "00000000" "0000000000000008" "00002710" "0000000000001234"
     "00000010" "000102030405060708090a0b0c0d0e0f" "00\n"
@@ -57,45 +63,48 @@ static const char EXPECTED[] =
     /* closeSession (-11) */
     "send 00000008" "00000007" "fffffff5\n"
     "answer 17 at 9 done\n"
-    "state 4\n";
+    "state 4\n"
+    "hang up\n";
 
-static void hand_in(dw_client *client, struct lines *lines, const struct bytes *stream, const struct cutting *cutting)
+static void hand_in(dw_session *session, struct lines *lines, const struct bytes *stream, const struct cutting *cutting)
 {
     size_t length, most = cutting->first;
     for (size_t at = 0; at < stream->length; at += length) {
         length = stream->length - at < most ? stream->length - at : most;
-        EXPECT_NUMBER(DW_OK, dw_bytes(client, 1, stream->at + at, length));
-        add_outputs(lines, client);
+        EXPECT_NUMBER(DW_OK, dw_session_bytes(session, now_ms, stream->at + at, length));
+        add_outputs(lines, session);
         most = cutting->rest;
     }
 }
 
-static void open_connection(dw_client *client, struct lines *lines, const struct cutting *cutting)
+static void open_connection(dw_session *session, struct lines *lines, const struct cutting *cutting)
 {
     static struct bytes response;
     response.length = 0;
     add_connected(&response);
-    EXPECT_NUMBER(DW_OK, dw_opened(client, 1));
-    add_outputs(lines, client);
-    hand_in(client, lines, &response, cutting);
+    EXPECT_NUMBER(DW_OK, dw_session_moment(session, now_ms));
+    add_outputs(lines, session);
+    EXPECT_NUMBER(DW_OK, dw_session_opened(session, now_ms));
+    add_outputs(lines, session);
+    hand_in(session, lines, &response, cutting);
 }
 
-static void ask(dw_client *client, struct lines *lines)
+static void ask(dw_session *session, struct lines *lines)
 {
     const char *a = "/a", *b = "/b", *below = "/a/n";
     const uint8_t data[] = {'x'};
-    EXPECT_NUMBER(DW_OK, dw_get_data(client, 1, 11, a, 2, true));
-    add_outputs(lines, client);
-    EXPECT_NUMBER(DW_OK, dw_get_children(client, 1, 12, a, 2, true));
-    add_outputs(lines, client);
-    EXPECT_NUMBER(DW_OK, dw_exists(client, 1, 13, b, 2, true));
-    add_outputs(lines, client);
-    EXPECT_NUMBER(DW_OK, dw_create(client, 1, 14, below, 4, data, 1, false, DW_MODE_EPHEMERAL | DW_MODE_SEQUENTIAL));
-    add_outputs(lines, client);
-    EXPECT_NUMBER(DW_OK, dw_set_data(client, 1, 15, a, 2, data, 1, true, 7));
-    add_outputs(lines, client);
-    EXPECT_NUMBER(DW_OK, dw_delete(client, 1, 16, a, 2, -1));
-    add_outputs(lines, client);
+    EXPECT_NUMBER(DW_OK, dw_session_get_data(session, now_ms, 11, UINT64_MAX, a, 2, true));
+    add_outputs(lines, session);
+    EXPECT_NUMBER(DW_OK, dw_session_get_children(session, now_ms, 12, UINT64_MAX, a, 2, true));
+    add_outputs(lines, session);
+    EXPECT_NUMBER(DW_OK, dw_session_exists(session, now_ms, 13, UINT64_MAX, b, 2, true));
+    add_outputs(lines, session);
+    EXPECT_NUMBER(DW_OK, dw_session_create(session, now_ms, 14, UINT64_MAX, below, 4, data, 1, false, DW_MODE_EPHEMERAL | DW_MODE_SEQUENTIAL));
+    add_outputs(lines, session);
+    EXPECT_NUMBER(DW_OK, dw_session_set_data(session, now_ms, 15, UINT64_MAX, a, 2, data, 1, true, 7));
+    add_outputs(lines, session);
+    EXPECT_NUMBER(DW_OK, dw_session_delete(session, now_ms, 16, UINT64_MAX, a, 2, -1));
+    add_outputs(lines, session);
 }
 
 /* Replies to what is asked, and notices before the replies that tell a later zxid. */
@@ -113,47 +122,48 @@ static void answer(struct bytes *stream)
 }
 
 /* The first connection: what is asked, answered and kept. */
-static void play_first(dw_client *client, struct lines *lines, const struct cutting *cutting)
+static void play_first(dw_session *session, struct lines *lines, const struct cutting *cutting)
 {
     static struct bytes stream;
-    open_connection(client, lines, cutting);
-    ask(client, lines);
+    open_connection(session, lines, cutting);
+    ask(session, lines);
     answer(&stream);
-    hand_in(client, lines, &stream, cutting);
-    EXPECT_NUMBER(DW_OK, add_kept_data(lines, client, "/a"));
-    EXPECT_NUMBER(DW_OK, add_kept_names(lines, client, "/a"));
-    EXPECT_NUMBER(DW_OK, add_kept_data(lines, client, "/b"));
-    EXPECT_NUMBER(DW_OK, dw_cut(client, 1));
-    add_outputs(lines, client);
+    hand_in(session, lines, &stream, cutting);
+    EXPECT_NUMBER(DW_OK, add_kept_data(lines, session, "/a"));
+    EXPECT_NUMBER(DW_OK, add_kept_names(lines, session, "/a"));
+    EXPECT_NUMBER(DW_OK, add_kept_data(lines, session, "/b"));
+    EXPECT_NUMBER(DW_OK, dw_session_cut(session, now_ms));
+    add_outputs(lines, session);
 }
 
 /* The second one: a watch is set again and fires, and the session is closed. */
-static void play_second(dw_client *client, struct lines *lines, const struct cutting *cutting)
+static void play_second(dw_session *session, struct lines *lines, const struct cutting *cutting)
 {
     static struct bytes stream;
-    open_connection(client, lines, cutting);
+    open_connection(session, lines, cutting);
     stream.length = 0;
     add_notice(&stream, DW_EVENT_CREATED, "/b");
     add_header(&stream, XID_SET_WATCHES, 9, 0);
-    hand_in(client, lines, &stream, cutting);
-    EXPECT_NUMBER(DW_OK, dw_close_session(client, 1, 17));
-    add_outputs(lines, client);
+    hand_in(session, lines, &stream, cutting);
+    EXPECT_NUMBER(DW_OK, dw_session_close(session, now_ms, 17, UINT64_MAX));
+    add_outputs(lines, session);
     stream.length = 0;
     add_header(&stream, 7, 9, 0);
-    hand_in(client, lines, &stream, cutting);
+    hand_in(session, lines, &stream, cutting);
 }
 
 static void play(size_t first, size_t rest)
 {
     struct cutting cutting = {first, rest};
     static struct lines lines;
-    dw_client client = {0};
+    dw_session session = {0};
     lines.length = 0;
-    EXPECT_NUMBER(DW_OK, dw_open(&client, 10000));
-    EXPECT_NUMBER(DW_OK, dw_tick(&client, 1));
-    play_first(&client, &lines, &cutting);
-    play_second(&client, &lines, &cutting);
-    dw_close(&client);
+    EXPECT_NUMBER(DW_OK, dw_session_open(&session, 10000, 1, 1));
+    now_ms = FIRST_MS;
+    play_first(&session, &lines, &cutting);
+    now_ms = SECOND_MS;
+    play_second(&session, &lines, &cutting);
+    dw_session_free(&session);
     if (lines.length != strlen(EXPECTED) || memcmp(lines.at, EXPECTED, lines.length) != 0) {
         fprintf(stderr, "a first piece of %zu bytes, then of %zu:\n%.*s", first, rest, (int)lines.length, lines.at);
         exit(EXIT_FAILURE);

@@ -14,40 +14,65 @@ static const char PATH[] = {'/', 'a'}, OTHER[] = {'/', 'b'};
 static const uint8_t DATA[] = {'x'};
 
 struct play {
-    dw_client client, second;
+    dw_session session, second;
+    uint64_t now_ms;
     uint8_t saved[64];
     size_t saved_length;
     struct lines lines;
 };
 
-static enum dw_result hand_in(dw_client *client, const struct bytes *bytes)
+static enum dw_result hand_in(struct play *play, const struct bytes *bytes)
 {
-    return dw_bytes(client, 1, bytes->at, bytes->length);
+    return dw_session_bytes(&play->session, play->now_ms, bytes->at, bytes->length);
 }
 
-static enum dw_result open_client(struct play *play)
+/* A move that hands in one frame, which this function of frames.h adds with these words. */
+#define REPLY(name, add, ...) \
+    static enum dw_result name(struct play *play) \
+    { \
+        struct bytes reply = {.length = 0}; \
+        add(&reply, __VA_ARGS__); \
+        return hand_in(play, &reply); \
+    }
+
+static enum dw_result open_session(struct play *play)
 {
-    enum dw_result result = dw_open(&play->client, 10000);
-    EXPECT_NUMBER(result == DW_OK ? DW_STATE_IDLE : DW_CLOSED, dw_state(&play->client));
+    enum dw_result result = dw_session_open(&play->session, 10000, 3, 1);
+    EXPECT_NUMBER(result == DW_OK ? DW_STATE_IDLE : DW_CLOSED, dw_session_state(&play->session));
     return result;
 }
 
-MOVE(tick, dw_tick(&play->client, 1))
-MOVE(opened, dw_opened(&play->client, 1))
+MOVE(moment, dw_session_moment(&play->session, play->now_ms))
+
+/* Trees have rested. */
+static enum dw_result soon(struct play *play)
+{
+    play->now_ms += 5;
+    return moment(play);
+}
+
+/* Later than any pause: a connection is asked for. */
+static enum dw_result later(struct play *play)
+{
+    play->now_ms += 10000;
+    return moment(play);
+}
+
+MOVE(opened, dw_session_opened(&play->session, play->now_ms))
 
 static enum dw_result connected(struct play *play)
 {
     struct bytes response = {.length = 0};
     add_connected(&response);
-    return hand_in(&play->client, &response);
+    return hand_in(play, &response);
 }
 
-MOVE(get_data, dw_get_data(&play->client, 1, 11, PATH, sizeof PATH, true))
-MOVE(get_children, dw_get_children(&play->client, 1, 12, PATH, sizeof PATH, true))
-MOVE(exists, dw_exists(&play->client, 1, 13, OTHER, sizeof OTHER, true))
-MOVE(create, dw_create(&play->client, 1, 14, OTHER, sizeof OTHER, DATA, sizeof DATA, false, DW_MODE_SEQUENTIAL))
-MOVE(set_data, dw_set_data(&play->client, 1, 15, PATH, sizeof PATH, DATA, sizeof DATA, false, -1))
-MOVE(delete, dw_delete(&play->client, 1, 16, PATH, sizeof PATH, -1))
+MOVE(get_data, dw_session_get_data(&play->session, play->now_ms, 11, UINT64_MAX, PATH, sizeof PATH, true))
+MOVE(get_children, dw_session_get_children(&play->session, play->now_ms, 12, UINT64_MAX, PATH, sizeof PATH, true))
+MOVE(exists, dw_session_exists(&play->session, play->now_ms, 13, UINT64_MAX, OTHER, sizeof OTHER, true))
+MOVE(create, dw_session_create(&play->session, play->now_ms, 14, UINT64_MAX, OTHER, sizeof OTHER, DATA, sizeof DATA, false, DW_MODE_SEQUENTIAL))
+MOVE(set_data, dw_session_set_data(&play->session, play->now_ms, 15, UINT64_MAX, PATH, sizeof PATH, DATA, sizeof DATA, false, -1))
+MOVE(delete, dw_session_delete(&play->session, play->now_ms, 16, UINT64_MAX, PATH, sizeof PATH, -1))
 
 /* The replies to these six, and two notices, in one piece. */
 static enum dw_result replied(struct play *play)
@@ -60,18 +85,18 @@ static enum dw_result replied(struct play *play)
     add_notice(&replies, DW_EVENT_DATA_CHANGED, "/a");
     add_stat(&replies, 5, 7, &STAT);
     add_header(&replies, 6, 7, CODE_BAD_VERSION);
-    return hand_in(&play->client, &replies);
+    return hand_in(play, &replies);
 }
 
-MOVE(peek_data, add_kept_data(&play->lines, &play->client, "/a"))
-MOVE(peek_names, add_kept_names(&play->lines, &play->client, "/a"))
+MOVE(peek_data, add_kept_data(&play->lines, &play->session, "/a"))
+MOVE(peek_names, add_kept_names(&play->lines, &play->session, "/a"))
 
 /* All names of the listing that was told last: none, since no output of this step is one. */
 static enum dw_result names(struct play *play)
 {
     uint8_t room[8];
     size_t count = 1;
-    enum dw_result result = dw_names(&play->client, room, sizeof room, &count);
+    enum dw_result result = dw_session_names(&play->session, room, sizeof room, &count);
     EXPECT_NUMBER(0, count);
     return result;
 }
@@ -81,7 +106,7 @@ static enum dw_result lacking(struct play *play)
 {
     uint8_t room[256];
     size_t count = 1;
-    enum dw_result result = dw_lacking(&play->client, PATH, sizeof PATH, 3, room, sizeof room, &count);
+    enum dw_result result = dw_session_lacking(&play->session, PATH, sizeof PATH, 3, room, sizeof room, &count);
     EXPECT_NUMBER(result == DW_OK ? 10 + 2 * 15 + 2 * 16 : 0, count);
     return result;
 }
@@ -90,7 +115,7 @@ static enum dw_result subtree(struct play *play)
 {
     uint8_t room[8];
     size_t count = 1;
-    enum dw_result result = dw_subtree(&play->client, PATH, sizeof PATH, 3, room, sizeof room, &count);
+    enum dw_result result = dw_session_subtree(&play->session, PATH, sizeof PATH, 3, room, sizeof room, &count);
     EXPECT_NUMBER(0, count);
     return result == DW_NOT_WHOLE ? DW_OK : result;
 }
@@ -101,7 +126,7 @@ static enum dw_result snapshot(struct play *play)
     static const uint8_t paths[] = "\0\0\0\2/a";
     uint8_t room[8];
     size_t count = 1;
-    enum dw_result result = dw_snapshot(&play->client, paths, sizeof paths - 1, paths, sizeof paths - 1, room, sizeof room, &count);
+    enum dw_result result = dw_session_snapshot(&play->session, paths, sizeof paths - 1, paths, sizeof paths - 1, room, sizeof room, &count);
     EXPECT_NUMBER(0, count);
     return result == DW_NOT_WHOLE ? DW_OK : result;
 }
@@ -110,7 +135,7 @@ static enum dw_result snapshot(struct play *play)
 static enum dw_result holder(struct play *play)
 {
     int64_t token = 1;
-    enum dw_result result = dw_holder(&play->client, PATH, sizeof PATH, "n-", 2, PATH, sizeof PATH, &token);
+    enum dw_result result = dw_session_holder(&play->session, PATH, sizeof PATH, "n-", 2, PATH, sizeof PATH, &token);
     EXPECT_NUMBER(0, token);
     return result == DW_NONE ? DW_OK : result;
 }
@@ -122,7 +147,7 @@ static enum dw_result standing(struct play *play)
     char rival[16];
     int64_t token = 1;
     size_t count = 1;
-    enum dw_result result = dw_standing(&play->client, PATH, sizeof PATH, "n-0000000001", 12, listed, sizeof listed - 1, 5, markers,
+    enum dw_result result = dw_session_standing(&play->session, PATH, sizeof PATH, "n-0000000001", 12, listed, sizeof listed - 1, 5, markers,
                                         sizeof markers - 1, &token, rival, sizeof rival, &count);
     EXPECT_NUMBER(0, token);
     EXPECT_NUMBER(result == DW_WAITS ? 12 : 0, count);
@@ -131,13 +156,13 @@ static enum dw_result standing(struct play *play)
 
 static enum dw_result save(struct play *play)
 {
-    enum dw_result result = dw_saved(&play->client, play->saved, sizeof play->saved, &play->saved_length);
+    enum dw_result result = dw_session_saved(&play->session, play->saved, sizeof play->saved, &play->saved_length);
     EXPECT_NUMBER(result == DW_OK ? SAVED_LENGTH : 0, play->saved_length);
     return result;
 }
 
-MOVE(forget, dw_forget(&play->client))
-MOVE(cut, dw_cut(&play->client, 1))
+MOVE(forget, dw_session_forget(&play->session))
+MOVE(cut, dw_session_cut(&play->session, play->now_ms))
 
 /* A reply for which nobody asked: the connection is given up, which is the first output. */
 static enum dw_result unasked(struct play *play)
@@ -145,9 +170,9 @@ static enum dw_result unasked(struct play *play)
     struct bytes reply = {.length = 0};
     dw_output output;
     add_header(&reply, 99, 9, 0);
-    enum dw_result result = hand_in(&play->client, &reply);
+    enum dw_result result = hand_in(play, &reply);
     if (result == DW_OK) {
-        EXPECT_NUMBER(DW_OK, dw_next(&play->client, &output));
+        EXPECT_NUMBER(DW_OK, dw_session_next(&play->session, &output));
         EXPECT_NUMBER(DW_KIND_DROP, output.kind);
     }
     return result;
@@ -158,31 +183,58 @@ static enum dw_result words(struct play *play)
 {
     char text[256];
     size_t length = 1;
-    enum dw_result result = dw_words(&play->client, text, sizeof text, &length);
+    enum dw_result result = dw_session_words(&play->session, text, sizeof text, &length);
     EXPECT(result == DW_OK ? length > 0 && length <= sizeof text : length == 0);
     return result;
 }
 
 static enum dw_result resume(struct play *play)
 {
-    enum dw_result result = dw_resume(&play->second, 10000, play->saved, play->saved_length);
-    EXPECT_NUMBER(result == DW_OK ? DW_STATE_IDLE : DW_CLOSED, dw_state(&play->second));
+    enum dw_result result = dw_session_resume(&play->second, 10000, 3, 1, play->saved, play->saved_length);
+    EXPECT_NUMBER(result == DW_OK ? DW_STATE_IDLE : DW_CLOSED, dw_session_state(&play->second));
     return result;
 }
 
-MOVE(close_session, dw_close_session(&play->client, 1, 17))
+/* The watches that are left were set again. */
+REPLY(restored, add_header, XID_SET_WATCHES, 8, 0)
 
-static enum dw_result closed(struct play *play)
+MOVE(follow, dw_session_follow_data(&play->session, play->now_ms, 20, PATH, sizeof PATH))
+
+REPLY(shown, add_data, 7, 8, "first", &STAT)
+
+/* A request that the caller spells, a multi of the path `/`, and its reply of no bytes. */
+static enum dw_result ask_multi(struct play *play)
 {
-    struct bytes replies = {.length = 0};
-    add_header(&replies, XID_SET_WATCHES, 8, 0);
-    add_header(&replies, 7, 8, 0);
-    return hand_in(&play->client, &replies);
+    static const uint8_t body[] = {0, 0, 0, 1, '/'};
+    return dw_session_raw(&play->session, play->now_ms, 18, UINT64_MAX, DW_OPERATION_MULTI, body, sizeof body);
 }
 
+REPLY(answered, add_header, 8, 8, 0)
+
+/* The root is kept already, with its two names. */
+MOVE(follow_tree, dw_session_follow_tree(&play->session, play->now_ms, 21, PATH, sizeof PATH, 3))
+
+/* Both nodes below it were read, in one piece. */
+static enum dw_result below(struct play *play)
+{
+    struct bytes replies = {.length = 0};
+    add_data(&replies, 9, 8, "left", &STAT);
+    add_data(&replies, 10, 8, "right", &STAT);
+    add_no_names(&replies, 11, 8, &STAT);
+    add_no_names(&replies, 12, 8, &STAT);
+    return hand_in(play, &replies);
+}
+
+MOVE(unfollow_tree, dw_session_unfollow_tree(&play->session, play->now_ms, 21))
+MOVE(unfollow, dw_session_unfollow(&play->session, play->now_ms, 20))
+MOVE(addresses, dw_session_addresses(&play->session, play->now_ms, 5))
+MOVE(close_session, dw_session_close(&play->session, play->now_ms, 17, UINT64_MAX))
+
+REPLY(closed, add_header, 13, 8, 0)
+
 static const struct move MOVES[] = {
-    {open_client, REFUSES},
-    {tick, STEP},
+    {open_session, REFUSES},
+    {moment, STEP},
     {opened, STEP},
     {connected, STEP | REFUSES},
     {get_data, STEP | REFUSES},
@@ -202,14 +254,28 @@ static const struct move MOVES[] = {
     {holder, REFUSES},
     {forget, 0},
     {cut, STEP},
+    {later, STEP},
     {opened, STEP},
     {connected, STEP | REFUSES},
     {unasked, STEP | REFUSES | UNREAD},
     {words, REFUSES},
+    {later, STEP},
     {opened, STEP},
     {connected, STEP | REFUSES},
+    {restored, STEP | REFUSES},
     {save, REFUSES},
     {resume, REFUSES},
+    {follow, STEP | REFUSES},
+    {shown, STEP | REFUSES},
+    {ask_multi, STEP | REFUSES},
+    {answered, STEP | REFUSES},
+    {follow_tree, STEP | REFUSES},
+    {moment, STEP},
+    {below, STEP | REFUSES},
+    {soon, STEP},
+    {unfollow_tree, STEP},
+    {addresses, STEP},
+    {unfollow, STEP},
     {close_session, STEP},
     {closed, STEP | REFUSES},
 };
@@ -219,12 +285,12 @@ static void expect_taken_up(struct play *play)
 {
     uint8_t frame[64];
     dw_output output;
-    EXPECT_NUMBER(dw_last_zxid(&play->client), dw_last_zxid(&play->second));
-    EXPECT_NUMBER(DW_OK, dw_tick(&play->second, 1));
-    EXPECT_NUMBER(DW_OK, dw_opened(&play->second, 1));
-    EXPECT_NUMBER(DW_OK, dw_next(&play->second, &output));
+    EXPECT_NUMBER(dw_session_last_zxid(&play->session), dw_session_last_zxid(&play->second));
+    EXPECT_NUMBER(DW_OK, dw_session_moment(&play->second, 1));
+    EXPECT_NUMBER(DW_OK, dw_session_opened(&play->second, 1));
+    EXPECT_NUMBER(DW_OK, dw_session_next(&play->second, &output));
     EXPECT_NUMBER(DW_KIND_SEND, output.kind);
-    EXPECT_NUMBER(49, dw_copy(&play->second, 0, frame, sizeof frame));
+    EXPECT_NUMBER(49, dw_session_copy(&play->second, 0, frame, sizeof frame));
     /* saved: session, password, zxid; ConnectRequest after its length: version, zxid, timeout, session, password */
     EXPECT(memcmp(frame + 20, play->saved, 28) == 0);
     EXPECT(memcmp(frame + 8, play->saved + 28, 8) == 0);
@@ -234,26 +300,39 @@ static void expect_taken_up(struct play *play)
 static void expect_halted(struct play *play)
 {
     dw_output output;
-    uint64_t first_ms = 1;
-    uint64_t revision = dw_revision(&play->client);
+    uint64_t revision = dw_session_revision(&play->session);
     struct lines kept = {.length = 0};
-    EXPECT_NUMBER(DW_NONE, dw_next(&play->client, &output));
-    EXPECT_NUMBER(DW_HALTED, tick(play));
-    EXPECT_NUMBER(revision + 1, dw_revision(&play->client));
+    EXPECT_NUMBER(DW_NONE, dw_session_next(&play->session, &output));
+    EXPECT_NUMBER(DW_HALTED, moment(play));
+    EXPECT_NUMBER(revision + 1, dw_session_revision(&play->session));
     EXPECT_NUMBER(DW_HALTED, opened(play));
     EXPECT_NUMBER(DW_HALTED, connected(play));
     EXPECT_NUMBER(DW_HALTED, get_data(play));
+    EXPECT_NUMBER(DW_HALTED, follow(play));
+    EXPECT_NUMBER(DW_HALTED, follow_tree(play));
+    EXPECT_NUMBER(DW_HALTED, unfollow_tree(play));
     EXPECT_NUMBER(DW_HALTED, close_session(play));
     EXPECT_NUMBER(DW_HALTED, cut(play));
-    EXPECT_NUMBER(DW_NONE, dw_deadline(&play->client, &first_ms));
-    EXPECT_NUMBER(0, first_ms);
-    EXPECT_NUMBER(DW_OK, add_kept_data(&kept, &play->client, "/a"));
-    EXPECT_NUMBER(DW_OK, add_kept_names(&kept, &play->client, "/a"));
-    EXPECT(strcmp(kept.at, "data 0 0 \"\"\nnames 0 0\n") == 0);
-    EXPECT(dw_state(&play->client) >= DW_STATE_IDLE && dw_timeout_ms(&play->client) > 0);
+    EXPECT_NUMBER(DW_NONE, dw_session_next(&play->session, &output));
+    EXPECT_NUMBER(DW_OK, add_kept_data(&kept, &play->session, "/a"));
+    EXPECT_NUMBER(DW_OK, add_kept_names(&kept, &play->session, "/a"));
+    EXPECT(dw_session_state(&play->session) >= DW_STATE_IDLE && dw_session_timeout_ms(&play->session) > 0);
 }
 
-/* Makes a move, and once more where it was refused. Answers whether the client can go on. */
+/* What a step has told wants some room, and is told neither without it nor without memory. */
+static void want_room(struct play *play)
+{
+    size_t count = 1;
+    bool was_already = was_refused();
+    enum dw_result result = dw_session_outputs(&play->session, NULL, 0, &count);
+    if (result == DW_NO_MEMORY) {
+        EXPECT(count == 0 && !was_already && was_refused());
+        result = dw_session_outputs(&play->session, NULL, 0, &count);
+    }
+    EXPECT_NUMBER(DW_OK, result);
+}
+
+/* Makes a move, and once more where it was refused. Answers whether the session can go on. */
 static bool make(struct play *play, const struct move *move)
 {
     if (make_twice(play, move) == DW_HALTED) {
@@ -264,7 +343,8 @@ static bool make(struct play *play, const struct move *move)
         return false;
     }
     if ((move->kind & (STEP | UNREAD)) == STEP) {
-        add_outputs(&play->lines, &play->client);
+        want_room(play);
+        add_outputs(&play->lines, &play->session);
     }
     return true;
 }
@@ -274,12 +354,12 @@ static bool run(struct play *play, long refused_at)
 {
     bool goes_on = true;
     heap = (struct counted_heap){.refused_at = refused_at};
-    *play = (struct play){.saved_length = 0};
+    *play = (struct play){.now_ms = 1};
     for (size_t i = 0; goes_on && i < sizeof MOVES / sizeof MOVES[0]; i++) {
         goes_on = make(play, &MOVES[i]);
     }
-    dw_close(&play->client);
-    dw_close(&play->second);
+    dw_session_free(&play->session);
+    dw_session_free(&play->second);
     EXPECT_NUMBER(0, heap.blocks);
     return goes_on;
 }
@@ -287,18 +367,19 @@ static bool run(struct play *play, long refused_at)
 /* What a step with bytes asks for first is room for them: where that is refused, nothing has happened. */
 static void expect_room_first(void)
 {
-    struct play play = {.saved_length = 0};
+    struct play play = {.now_ms = 1};
     heap = (struct counted_heap){.refused_at = 0};
-    EXPECT_NUMBER(DW_OK, open_client(&play));
+    EXPECT_NUMBER(DW_OK, open_session(&play));
+    EXPECT_NUMBER(DW_OK, moment(&play));
     EXPECT_NUMBER(DW_OK, opened(&play));
-    int32_t state = dw_state(&play.client);
+    int32_t state = dw_session_state(&play.session);
     heap.refused_at = heap.asked + 1;
     EXPECT_NUMBER(DW_NO_MEMORY, connected(&play));
     EXPECT(was_refused());
-    EXPECT_NUMBER(state, dw_state(&play.client));
+    EXPECT_NUMBER(state, dw_session_state(&play.session));
     EXPECT_NUMBER(DW_OK, connected(&play));
-    EXPECT_NUMBER(DW_STATE_CONNECTED, dw_state(&play.client));
-    dw_close(&play.client);
+    EXPECT_NUMBER(DW_STATE_CONNECTED, dw_session_state(&play.session));
+    dw_session_free(&play.session);
     EXPECT_NUMBER(0, heap.blocks);
 }
 
@@ -318,6 +399,6 @@ int main(void)
         }
         EXPECT(was_refused());
     }
-    printf("refused: %ld requests, of which %ld halt the client: passed\n", asked, halted);
+    printf("refused: %ld requests, of which %ld halt the session: passed\n", asked, halted);
     return 0;
 }

@@ -158,69 +158,6 @@ static void refuse_arguments(dw_session *session)
     expect_deadline(session, ASKED_MS / 3);
 }
 
-/* A handle of zeros takes no step, follows and asks nothing. */
-static void expect_closed_steps(dw_session *none)
-{
-    const uint8_t *data = (const uint8_t *)"x";
-    EXPECT_NUMBER(DW_CLOSED, dw_session_opened(none, 1));
-    EXPECT_NUMBER(DW_CLOSED, dw_session_failed(none, 1));
-    EXPECT_NUMBER(DW_CLOSED, dw_session_bytes(none, 1, data, 1));
-    EXPECT_NUMBER(DW_CLOSED, dw_session_cut(none, 1));
-    EXPECT_NUMBER(DW_CLOSED, dw_session_moment(none, 1));
-    EXPECT_NUMBER(DW_CLOSED, dw_session_addresses(none, 1, ADDRESSES));
-    EXPECT_NUMBER(DW_CLOSED, dw_session_exists(none, 1, 2, 3, CONFIG, true));
-    EXPECT_NUMBER(DW_CLOSED, dw_session_get_data(none, 1, 2, 3, CONFIG, true));
-    EXPECT_NUMBER(DW_CLOSED, dw_session_get_children(none, 1, 2, 3, CONFIG, true));
-    EXPECT_NUMBER(DW_CLOSED, dw_session_set_data(none, 1, 2, 3, CONFIG, data, 1, false, -1));
-    EXPECT_NUMBER(DW_CLOSED, dw_session_create(none, 1, 2, 3, CONFIG, data, 1, false, DW_MODE_PERSISTENT));
-    EXPECT_NUMBER(DW_CLOSED, dw_session_delete(none, 1, 2, 3, CONFIG, -1));
-    EXPECT_NUMBER(DW_CLOSED, dw_session_close(none, 1, 2, 3));
-    EXPECT_NUMBER(DW_CLOSED, dw_session_follow_data(none, 1, 2, CONFIG));
-    EXPECT_NUMBER(DW_CLOSED, dw_session_follow_names(none, 1, 2, CONFIG));
-    EXPECT_NUMBER(DW_CLOSED, dw_session_unfollow(none, 1, 2));
-    EXPECT_NUMBER(DW_CLOSED, dw_session_follow_tree(none, 1, 2, CONFIG, 3));
-    EXPECT_NUMBER(DW_CLOSED, dw_session_unfollow_tree(none, 1, 2));
-}
-
-/* It says nothing, and shows nothing. What it is asked for is not written, and each count is 0. */
-static void expect_closed_looks(dw_session *none)
-{
-    dw_output action;
-    dw_kept_data data;
-    dw_kept_names names;
-    uint8_t room[8];
-    char text[8];
-    size_t count = 1;
-    int64_t token = 1;
-    uint64_t moment_ms = 1;
-    EXPECT_NUMBER(DW_CLOSED, dw_session_next(none, &action));
-    EXPECT_NUMBER(0, dw_session_copy(none, 0, room, sizeof room));
-    EXPECT_NUMBER(0, dw_session_name(none, 0, text, sizeof text));
-    EXPECT_NUMBER(DW_CLOSED, dw_session_names(none, room, sizeof room, &count));
-    EXPECT_NUMBER(DW_CLOSED, dw_session_words(none, text, sizeof text, &count));
-    EXPECT(count == 0);
-    count = 1;
-    EXPECT_NUMBER(DW_CLOSED, dw_session_outputs(none, room, sizeof room, &count));
-    EXPECT_NUMBER(DW_CLOSED, dw_session_state(none));
-    EXPECT_NUMBER(0, dw_session_revision(none));
-    EXPECT_NUMBER(DW_CLOSED, dw_session_forget(none));
-    EXPECT_NUMBER(DW_CLOSED, dw_session_last_zxid(none));
-    EXPECT_NUMBER(DW_CLOSED, dw_session_timeout_ms(none));
-    EXPECT_NUMBER(DW_CLOSED, dw_session_deadline(none, &moment_ms));
-    EXPECT_NUMBER(DW_CLOSED, dw_session_heard_at(none, &moment_ms));
-    EXPECT_NUMBER(DW_CLOSED, dw_session_saved(none, room, sizeof room, &count));
-    EXPECT_NUMBER(DW_CLOSED, dw_session_peek_data(none, CONFIG, &data, room, sizeof room));
-    EXPECT_NUMBER(DW_CLOSED, dw_session_peek_children(none, CONFIG, &names));
-    EXPECT_NUMBER(DW_CLOSED, dw_session_peek_name(none, CONFIG, 0, text, sizeof text, &count));
-    EXPECT_NUMBER(DW_CLOSED, dw_session_peek_names(none, CONFIG, room, sizeof room, &count));
-    EXPECT_NUMBER(DW_CLOSED, dw_session_subtree(none, CONFIG, 4, room, sizeof room, &count));
-    EXPECT_NUMBER(DW_CLOSED, dw_session_lacking(none, CONFIG, 4, room, sizeof room, &count));
-    EXPECT_NUMBER(DW_CLOSED, dw_session_snapshot(none, room, 0, room, 0, room, sizeof room, &count));
-    EXPECT_NUMBER(DW_CLOSED, dw_session_standing(none, CONFIG, "n", 1, room, 0, 1, room, 0, &token, text, sizeof text, &count));
-    EXPECT_NUMBER(DW_CLOSED, dw_session_holder(none, CONFIG, "n", 1, CONFIG, &token));
-    EXPECT(count == 0 && token == 0 && moment_ms == 0);
-}
-
 /* A session that is put away is taken up by another handle: it asks for the same session, and what was seen is kept. */
 static void take_up(dw_session *session)
 {
@@ -240,8 +177,6 @@ int main(void)
 {
     static dw_session session;
     uint64_t moment_ms = 1;
-    expect_closed_steps(&session);
-    expect_closed_looks(&session);
     EXPECT_NUMBER(DW_BAD_TIMEOUT, dw_session_open(&session, 0, ADDRESSES, 1));
     EXPECT_NUMBER(DW_OK, dw_session_open(&session, ASKED_MS, ADDRESSES, 1));
     refuse_arguments(&session);

@@ -1,4 +1,4 @@
-/* Much of everything, handed to a client whole and in pieces of 7 bytes: no step halts while there is memory, which no clause says. The rows of
+/* Much of everything, handed to a session whole and in pieces of 7 bytes: no step halts while there is memory, which no clause says. The rows of
  * WANTED are what zookeeper.jute and the limits of docs/GUIDE.md make of it. */
 #include "dirwolleu.h"
 #include "expect.h"
@@ -30,20 +30,22 @@ static const char *const WANTED[] = {
     "watches: 1 more refused; restored in many parts: 65536 and 65536 good",
     "a reply of 4194304 bytes: 4194216 of data kept",
     "names: 100000 kept",
-    "calls: 1 more refused; 1024 lost at a cut",
+    "calls: 1 more waits; 1024 lost at a cut",
     "a password: 4194284 bytes kept",
     "watches: 1 more refused; restored in many parts: 65536 and 65536 good",
     "a reply of 4194304 bytes: 4194216 of data kept",
     "names: 100000 kept",
-    "calls: 1 more refused; 1024 lost at a cut",
+    "calls: 1 more waits; 1024 lost at a cut",
     "a password: 4194284 bytes kept",
     "long paths: restored in 500 parts: 15500 good",
 };
 
-/* A client, how long the pieces are in which bytes come, how long its paths are at least, the xid of the last call, and how many outputs of a kind
- * there were since `forget`. */
+/* A session, its moment, whether it asks for a connection, how long the pieces are in which bytes come, how long its paths are at least, the ticket
+ * and the xid of the last call, and how many outputs of a kind there were since `forget`. */
 struct peer {
-    dw_client client;
+    dw_session session;
+    uint64_t now_ms, ticket;
+    bool is_dialled;
     size_t piece, path_length;
     int32_t xid;
     size_t frames, replies, losses, refusals;
@@ -129,8 +131,9 @@ static void count(struct peer *peer, enum dw_result result)
 {
     dw_output output;
     EXPECT_NUMBER(DW_OK, result);
-    while (dw_next(&peer->client, &output) == DW_OK) {
+    while (dw_session_next(&peer->session, &output) == DW_OK) {
         peer->frames += output.kind == DW_KIND_SEND;
+        peer->is_dialled = peer->is_dialled || output.kind == DW_KIND_DIAL;
         if (output.kind == DW_KIND_ANSWER) {
             peer->replies += output.outcome == DW_OUTCOME_REPLIED;
             peer->losses += output.outcome == DW_OUTCOME_LOST;
@@ -145,14 +148,20 @@ static void receive(struct peer *peer)
     write_int(0, frame_length - LENGTH);
     for (size_t at = 0; at < frame_length; at += peer->piece) {
         size_t left = frame_length - at;
-        count(peer, dw_bytes(&peer->client, 0, frame + at, left < peer->piece ? left : peer->piece));
+        count(peer, dw_session_bytes(&peer->session, peer->now_ms, frame + at, left < peer->piece ? left : peer->piece));
     }
 }
 
-/* A connection begins, and its session is accepted with a password of this many bytes. How many frames are sent after it. */
+/* A connection begins once it is asked for, and its session is accepted with a password of this many bytes. How many frames are sent after it. */
 static size_t begin_connection(struct peer *peer, size_t password)
 {
-    count(peer, dw_opened(&peer->client, 0));
+    count(peer, dw_session_moment(&peer->session, peer->now_ms));
+    while (!peer->is_dialled) {
+        EXPECT_NUMBER(DW_OK, dw_session_deadline(&peer->session, &peer->now_ms));
+        count(peer, dw_session_moment(&peer->session, peer->now_ms));
+    }
+    peer->is_dialled = false;
+    count(peer, dw_session_opened(&peer->session, peer->now_ms));
     forget(peer);
     add_accepted(password);
     receive(peer);
@@ -163,7 +172,7 @@ static size_t begin_connection(struct peer *peer, size_t password)
 static size_t begin_again(struct peer *peer, size_t password)
 {
     peer->xid = 0;
-    count(peer, dw_cut(&peer->client, 0));
+    count(peer, dw_session_cut(&peer->session, peer->now_ms));
     return begin_connection(peer, password);
 }
 
@@ -181,8 +190,10 @@ static void ask_data(struct peer *peer, size_t number, bool is_there)
 {
     char path[LONGEST_PATH];
     size_t length = spell_path(peer, number, path);
+    uint64_t now = peer->now_ms, ticket = ++peer->ticket;
     peer->xid++;
-    count(peer, is_there ? dw_get_data(&peer->client, 0, 0, path, length, true) : dw_exists(&peer->client, 0, 0, path, length, true));
+    count(peer, is_there ? dw_session_get_data(&peer->session, now, ticket, UINT64_MAX, path, length, true)
+                         : dw_session_exists(&peer->session, now, ticket, UINT64_MAX, path, length, true));
 }
 
 static void ask_names(struct peer *peer, size_t number)
@@ -190,7 +201,7 @@ static void ask_names(struct peer *peer, size_t number)
     char path[LONGEST_PATH];
     size_t length = spell_path(peer, number, path);
     peer->xid++;
-    count(peer, dw_get_children(&peer->client, 0, 0, path, length, true));
+    count(peer, dw_session_get_children(&peer->session, peer->now_ms, ++peer->ticket, UINT64_MAX, path, length, true));
 }
 
 /* Leaves a watch at the data of a path, every other one without a node. */
@@ -237,8 +248,8 @@ static struct kept look_up(struct peer *peer, size_t number)
     dw_kept_data data;
     dw_kept_names names;
     uint8_t nowhere[1];
-    EXPECT_NUMBER(DW_OK, dw_peek_data(&peer->client, path, length, &data, nowhere, 0));
-    EXPECT_NUMBER(DW_OK, dw_peek_children(&peer->client, path, length, &names));
+    EXPECT_NUMBER(DW_OK, dw_session_peek_data(&peer->session, path, length, &data, nowhere, 0));
+    EXPECT_NUMBER(DW_OK, dw_session_peek_children(&peer->session, path, length, &names));
     return (struct kept){data.mark == DW_MARK_GOOD, names.mark == DW_MARK_GOOD, data.length, names.count};
 }
 
@@ -295,13 +306,14 @@ static void many_names(struct peer *peer, char *row, size_t room)
 
 static void many_calls(struct peer *peer, char *row, size_t room)
 {
+    size_t calls = MOST_PENDING + 1;
     forget(peer);
-    for (size_t i = 0; i <= MOST_PENDING; i++) {
-        ask_data(peer, 0, true);
+    for (size_t i = 0; i < calls; i++) {
+        count(peer, dw_session_delete(&peer->session, peer->now_ms, ++peer->ticket, UINT64_MAX, "/0", 2, -1));
     }
-    size_t refused = peer->refusals;
-    count(peer, dw_cut(&peer->client, 0));
-    snprintf(row, room, "calls: %zu more refused; %zu lost at a cut", refused, peer->losses);
+    size_t waiting = calls - peer->frames;
+    count(peer, dw_session_cut(&peer->session, peer->now_ms));
+    snprintf(row, room, "calls: %zu more waits; %zu lost at a cut", waiting, peer->losses);
 }
 
 static void long_password(struct peer *peer, char *row, size_t room)
@@ -310,21 +322,21 @@ static void long_password(struct peer *peer, char *row, size_t room)
     uint8_t nowhere[1];
     begin_again(peer, LONGEST_PASSWORD);
     begin_again(peer, LONGEST_PASSWORD);
-    EXPECT_NUMBER(DW_OK, dw_saved(&peer->client, nowhere, 0, &saved));
+    EXPECT_NUMBER(DW_OK, dw_session_saved(&peer->session, nowhere, 0, &saved));
     snprintf(row, room, "a password: %zu bytes kept", saved - 20);
 }
 
 typedef void size_row(struct peer *peer, char *row, size_t room);
 
-/* One of the sizes, at a client of its own that is connected, whose bytes come in pieces of this length at most. */
+/* One of the sizes, at a session of its own that is connected, whose bytes come in pieces of this length at most. */
 static void try_size(size_row *size, size_t piece, const char *wanted)
 {
     struct peer peer = {.piece = piece};
     char row[128];
-    EXPECT_NUMBER(DW_OK, dw_open(&peer.client, TIMEOUT_MS));
+    EXPECT_NUMBER(DW_OK, dw_session_open(&peer.session, TIMEOUT_MS, 1, 1));
     begin_connection(&peer, PASSWORD);
     size(&peer, row, sizeof row);
-    dw_close(&peer.client);
+    dw_session_free(&peer.session);
     if (strcmp(wanted, row) != 0) {
         fprintf(stderr, "sizes, in pieces of %zu: it is to be '%s', and is '%s'\n", piece, wanted, row);
         exit(EXIT_FAILURE);

@@ -114,14 +114,6 @@ PERSISTENT = 0
 EPHEMERAL = 1
 SEQUENTIAL = 2
 
-GOOD = 1
-STALE = 2
-
-NOTHING = 0
-ABSENT = 1
-KNOWN = 2
-FULL = 3
-
 GET_ACL = 6
 SET_ACL = 7
 SYNC = 9
@@ -133,6 +125,14 @@ MULTI_READ = 22
 GET_EPHEMERALS = 103
 GET_ALL_CHILDREN_NUMBER = 104
 WHO_AM_I = 107
+
+GOOD = 1
+STALE = 2
+
+NOTHING = 0
+ABSENT = 1
+KNOWN = 2
+FULL = 3
 
 
 class _Slot(Structure):
@@ -282,7 +282,7 @@ _FUNCTIONS: dict[str, tuple[Any, tuple[Any, ...]]] = {
 _RESULT_WORDS = {
     HALTED: "out of memory within a step; take the saved session, and resume it",
     NO_MEMORY: "out of memory; hand the same in again",
-    CLOSED: "the handle holds no client; open one",
+    CLOSED: "the handle holds no session; open one",
     NOT_TEXT: "the path is no UTF-8",
     NOT_PATH: "the text is no path",
     BAD_TIMEOUT: "the timeout is not 1 to 2147483647 milliseconds",

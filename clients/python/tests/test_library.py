@@ -29,7 +29,6 @@ from dirwolleu.types import DataStat, Stat
 
 HEADER = support.CLIENTS.parent / "include" / "dirwolleu.h"
 STRUCTS = {
-    "dw_client": library._Handle,
     "dw_session": library._Handle,
     "dw_stat": library._Stat,
     "dw_output": library._Output,

@@ -5,7 +5,7 @@ use crate::ffi::{self, Handle};
 use crate::machine::Machine;
 use crate::node::{NodeEvent, Side};
 use crate::numbers::{kind, refusal};
-use crate::output::{Bytes, GivenUp, Output, Reply, Text};
+use crate::output::{Bytes, Cause, GivenUp, Reply, Text};
 use crate::State;
 use std::fmt;
 use std::time::Duration;
@@ -13,7 +13,17 @@ use std::time::Duration;
 /// What a machine said at its last step. Do all actions of a step, in their order, before the next step: those that were not taken are
 /// forgotten there.
 ///
-/// It lends, and it borrows the machine, as [`Outputs`](crate::Outputs) do of a client.
+/// It lends: an action, whose bytes stay in the library until they are copied, is over when the next one is taken. And it borrows the
+/// machine, so that no step happens while it is read:
+///
+/// ```compile_fail,E0499
+/// # use dirwolleu::{Machine, Moment};
+/// # use std::time::Duration;
+/// let mut machine = Machine::open(Duration::from_secs(10), 1, 42).unwrap();
+/// let mut actions = machine.tick(Moment::from_millis(1)).unwrap();
+/// machine.cut(Moment::from_millis(2)).unwrap(); // `machine` is borrowed still
+/// actions.next();
+/// ```
 ///
 /// ```
 /// use dirwolleu::{Machine, Moment, State};
@@ -222,7 +232,23 @@ impl fmt::Display for Refusal {
 impl<'a> Action<'a> {
     fn of(handle: &'a Handle, flat: &ffi::Output) -> Result<Action<'a>, UnknownNumber> {
         let ticket = flat.ticket;
+        let bytes = Bytes::of(handle, flat);
         Ok(match flat.kind {
+            kind::SEND => Action::Send(bytes),
+            kind::ANSWER => Action::Answer {
+                ticket,
+                outcome: Reply::of(handle, flat, bytes)?,
+            },
+            kind::REPORT => Action::Report {
+                path: Text::of(bytes),
+                side: Side::try_from(flat.result)?,
+                event: NodeEvent::try_from(flat.detail)?,
+            },
+            kind::STATE => Action::State(State::try_from(flat.detail)?),
+            kind::DROP => Action::Drop(GivenUp {
+                cause: Cause::of(flat)?,
+                code: Text::of(bytes),
+            }),
             kind::DIAL => Action::Dial {
                 place: flat.names,
                 within: Duration::from_millis(ticket),
@@ -242,7 +268,7 @@ impl<'a> Action<'a> {
                 tree: flat.names as u64,
                 ticket,
                 side: Side::try_from(flat.result)?,
-                path: Text::of(handle, flat),
+                path: Text::of(bytes),
             },
             kind::LET_GO => Action::LetGo {
                 tree: flat.names as u64,
@@ -257,30 +283,18 @@ impl<'a> Action<'a> {
                 place: flat.names,
                 code: Code(flat.code),
             },
-            _ => Action::from(Output::of(handle, flat)?),
+            other => return Err(UnknownNumber::of("output", other)),
         })
-    }
-}
-
-impl<'a> From<Output<'a>> for Action<'a> {
-    fn from(output: Output<'a>) -> Action<'a> {
-        match output {
-            Output::Send(frame) => Action::Send(frame),
-            Output::Answer { ticket, outcome } => Action::Answer { ticket, outcome },
-            Output::Report { path, side, event } => Action::Report { path, side, event },
-            Output::State(state) => Action::State(state),
-            Output::Drop(given_up) => Action::Drop(given_up),
-        }
     }
 }
 
 #[cfg(test)]
 mod tests {
     use super::Action;
-    use crate::ffi::{self, MachineHandle, Settings};
+    use crate::ffi::{self, Handle, Settings};
 
-    fn handle() -> MachineHandle {
-        MachineHandle::open(Settings {
+    fn handle() -> Handle {
+        Handle::open(Settings {
             timeout_ms: 1_000,
             addresses: 1,
             seed: 1,
@@ -341,13 +355,26 @@ mod tests {
     #[test]
     fn a_number_that_nobody_knows_is_a_fault() {
         let handle = handle();
-        for (kind, detail, what) in [(0, 0, "output"), (17, 0, "output"), (11, 5, "refusal")] {
+        for (numbers, what) in [
+            ((0, 0, 0), "output"),
+            ((17, 0, 0), "output"),
+            ((2, 0, 0), "result of a reply"),
+            ((2, 0, 8), "result of a reply"),
+            ((2, 8, 0), "outcome"),
+            ((3, 1, 3), "side"),
+            ((3, 5, 1), "event"),
+            ((4, 5, 0), "state"),
+            ((5, 6, 0), "cause"),
+            ((11, 5, 0), "refusal"),
+        ] {
+            let (kind, detail, result) = numbers;
             let flat = ffi::Output {
                 detail,
+                result,
                 ..flat(kind)
             };
             let unknown = Action::of(&handle, &flat).unwrap_err();
-            assert_eq!(unknown.what(), what, "{kind} {detail}");
+            assert_eq!(unknown.what(), what, "{numbers:?}");
         }
     }
 }

@@ -10,7 +10,6 @@ mod trees;
 
 use crate::calls::Calls;
 use crate::chroot::Chroot;
-use crate::client::{Client, State};
 use crate::credentials::{Credential, Credentials};
 use crate::deletions::Deletions;
 use crate::error::{Error, ErrorKind, Search};
@@ -18,7 +17,7 @@ use crate::fault::{Code, Fault, NoReply};
 use crate::followed::Followed;
 use crate::growing::{Growing, Look};
 use crate::hosts::{chance, Host, Hosts, Order, Places};
-use crate::machine::{Limits, Machine};
+use crate::machine::{Limits, Machine, State};
 use crate::moment::{Clock, Moment};
 use crate::outbox::Outbox;
 use crate::saved::SavedSession;
@@ -219,9 +218,7 @@ impl Engine {
         if !matches!(self.course, Course::Ended(State::Closed) | Course::Barred) {
             return Ok(saved);
         }
-        let mut client = Client::resume(self.asked_timeout, &saved)?;
-        client.renew(self.asked_timeout)?;
-        client.saved()
+        Ok(saved.for_another())
     }
 
     /// Forgets all stale answers.
@@ -543,9 +540,9 @@ impl Engine {
 mod tests {
     use super::{Beginning, Engine, ErrorKind, Fault, Hosts, NoReply, Order, Plan, Slot, NEVER};
     use crate::action::Refusal;
-    use crate::client::State;
     use crate::jute::Writer;
     use crate::machine::Limits;
+    use crate::machine::State;
     use crate::node::ANY_VERSION;
     use crate::request::Request;
     use crate::stats::CallKind;

@@ -53,14 +53,14 @@ impl error::Error for UnknownNumber {}
 /// `main` that returns it.
 ///
 /// ```
-/// use dirwolleu::{Client, Fault, SavedSession};
+/// use dirwolleu::{Fault, Machine, SavedSession};
 /// use std::time::Duration;
 ///
 /// let timeout = Duration::from_secs(10);
-/// assert_eq!(Client::open(Duration::ZERO).unwrap_err(), Fault::BadTimeout);
+/// assert_eq!(Machine::open(Duration::ZERO, 1, 42).unwrap_err(), Fault::BadTimeout);
 /// let saved = SavedSession::from_bytes(vec![1, 2, 3]);
-/// assert_eq!(Client::resume(timeout, &saved).unwrap_err(), Fault::NotSaved);
-/// let fault = Client::open(timeout)?.data_mark("/a//b").unwrap_err();
+/// assert_eq!(Machine::resume(timeout, 1, 42, &saved).unwrap_err(), Fault::NotSaved);
+/// let fault = Machine::open(timeout, 1, 42)?.data_mark("/a//b").unwrap_err();
 /// assert_eq!(fault.to_string(), "/a//b is no path: an empty name");
 /// # Ok::<(), Fault>(())
 /// ```
@@ -68,7 +68,7 @@ impl error::Error for UnknownNumber {}
 #[non_exhaustive]
 pub enum Fault {
     /// Memory ran out within a step. The client has no use any more: each later step answers the same, and nothing is kept or watched.
-    /// Its state, zxid and session can still be asked for: take [`saved`](crate::Client::saved), and resume it.
+    /// Its state, zxid and session can still be asked for: take [`saved`](crate::Machine::saved), and resume it.
     Halted,
     /// There was no memory for what was given. The same can be handed in again.
     NoMemory,
@@ -296,7 +296,7 @@ impl error::Error for Code {}
 #[cfg(test)]
 mod tests {
     use super::{done_at, Code, Fault, NoReply, UnknownNumber};
-    use crate::client::State;
+    use crate::machine::State;
 
     #[test]
     fn each_number_of_a_function_is_told() {

@@ -8,11 +8,10 @@ use crate::node::{DataStat, Mode, Side, Stat, Watch};
 use crate::numbers::{result, VERSION};
 use crate::standing::Contender;
 use std::cell::UnsafeCell;
-use std::ops::{Deref, DerefMut};
 use std::ptr;
 
 // made by scripts/interface from include/interface.toml
-/// `dw_client`, and `dw_session`.
+/// `dw_session`.
 #[repr(C)]
 struct Raw {
     is_open: bool,
@@ -68,42 +67,6 @@ pub(crate) struct KeptNames {
 #[allow(dead_code)]
 extern "C" {
     fn dw_version() -> u32;
-    fn dw_open(handle: *mut Raw, timeout_ms: i32) -> i32;
-    fn dw_resume(handle: *mut Raw, timeout_ms: i32, saved: *const u8, saved_length: usize) -> i32;
-    fn dw_renew(handle: *mut Raw, timeout_ms: i32) -> i32;
-    fn dw_close(handle: *mut Raw);
-    fn dw_opened(handle: *mut Raw, now_ms: u64) -> i32;
-    fn dw_cut(handle: *mut Raw, now_ms: u64) -> i32;
-    fn dw_tick(handle: *mut Raw, now_ms: u64) -> i32;
-    fn dw_bytes(handle: *mut Raw, now_ms: u64, bytes: *const u8, length: usize) -> i32;
-    fn dw_exists(handle: *mut Raw, now_ms: u64, ticket: u64, path: *const u8, path_length: usize, watch: bool) -> i32;
-    fn dw_get_data(handle: *mut Raw, now_ms: u64, ticket: u64, path: *const u8, path_length: usize, watch: bool) -> i32;
-    fn dw_get_children(handle: *mut Raw, now_ms: u64, ticket: u64, path: *const u8, path_length: usize, watch: bool) -> i32;
-    fn dw_set_data(handle: *mut Raw, now_ms: u64, ticket: u64, path: *const u8, path_length: usize, bytes: *const u8, length: usize, is_null: bool, version: i32) -> i32;
-    fn dw_create(handle: *mut Raw, now_ms: u64, ticket: u64, path: *const u8, path_length: usize, bytes: *const u8, length: usize, is_null: bool, mode: u32) -> i32;
-    fn dw_delete(handle: *mut Raw, now_ms: u64, ticket: u64, path: *const u8, path_length: usize, version: i32) -> i32;
-    fn dw_close_session(handle: *mut Raw, now_ms: u64, ticket: u64) -> i32;
-    fn dw_next(handle: *mut Raw, out: *mut Output) -> i32;
-    fn dw_copy(handle: *mut Raw, from: usize, out: *mut u8, room: usize) -> usize;
-    fn dw_name(handle: *mut Raw, index: usize, out: *mut u8, room: usize) -> usize;
-    fn dw_names(handle: *mut Raw, out: *mut u8, room: usize, count: *mut usize) -> i32;
-    fn dw_words(handle: *mut Raw, out: *mut u8, room: usize, count: *mut usize) -> i32;
-    fn dw_state(handle: *mut Raw) -> i32;
-    fn dw_revision(handle: *mut Raw) -> u64;
-    fn dw_last_zxid(handle: *mut Raw) -> i64;
-    fn dw_timeout_ms(handle: *mut Raw) -> i64;
-    fn dw_deadline(handle: *mut Raw, first_ms: *mut u64) -> i32;
-    fn dw_saved(handle: *mut Raw, out: *mut u8, room: usize, count: *mut usize) -> i32;
-    fn dw_peek_data(handle: *mut Raw, path: *const u8, path_length: usize, kept: *mut KeptData, out: *mut u8, room: usize) -> i32;
-    fn dw_peek_children(handle: *mut Raw, path: *const u8, path_length: usize, kept: *mut KeptNames) -> i32;
-    fn dw_peek_name(handle: *mut Raw, path: *const u8, path_length: usize, index: usize, out: *mut u8, room: usize, count: *mut usize) -> i32;
-    fn dw_peek_names(handle: *mut Raw, path: *const u8, path_length: usize, out: *mut u8, room: usize, count: *mut usize) -> i32;
-    fn dw_subtree(handle: *mut Raw, path: *const u8, path_length: usize, most: usize, out: *mut u8, room: usize, count: *mut usize) -> i32;
-    fn dw_lacking(handle: *mut Raw, path: *const u8, path_length: usize, most: usize, out: *mut u8, room: usize, count: *mut usize) -> i32;
-    fn dw_snapshot(handle: *mut Raw, nodes: *const u8, nodes_length: usize, parents: *const u8, parents_length: usize, out: *mut u8, room: usize, count: *mut usize) -> i32;
-    fn dw_standing(handle: *mut Raw, directory: *const u8, directory_length: usize, name: *const u8, name_length: usize, names: *const u8, names_length: usize, listed: i64, markers: *const u8, markers_length: usize, token: *mut i64, out: *mut u8, room: usize, count: *mut usize) -> i32;
-    fn dw_holder(handle: *mut Raw, directory: *const u8, directory_length: usize, prefix: *const u8, prefix_length: usize, path: *const u8, path_length: usize, token: *mut i64) -> i32;
-    fn dw_forget(handle: *mut Raw) -> i32;
     fn dw_session_open(handle: *mut Raw, timeout_ms: i32, addresses: usize, seed: u64) -> i32;
     fn dw_session_resume(handle: *mut Raw, timeout_ms: i32, addresses: usize, seed: u64, saved: *const u8, saved_length: usize) -> i32;
     fn dw_session_open_with_limits(handle: *mut Raw, timeout_ms: i32, addresses: usize, seed: u64, incoming: usize, outgoing: usize) -> i32;
@@ -155,99 +118,21 @@ extern "C" {
 }
 // end of what is made
 
-/// A step without more than its moment.
-type Step = unsafe extern "C" fn(*mut Raw, u64) -> i32;
-
-/// A look-up of a number.
-type Look<N> = unsafe extern "C" fn(*mut Raw) -> N;
-
-/// A look-up of a moment, and one of bytes without a path.
-type LookOut<N> = unsafe extern "C" fn(*mut Raw, *mut N) -> i32;
+/// A look-up of bytes without a path.
 type CopyAll = unsafe extern "C" fn(*mut Raw, *mut u8, usize, *mut usize) -> i32;
-
-/// What copies a text from a place on, or the name of an index.
-type CopyOne = unsafe extern "C" fn(*mut Raw, usize, *mut u8, usize) -> usize;
 
 /// A look-up that copies what is at and below a path, with the most nodes that there may be.
 type Collect =
     unsafe extern "C" fn(*mut Raw, *const u8, usize, usize, *mut u8, usize, *mut usize) -> i32;
+
+/// A look-up of a moment.
+type LookOut = unsafe extern "C" fn(*mut Raw, *mut u64) -> i32;
 
 /// A call that reads a node, and one that takes data for it, and a version or a mode.
 type Read = unsafe extern "C" fn(*mut Raw, u64, u64, u64, *const u8, usize, bool) -> i32;
 #[rustfmt::skip]
 type Write<N> =
     unsafe extern "C" fn(*mut Raw, u64, u64, u64, *const u8, usize, *const u8, usize, bool, N) -> i32;
-
-/// The functions that a client and a session have alike, each by its field, its type and its names in the header.
-macro_rules! functions {
-    ($($field:ident: $kind:ty = $client:ident, $session:ident;)*) => {
-        struct Functions {
-            $($field: $kind,)*
-        }
-
-        static OF_CLIENTS: Functions = Functions { $($field: $client,)* };
-        static OF_SESSIONS: Functions = Functions { $($field: $session,)* };
-    };
-}
-
-#[rustfmt::skip]
-functions! {
-    free: unsafe extern "C" fn(*mut Raw) = dw_close, dw_session_free;
-    opened: Step = dw_opened, dw_session_opened;
-    cut: Step = dw_cut, dw_session_cut;
-    moment: Step = dw_tick, dw_session_moment;
-    bytes: unsafe extern "C" fn(*mut Raw, u64, *const u8, usize) -> i32 = dw_bytes, dw_session_bytes;
-    exists: Read = exists, dw_session_exists;
-    get_data: Read = get_data, dw_session_get_data;
-    get_children: Read = get_children, dw_session_get_children;
-    set_data: Write<i32> = set_data, dw_session_set_data;
-    create: Write<u32> = create, dw_session_create;
-    delete: unsafe extern "C" fn(*mut Raw, u64, u64, u64, *const u8, usize, i32) -> i32 = delete, dw_session_delete;
-    close: unsafe extern "C" fn(*mut Raw, u64, u64, u64) -> i32 = close_session, dw_session_close;
-    next: unsafe extern "C" fn(*mut Raw, *mut Output) -> i32 = dw_next, dw_session_next;
-    copy: CopyOne = dw_copy, dw_session_copy;
-    name: CopyOne = dw_name, dw_session_name;
-    names: CopyAll = dw_names, dw_session_names;
-    words: CopyAll = dw_words, dw_session_words;
-    state: Look<i32> = dw_state, dw_session_state;
-    revision: Look<u64> = dw_revision, dw_session_revision;
-    last_zxid: Look<i64> = dw_last_zxid, dw_session_last_zxid;
-    timeout_ms: Look<i64> = dw_timeout_ms, dw_session_timeout_ms;
-    deadline: LookOut<u64> = dw_deadline, dw_session_deadline;
-    saved: CopyAll = dw_saved, dw_session_saved;
-    peek_data: unsafe extern "C" fn(*mut Raw, *const u8, usize, *mut KeptData, *mut u8, usize) -> i32 = dw_peek_data, dw_session_peek_data;
-    peek_children: unsafe extern "C" fn(*mut Raw, *const u8, usize, *mut KeptNames) -> i32 = dw_peek_children, dw_session_peek_children;
-    peek_names: unsafe extern "C" fn(*mut Raw, *const u8, usize, *mut u8, usize, *mut usize) -> i32 = dw_peek_names, dw_session_peek_names;
-    subtree: Collect = dw_subtree, dw_session_subtree;
-    lacking: Collect = dw_lacking, dw_session_lacking;
-    snapshot: unsafe extern "C" fn(*mut Raw, *const u8, usize, *const u8, usize, *mut u8, usize, *mut usize) -> i32 = dw_snapshot, dw_session_snapshot;
-    standing: unsafe extern "C" fn(*mut Raw, *const u8, usize, *const u8, usize, *const u8, usize, i64, *const u8, usize, *mut i64, *mut u8, usize, *mut usize) -> i32 = dw_standing, dw_session_standing;
-    holder: unsafe extern "C" fn(*mut Raw, *const u8, usize, *const u8, usize, *const u8, usize, *mut i64) -> i32 = dw_holder, dw_session_holder;
-    forget: Look<i32> = dw_forget, dw_session_forget;
-}
-
-/// Calls of a client in the form of those of a session. They wait for no connection, so they have no limit.
-#[rustfmt::skip]
-macro_rules! without_limit {
-    ($($name:ident = $function:ident($($word:ident: $kind:ty),*);)*) => {$(
-        #[allow(clippy::too_many_arguments)] // as the header has it
-        unsafe extern "C" fn $name(raw: *mut Raw, now: u64, ticket: u64, _until: u64 $(, $word: $kind)*) -> i32 {
-            // SAFETY: the caller keeps what `Handle` says.
-            unsafe { $function(raw, now, ticket $(, $word)*) }
-        }
-    )*};
-}
-
-#[rustfmt::skip]
-without_limit! {
-    exists = dw_exists(path: *const u8, length: usize, watch: bool);
-    get_data = dw_get_data(path: *const u8, length: usize, watch: bool);
-    get_children = dw_get_children(path: *const u8, length: usize, watch: bool);
-    set_data = dw_set_data(path: *const u8, length: usize, bytes: *const u8, count: usize, is_null: bool, version: i32);
-    create = dw_create(path: *const u8, length: usize, bytes: *const u8, count: usize, is_null: bool, mode: u32);
-    delete = dw_delete(path: *const u8, length: usize, version: i32);
-    close_session = dw_close_session();
-}
 
 /// What each call has: its moment, the ticket for its answer, until when it waits, and the path of the node that it is about.
 #[derive(Clone, Copy)]
@@ -258,10 +143,9 @@ pub(crate) struct Call<'a> {
     pub(crate) path: &'a str,
 }
 
-/// An open client or session. It keeps what the header asks of a caller and nothing checks:
+/// An open session. It keeps what the header asks of a caller and nothing checks:
 ///
-/// - the raw handle begins as zeros, is written by the library alone, is moved but never copied, and is used by the functions of its kind
-///   alone;
+/// - the raw handle begins as zeros, is written by the library alone, and is moved but never copied;
 /// - one call at a time uses it: a step has it by `&mut`, and look-ups, which write to the handle too, have it by `&` of a type that is
 ///   not `Sync`; no function of the library calls back;
 /// - pointers come from references and slices, so none is null, lengths are those of the slices, and what a call writes is borrowed
@@ -270,7 +154,6 @@ pub(crate) struct Call<'a> {
 /// The layouts above are those of the header that comes with the library.
 pub(crate) struct Handle {
     raw: UnsafeCell<Raw>,
-    functions: &'static Functions,
 }
 
 // SAFETY: the library binds a handle to no thread, and says that it may go to another one between two calls. Rust orders the two.
@@ -279,7 +162,7 @@ unsafe impl Send for Handle {}
 impl Drop for Handle {
     fn drop(&mut self) {
         // SAFETY: as `Handle` says. After it nothing uses the handle any more.
-        unsafe { (self.functions.free)(self.raw.get_mut()) }
+        unsafe { dw_session_free(self.raw.get_mut()) }
     }
 }
 
@@ -294,39 +177,39 @@ fn check_version() -> Result<(), Fault> {
 }
 
 impl Handle {
-    /// A handle that holds nothing, whose functions are these.
-    fn closed(functions: &'static Functions) -> Result<Handle, Fault> {
+    /// A handle that holds nothing.
+    fn closed() -> Result<Handle, Fault> {
         check_version()?;
         let at = ptr::null_mut();
         let (is_open, slot) = (false, Slot { at });
         let raw = UnsafeCell::new(Raw { is_open, slot });
-        Ok(Handle { raw, functions })
+        Ok(Handle { raw })
     }
 
-    /// The pointer to it, for a function of its kind.
+    /// The pointer to it, for a function of the library.
     fn pointer(&self) -> *mut Raw {
         self.raw.get()
     }
 
     pub(crate) fn opened(&mut self, now: Moment) -> Result<(), Fault> {
         // SAFETY: as `Handle` says.
-        done(unsafe { (self.functions.opened)(self.pointer(), now.as_millis()) })
+        done(unsafe { dw_session_opened(self.pointer(), now.as_millis()) })
     }
 
     pub(crate) fn cut(&mut self, now: Moment) -> Result<(), Fault> {
         // SAFETY: as `Handle` says.
-        done(unsafe { (self.functions.cut)(self.pointer(), now.as_millis()) })
+        done(unsafe { dw_session_cut(self.pointer(), now.as_millis()) })
     }
 
     pub(crate) fn moment(&mut self, now: Moment) -> Result<(), Fault> {
         // SAFETY: as `Handle` says.
-        done(unsafe { (self.functions.moment)(self.pointer(), now.as_millis()) })
+        done(unsafe { dw_session_moment(self.pointer(), now.as_millis()) })
     }
 
     pub(crate) fn bytes(&mut self, now: Moment, bytes: &[u8]) -> Result<(), Fault> {
         let (raw, now) = (self.pointer(), now.as_millis());
         // SAFETY: as `Handle` says.
-        done(unsafe { (self.functions.bytes)(raw, now, bytes.as_ptr(), bytes.len()) })
+        done(unsafe { dw_session_bytes(raw, now, bytes.as_ptr(), bytes.len()) })
     }
 
     /// Reads by this function of the library.
@@ -339,15 +222,15 @@ impl Handle {
     }
 
     pub(crate) fn exists(&mut self, call: Call<'_>, watch: Watch) -> Result<(), Fault> {
-        self.read(self.functions.exists, call, watch)
+        self.read(dw_session_exists, call, watch)
     }
 
     pub(crate) fn get_data(&mut self, call: Call<'_>, watch: Watch) -> Result<(), Fault> {
-        self.read(self.functions.get_data, call, watch)
+        self.read(dw_session_get_data, call, watch)
     }
 
     pub(crate) fn get_children(&mut self, call: Call<'_>, watch: Watch) -> Result<(), Fault> {
-        self.read(self.functions.get_children, call, watch)
+        self.read(dw_session_get_children, call, watch)
     }
 
     /// Writes by this function of the library, which has one number more. The bytes of null data are not looked at.
@@ -386,7 +269,7 @@ impl Handle {
         data: Option<&[u8]>,
         version: i32,
     ) -> Result<(), Fault> {
-        self.write(self.functions.set_data, call, data, version)
+        self.write(dw_session_set_data, call, data, version)
     }
 
     pub(crate) fn create(
@@ -395,15 +278,15 @@ impl Handle {
         data: Option<&[u8]>,
         mode: Mode,
     ) -> Result<(), Fault> {
-        self.write(self.functions.create, call, data, mode.number())
+        self.write(dw_session_create, call, data, mode.number())
     }
 
     pub(crate) fn delete(&mut self, call: Call<'_>, version: i32) -> Result<(), Fault> {
         let (now, until) = (call.now.as_millis(), call.until.as_millis());
         let (raw, path, length) = (self.pointer(), call.path.as_ptr(), call.path.len());
-        let delete = self.functions.delete;
+        let ticket = call.ticket;
         // SAFETY: as `Handle` says.
-        let code = unsafe { delete(raw, now, call.ticket, until, path, length, version) };
+        let code = unsafe { dw_session_delete(raw, now, ticket, until, path, length, version) };
         done_at(call.path, code)
     }
 
@@ -411,14 +294,14 @@ impl Handle {
     pub(crate) fn close_session(&mut self, call: Call<'_>) -> Result<(), Fault> {
         let (now, until) = (call.now.as_millis(), call.until.as_millis());
         // SAFETY: as `Handle` says.
-        done(unsafe { (self.functions.close)(self.pointer(), now, call.ticket, until) })
+        done(unsafe { dw_session_close(self.pointer(), now, call.ticket, until) })
     }
 
     /// The next output of the last step, and none where all were told.
     pub(crate) fn next(&mut self) -> Result<Option<Output>, Fault> {
         let mut output = Output::default();
         // SAFETY: as `Handle` says.
-        let code = unsafe { (self.functions.next)(self.pointer(), &mut output) };
+        let code = unsafe { dw_session_next(self.pointer(), &mut output) };
         if code == result::NONE {
             return Ok(None);
         }
@@ -428,13 +311,13 @@ impl Handle {
     /// Copies the text of the output that was told last, and tells how many bytes there are from that place on.
     pub(crate) fn copy(&self, from: usize, room: &mut [u8]) -> usize {
         // SAFETY: as `Handle` says.
-        unsafe { (self.functions.copy)(self.pointer(), from, room.as_mut_ptr(), room.len()) }
+        unsafe { dw_session_copy(self.pointer(), from, room.as_mut_ptr(), room.len()) }
     }
 
     /// Copies a name of the listing that was told last, and tells how many bytes it has.
     pub(crate) fn name(&self, index: usize, room: &mut [u8]) -> usize {
         // SAFETY: as `Handle` says.
-        unsafe { (self.functions.name)(self.pointer(), index, room.as_mut_ptr(), room.len()) }
+        unsafe { dw_session_name(self.pointer(), index, room.as_mut_ptr(), room.len()) }
     }
 
     /// Copies what this function of the library has, and tells how many bytes that is.
@@ -447,47 +330,47 @@ impl Handle {
 
     /// All names of the listing that was told last, each after its length in four bytes.
     pub(crate) fn names(&self, room: &mut [u8]) -> Result<usize, Fault> {
-        self.copy_all(self.functions.names, room)
+        self.copy_all(dw_session_names, room)
     }
 
     /// The words of the drop that was told last.
     pub(crate) fn words(&self, room: &mut [u8]) -> Result<usize, Fault> {
-        self.copy_all(self.functions.words, room)
+        self.copy_all(dw_session_words, room)
     }
 
     /// The saved session.
     pub(crate) fn saved(&self, room: &mut [u8]) -> Result<usize, Fault> {
-        self.copy_all(self.functions.saved, room)
+        self.copy_all(dw_session_saved, room)
     }
 
     pub(crate) fn state(&self) -> i32 {
         // SAFETY: as `Handle` says.
-        unsafe { (self.functions.state)(self.pointer()) }
+        unsafe { dw_session_state(self.pointer()) }
     }
 
     pub(crate) fn revision(&self) -> u64 {
         // SAFETY: as `Handle` says.
-        unsafe { (self.functions.revision)(self.pointer()) }
+        unsafe { dw_session_revision(self.pointer()) }
     }
 
     pub(crate) fn last_zxid(&self) -> i64 {
         // SAFETY: as `Handle` says.
-        unsafe { (self.functions.last_zxid)(self.pointer()) }
+        unsafe { dw_session_last_zxid(self.pointer()) }
     }
 
     pub(crate) fn timeout_ms(&self) -> i64 {
         // SAFETY: as `Handle` says.
-        unsafe { (self.functions.timeout_ms)(self.pointer()) }
+        unsafe { dw_session_timeout_ms(self.pointer()) }
     }
 
     /// Forgets stale answers, which what is open always does.
     pub(crate) fn forget(&mut self) {
         // SAFETY: as `Handle` says.
-        unsafe { (self.functions.forget)(self.pointer()) };
+        unsafe { dw_session_forget(self.pointer()) };
     }
 
     /// The moment that this function of the library tells, where there is one.
-    fn moment_by(&self, look: LookOut<u64>) -> Option<Moment> {
+    fn moment_by(&self, look: LookOut) -> Option<Moment> {
         let mut millis = 0;
         // SAFETY: as `Handle` says.
         let code = unsafe { look(self.pointer(), &mut millis) };
@@ -495,7 +378,7 @@ impl Handle {
     }
 
     pub(crate) fn deadline(&self) -> Option<Moment> {
-        self.moment_by(self.functions.deadline)
+        self.moment_by(dw_session_deadline)
     }
 
     /// What is kept about the data of a path, of which it copies as many as there is room for.
@@ -504,9 +387,8 @@ impl Handle {
         let (text, length) = (path.as_ptr(), path.len());
         let (out, room) = (room.as_mut_ptr(), room.len());
         // SAFETY: as `Handle` says.
-        let code = unsafe {
-            (self.functions.peek_data)(self.pointer(), text, length, &mut kept, out, room)
-        };
+        let code =
+            unsafe { dw_session_peek_data(self.pointer(), text, length, &mut kept, out, room) };
         done_at(path, code).map(|()| kept)
     }
 
@@ -514,8 +396,7 @@ impl Handle {
         let mut kept = KeptNames::default();
         let (text, length) = (path.as_ptr(), path.len());
         // SAFETY: as `Handle` says.
-        let code =
-            unsafe { (self.functions.peek_children)(self.pointer(), text, length, &mut kept) };
+        let code = unsafe { dw_session_peek_children(self.pointer(), text, length, &mut kept) };
         done_at(path, code).map(|()| kept)
     }
 
@@ -525,9 +406,8 @@ impl Handle {
         let (text, length) = (path.as_ptr(), path.len());
         let (out, room) = (room.as_mut_ptr(), room.len());
         // SAFETY: as `Handle` says.
-        let code = unsafe {
-            (self.functions.peek_names)(self.pointer(), text, length, out, room, &mut count)
-        };
+        let code =
+            unsafe { dw_session_peek_names(self.pointer(), text, length, out, room, &mut count) };
         done_at(path, code).map(|()| count)
     }
 
@@ -549,12 +429,12 @@ impl Handle {
 
     /// Copies all nodes at and below a path, as the header spells them.
     pub(crate) fn subtree(&self, path: &str, most: usize, room: &mut [u8]) -> Result<usize, Fault> {
-        self.collect(self.functions.subtree, path, most, room)
+        self.collect(dw_session_subtree, path, most, room)
     }
 
     /// Copies the reads that are lacking before there is a subtree, as the header spells them.
     pub(crate) fn lacking(&self, path: &str, most: usize, room: &mut [u8]) -> Result<usize, Fault> {
-        self.collect(self.functions.lacking, path, most, room)
+        self.collect(dw_session_lacking, path, most, room)
     }
 
     /// What the library answers of a snapshot of paths that are spelled: its code, and how many bytes what is kept of them has, of which it
@@ -567,7 +447,7 @@ impl Handle {
         let raw = self.pointer();
         // SAFETY: as `Handle` says.
         let code = unsafe {
-            (self.functions.snapshot)(raw, first, length, second, width, out, room, &mut count)
+            dw_session_snapshot(raw, first, length, second, width, out, room, &mut count)
         };
         (code, count)
     }
@@ -577,7 +457,7 @@ impl Handle {
         let mut token = 0;
         // SAFETY: as `Handle` says.
         let code = unsafe {
-            (self.functions.holder)(
+            dw_session_holder(
                 self.pointer(),
                 directory.as_ptr(),
                 directory.len(),
@@ -604,7 +484,7 @@ impl Handle {
         let (directory, name) = (contender.directory, contender.name);
         // SAFETY: as `Handle` says.
         let code = unsafe {
-            (self.functions.standing)(
+            dw_session_standing(
                 self.pointer(),
                 directory.as_ptr(),
                 directory.len(),
@@ -628,62 +508,6 @@ impl Handle {
     }
 }
 
-/// A handle of one kind, which the functions of that kind alone are given.
-macro_rules! handle_of {
-    ($(#[$doc:meta])* $name:ident) => {
-        $(#[$doc])*
-        pub(crate) struct $name {
-            handle: Handle,
-        }
-
-        impl Deref for $name {
-            type Target = Handle;
-
-            fn deref(&self) -> &Handle {
-                &self.handle
-            }
-        }
-
-        impl DerefMut for $name {
-            fn deref_mut(&mut self) -> &mut Handle {
-                &mut self.handle
-            }
-        }
-    };
-}
-
-handle_of! {
-    /// An open client.
-    ClientHandle
-}
-
-handle_of! {
-    /// An open session.
-    MachineHandle
-}
-
-impl ClientHandle {
-    pub(crate) fn open(timeout_ms: i32) -> Result<ClientHandle, Fault> {
-        let handle = Handle::closed(&OF_CLIENTS)?;
-        // SAFETY: as `Handle` says.
-        done(unsafe { dw_open(handle.pointer(), timeout_ms) })?;
-        Ok(ClientHandle { handle })
-    }
-
-    pub(crate) fn resume(timeout_ms: i32, saved: &[u8]) -> Result<ClientHandle, Fault> {
-        let handle = Handle::closed(&OF_CLIENTS)?;
-        let (raw, at, length) = (handle.pointer(), saved.as_ptr(), saved.len());
-        // SAFETY: as `Handle` says.
-        done(unsafe { dw_resume(raw, timeout_ms, at, length) })?;
-        Ok(ClientHandle { handle })
-    }
-
-    pub(crate) fn renew(&mut self, timeout_ms: i32) -> Result<(), Fault> {
-        // SAFETY: as `Handle` says.
-        done(unsafe { dw_renew(self.pointer(), timeout_ms) })
-    }
-}
-
 /// How a session begins, besides what it takes up.
 #[derive(Clone, Copy)]
 pub(crate) struct Settings {
@@ -694,20 +518,20 @@ pub(crate) struct Settings {
     pub(crate) longest_request: usize,
 }
 
-impl MachineHandle {
-    pub(crate) fn open(of: Settings) -> Result<MachineHandle, Fault> {
-        let handle = Handle::closed(&OF_SESSIONS)?;
+impl Handle {
+    pub(crate) fn open(of: Settings) -> Result<Handle, Fault> {
+        let handle = Handle::closed()?;
         let raw = handle.pointer();
         let (answer, request) = (of.longest_answer, of.longest_request);
         // SAFETY: as `Handle` says.
         done(unsafe {
             dw_session_open_with_limits(raw, of.timeout_ms, of.addresses, of.seed, answer, request)
         })?;
-        Ok(MachineHandle { handle })
+        Ok(handle)
     }
 
-    pub(crate) fn resume(of: Settings, saved: &[u8]) -> Result<MachineHandle, Fault> {
-        let handle = Handle::closed(&OF_SESSIONS)?;
+    pub(crate) fn resume(of: Settings, saved: &[u8]) -> Result<Handle, Fault> {
+        let handle = Handle::closed()?;
         let (raw, at, length) = (handle.pointer(), saved.as_ptr(), saved.len());
         let (answer, request) = (of.longest_answer, of.longest_request);
         // SAFETY: as `Handle` says.
@@ -723,7 +547,7 @@ impl MachineHandle {
                 length,
             )
         })?;
-        Ok(MachineHandle { handle })
+        Ok(handle)
     }
 
     pub(crate) fn failed(&mut self, now: Moment) -> Result<(), Fault> {

@@ -40,18 +40,19 @@ pub struct Kept<T> {
 /// What is kept about the data of a path.
 ///
 /// ```
-/// use dirwolleu::{Client, DataAnswer, Moment, Watch};
+/// use dirwolleu::{DataAnswer, Machine, Moment, Watch};
 /// # use std::time::Duration;
 /// # let now = Moment::from_millis(1);
-/// # let mut client = Client::open(Duration::from_secs(9))?;
-/// # let _ = client.opened(now)?;
+/// # let mut machine = Machine::open(Duration::from_secs(9), 1, 42)?;
+/// # let _ = machine.tick(now)?;
+/// # let _ = machine.opened(now)?;
 /// # let admitted = [&[0, 0, 0, 37, 0, 0, 0, 0, 0, 0, 35, 40, 0, 0, 0, 0, 0, 0, 0, 1, 0, 0, 0, 16][..], &[0; 17]].concat();
-/// # let _ = client.bytes(now, &admitted)?;
+/// # let _ = machine.bytes(now, &admitted)?;
 ///
-/// let _ = client.exists(now, 7, "/a", Watch::Yes)?;
+/// let _ = machine.exists(now, 7, None, "/a", Watch::Yes)?;
 /// # let from_server = [0, 0, 0, 16, 0, 0, 0, 1, 0, 0, 0, 0, 0, 0, 0, 5, 255, 255, 255, 155];
-/// let _ = client.bytes(now, &from_server)?;
-/// match client.peek_data("/a")?.map(|kept| kept.answer) {
+/// let _ = machine.bytes(now, &from_server)?;
+/// match machine.peek_data("/a")?.map(|kept| kept.answer) {
 ///     Some(DataAnswer::Absent) => println!("there is no node"),
 ///     other => panic!("that is kept, and not {other:?}"),
 /// }
@@ -75,20 +76,21 @@ pub enum DataAnswer {
 /// What is kept about the children of a path.
 ///
 /// ```
-/// use dirwolleu::{Children, Client, Moment, Watch};
+/// use dirwolleu::{Children, Machine, Moment, Watch};
 /// # use std::time::Duration;
 /// # let now = Moment::from_millis(1);
-/// # let mut client = Client::open(Duration::from_secs(9))?;
-/// # let _ = client.opened(now)?;
+/// # let mut machine = Machine::open(Duration::from_secs(9), 1, 42)?;
+/// # let _ = machine.tick(now)?;
+/// # let _ = machine.opened(now)?;
 /// # let admitted = [&[0, 0, 0, 37, 0, 0, 0, 0, 0, 0, 35, 40, 0, 0, 0, 0, 0, 0, 0, 1, 0, 0, 0, 16][..], &[0; 17]].concat();
-/// # let _ = client.bytes(now, &admitted)?;
+/// # let _ = machine.bytes(now, &admitted)?;
 ///
-/// let _ = client.get_children(now, 7, "/a", Watch::Yes)?;
+/// let _ = machine.get_children(now, 7, None, "/a", Watch::Yes)?;
 /// # let head = [0, 0, 0, 101, 0, 0, 0, 1, 0, 0, 0, 0, 0, 0, 0, 5, 0, 0, 0, 0, 0, 0, 0, 2];
 /// # let names = b"\0\0\0\x04port\0\0\0\x01b";
 /// # let from_server = [&head[..], names, &[0; 68]].concat();
-/// let _ = client.bytes(now, &from_server)?;
-/// let Some(kept) = client.peek_children("/a")? else { panic!("they are kept") };
+/// let _ = machine.bytes(now, &from_server)?;
+/// let Some(kept) = machine.peek_children("/a")? else { panic!("they are kept") };
 /// let Children { names, pzxid } = kept.answer;
 /// assert_eq!(names, ["b", "port"]);
 /// println!("as of zxid {pzxid}");

@@ -19,13 +19,12 @@
 //! # }
 //! ```
 //!
-//! There are four ways to use it:
+//! There are three ways to use it:
 //!
 //! - [`Session`] is a session that a thread of its own keeps alive. Its calls wait for their answers, or give a [`Ticket`], which is a
 //!   future too. [`SessionOptions`] opens one otherwise than usual.
 //! - [`LocalSession`] is the same without a thread, for a loop of your own.
 //! - [`Machine`] is what both use, the core itself, without socket and clock, for an event loop: it decides of the whole session.
-//! - [`Client`] is the part of it that does not dial, does not ask again and follows nothing.
 //!
 //! **Proved** is the core: what each function of its header says. So it is when which host is dialled, which calls wait, when they are
 //! late, which are asked again after a lost connection, and when what is followed is read. **Tested** is all that is above it, in this
@@ -51,7 +50,6 @@ mod barrier;
 mod both;
 mod calls;
 mod chroot;
-mod client;
 mod counter;
 mod credentials;
 mod deletions;
@@ -108,7 +106,6 @@ mod view;
 pub use acl::{Acl, Id, Permissions};
 pub use action::{Action, Actions, Refusal};
 pub use barrier::Barrier;
-pub use client::{Client, State};
 pub use counter::Counter;
 pub use error::{Error, ErrorKind};
 pub use events::Events;
@@ -118,12 +115,12 @@ pub use hosts::{Hosts, HostsFault};
 pub use kept::{Children, DataAnswer, Kept, Mark};
 pub use local::LocalSession;
 pub use lock::{Election, Lock, LockNames, LockOptions, Sharing};
-pub use machine::{Limits, Machine};
+pub use machine::{Limits, Machine, State};
 pub use moment::{Clock, Moment};
 pub use multi_read::{Read, ReadAnswer};
 pub use node::{DataStat, Mode, Node, NodeEvent, Side, Stat, Watch, ANY_VERSION};
 pub use options::{OpenError, SessionOptions};
-pub use output::{Brought, Bytes, Cause, GivenUp, Names, Output, Outputs, Reply, Text};
+pub use output::{Brought, Bytes, Cause, GivenUp, Names, Reply, Text};
 pub use path_fault::PathFault;
 pub use queue::Queue;
 pub use raw::RawOperation;

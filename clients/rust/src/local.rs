@@ -2,13 +2,13 @@
 
 use crate::acl::{Acl, Id};
 use crate::both::{calls, look_ups, watch, Asks};
-use crate::client::State;
 use crate::engine::{Engine, NEVER};
 use crate::error::Error;
 use crate::fault::{Code, Fault};
 use crate::hosts::Hosts;
 use crate::keeper::{ask, Keeper, Shared};
 use crate::kept::{Children, DataAnswer, Kept, Mark};
+use crate::machine::State;
 use crate::multi_read::{Read, ReadAnswer};
 use crate::node::{Mode, Node, Stat};
 use crate::options::{OpenError, SessionOptions};

@@ -1,4 +1,4 @@
-//! What a client and a machine have alike: their steps, their calls, and what is looked up of their handles.
+//! The steps of a machine, its calls, and what is looked up of its handle.
 
 use crate::fault::Fault;
 use crate::path_fault::PathFault;
@@ -160,9 +160,8 @@ macro_rules! look_ups_of_handle {
 
         /// A number from 1 on that rises where what is kept and good may have changed, or the state, or the session. While it is the same, a
         /// [subtree](Self::subtree), what is [lacking](Self::lacking) and a [snapshot](Self::snapshot) are the same, so ask for them again
-        /// only where it differs. The [last zxid](Self::last_zxid) may rise meanwhile. Of a [`Client`](crate::Client) it rises by one at each
-        /// step that gave a reply, a report or another state; of a [`Machine`](crate::Machine) at each step with bytes too. It rises where
-        /// memory ran out within a step.
+        /// only where it differs. The [last zxid](Self::last_zxid) may rise meanwhile. It rises by one at each
+        /// step with bytes or another state, and where memory ran out within a step.
         pub fn revision(&self) -> u64 {
             self.handle.revision()
         }

@@ -1,9 +1,8 @@
 //! A session as a machine.
 
 use crate::action::Actions;
-use crate::client::State;
 use crate::fault::{done, Fault};
-use crate::ffi::{Call, KeptData, MachineHandle, Settings};
+use crate::ffi::{Call, Handle, KeptData, Settings};
 use crate::kept::{mark_of, Children, DataAnswer, Kept, Mark};
 use crate::looking::{for_each_call, look_ups_of_handle, steps_of_handle};
 use crate::looking::{no_path_among, texts_in, timeout_ms, whole, whole_in, whole_text};
@@ -18,8 +17,17 @@ use crate::subtree::{lacking_in, nodes_in, Lacking, Subtree};
 use std::fmt;
 use std::time::Duration;
 
-/// A session as a machine: a [`Client`](crate::Client) with what most programs need besides. It says which server is dialled and when, has
-/// calls wait for a connection, asks reads again that were lost, keeps what is followed good, and begins another session after an expiry.
+pub use crate::numbers::State;
+
+impl State {
+    /// Whether no other state of the session comes after it.
+    pub fn is_final(self) -> bool {
+        matches!(self, State::Expired | State::Closed)
+    }
+}
+
+/// A session as a machine: bytes, moments and calls go in, and [`Actions`] come out. It says which server is dialled and when, has calls
+/// wait for a connection, asks reads again that were lost, keeps what is followed good, and begins another session after an expiry.
 /// All of that the core decides, and is proved.
 ///
 /// It opens no socket, reads no clock and starts no thread, and no function of it waits. A program has connections, a clock, and a list of
@@ -63,7 +71,7 @@ use std::time::Duration;
 /// # }
 /// ```
 pub struct Machine {
-    pub(crate) handle: MachineHandle,
+    pub(crate) handle: Handle,
     state: State,
 }
 
@@ -123,7 +131,7 @@ impl Machine {
         limits: Limits,
     ) -> Result<Machine, Fault> {
         let settings = settings(timeout, addresses, seed, limits)?;
-        Machine::of(MachineHandle::open(settings)?)
+        Machine::of(Handle::open(settings)?)
     }
 
     /// A machine that first takes up the session that was put away.
@@ -153,7 +161,7 @@ impl Machine {
         limits: Limits,
     ) -> Result<Machine, Fault> {
         let settings = settings(timeout, addresses, seed, limits)?;
-        Machine::of(MachineHandle::resume(settings, saved.as_bytes())?)
+        Machine::of(Handle::resume(settings, saved.as_bytes())?)
     }
 }
 
@@ -202,7 +210,7 @@ impl Machine {
         self.step(|handle| handle.cut(now))
     }
 
-    steps_of_handle! { Machine, MachineHandle, Actions }
+    steps_of_handle! { Machine, Handle, Actions }
 
     /// The list of addresses is another one, of this many, and they are dialled in a new order. A connection that is there stays.
     ///

@@ -54,13 +54,13 @@ impl Moment {
 /// expired meanwhile, only a server tells it.
 ///
 /// ```
-/// use dirwolleu::{Client, Clock};
+/// use dirwolleu::{Clock, Machine};
 /// use std::time::{Duration, Instant};
 ///
 /// let clock = Clock::start();
-/// let mut client = Client::open(Duration::from_secs(10))?;
+/// let mut machine = Machine::open(Duration::from_secs(10), 1, 42)?;
 /// let now = clock.now();
-/// let _ = client.tick(now)?;
+/// let _ = machine.tick(now)?;
 /// let until = clock.moment_of(Instant::now() + Duration::from_secs(5));
 /// assert!(until >= now.saturating_add(Duration::from_secs(5)));
 /// # Ok::<(), dirwolleu::Fault>(())

@@ -96,16 +96,17 @@ pub const ANY_VERSION: i32 = -1;
 /// Whether a read leaves a watch on its path. What such a read brings is kept.
 ///
 /// ```
-/// use dirwolleu::{Client, Moment, Output, Watch};
+/// use dirwolleu::{Action, Machine, Moment, Watch};
 /// # use std::time::Duration;
 /// # let now = Moment::from_millis(1);
-/// # let mut client = Client::open(Duration::from_secs(9))?;
-/// # let _ = client.opened(now)?;
+/// # let mut machine = Machine::open(Duration::from_secs(9), 1, 42)?;
+/// # let _ = machine.tick(now)?;
+/// # let _ = machine.opened(now)?;
 /// # let admitted = [&[0, 0, 0, 37, 0, 0, 0, 0, 0, 0, 35, 40, 0, 0, 0, 0, 0, 0, 0, 1, 0, 0, 0, 16][..], &[0; 17]].concat();
-/// # let _ = client.bytes(now, &admitted)?;
+/// # let _ = machine.bytes(now, &admitted)?;
 ///
-/// let mut outputs = client.get_data(now, 7, "/config", Watch::Yes)?;
-/// let Some(Output::Send(frame)) = outputs.next()? else { panic!("it is asked") };
+/// let mut actions = machine.get_data(now, 7, None, "/config", Watch::Yes)?;
+/// let Some(Action::Send(frame)) = actions.next()? else { panic!("it is asked") };
 /// assert_eq!(frame.to_vec().last(), Some(&1)); // the server is to tell the next change
 /// # Ok::<(), dirwolleu::Fault>(())
 /// ```
@@ -126,13 +127,18 @@ impl Watch {
 /// What kind of a node is made.
 ///
 /// ```
-/// use dirwolleu::{Client, Mode, Moment, NoReply, Output};
-/// use std::time::Duration;
+/// use dirwolleu::{Action, Machine, Mode, Moment};
+/// # use std::time::Duration;
+/// # let now = Moment::from_millis(1);
+/// # let mut machine = Machine::open(Duration::from_secs(9), 1, 42)?;
+/// # let _ = machine.tick(now)?;
+/// # let _ = machine.opened(now)?;
+/// # let admitted = [&[0, 0, 0, 37, 0, 0, 0, 0, 0, 0, 35, 40, 0, 0, 0, 0, 0, 0, 0, 1, 0, 0, 0, 16][..], &[0; 17]].concat();
+/// # let _ = machine.bytes(now, &admitted)?;
 ///
-/// let mut client = Client::open(Duration::from_secs(10))?;
-/// let mut outputs = client.create(Moment::from_millis(1), 7, "/queue/job-", Some(b"one"), Mode::PersistentSequential)?;
-/// let Some(Output::Answer { ticket: 7, outcome }) = outputs.next()? else { panic!("it is answered") };
-/// assert_eq!(outcome.unwrap_err(), NoReply::NotConnected);
+/// let mut actions = machine.create(now, 7, None, "/queue/job-", Some(b"one"), Mode::PersistentSequential)?;
+/// let Some(Action::Send(frame)) = actions.next()? else { panic!("it is asked") };
+/// assert_eq!(frame.to_vec().last(), Some(&2)); // a number is added to the name
 /// # Ok::<(), dirwolleu::Fault>(())
 /// ```
 #[derive(Clone, Copy, Debug, PartialEq, Eq, Hash)]

@@ -80,13 +80,6 @@ pub(crate) mod mode {
     pub(crate) const SEQUENTIAL: i32 = 2;
 }
 
-pub(crate) mod kept {
-    pub(crate) const NOTHING: i32 = 0;
-    pub(crate) const ABSENT: i32 = 1;
-    pub(crate) const KNOWN: i32 = 2;
-    pub(crate) const FULL: i32 = 3;
-}
-
 pub(crate) mod operation {
     pub(crate) const GET_ACL: i32 = 6;
     pub(crate) const SET_ACL: i32 = 7;
@@ -99,6 +92,13 @@ pub(crate) mod operation {
     pub(crate) const GET_EPHEMERALS: i32 = 103;
     pub(crate) const GET_ALL_CHILDREN_NUMBER: i32 = 104;
     pub(crate) const WHO_AM_I: i32 = 107;
+}
+
+pub(crate) mod kept {
+    pub(crate) const NOTHING: i32 = 0;
+    pub(crate) const ABSENT: i32 = 1;
+    pub(crate) const KNOWN: i32 = 2;
+    pub(crate) const FULL: i32 = 3;
 }
 
 /// The state of a session, as its client knows it.
@@ -199,22 +199,23 @@ pub enum NoReply {
 /// Whether anything that the client was told has ended what is kept. It tells of a zxid, and not of a time.
 ///
 /// ```
-/// use dirwolleu::{Client, Mark, Moment, Watch};
+/// use dirwolleu::{Machine, Mark, Moment, Watch};
 /// # use std::time::Duration;
 /// # let now = Moment::from_millis(1);
-/// # let mut client = Client::open(Duration::from_secs(9))?;
-/// # let _ = client.opened(now)?;
+/// # let mut machine = Machine::open(Duration::from_secs(9), 1, 1)?;
+/// # let _ = machine.tick(now)?;
+/// # let _ = machine.opened(now)?;
 /// # let admitted = [&[0, 0, 0, 37, 0, 0, 0, 0, 0, 0, 35, 40, 0, 0, 0, 0, 0, 0, 0, 1, 0, 0, 0, 16][..], &[0; 17]].concat();
-/// # let _ = client.bytes(now, &admitted)?;
+/// # let _ = machine.bytes(now, &admitted)?;
 ///
-/// let _ = client.exists(now, 7, "/a", Watch::Yes)?;
+/// let _ = machine.exists(now, 7, None, "/a", Watch::Yes)?;
 /// # let from_server = [0, 0, 0, 16, 0, 0, 0, 1, 0, 0, 0, 0, 0, 0, 0, 5, 255, 255, 255, 155];
-/// let _ = client.bytes(now, &from_server)?; // there is no node
-/// assert_eq!(client.data_mark("/a")?, Some(Mark::Good));
+/// let _ = machine.bytes(now, &from_server)?; // there is no node
+/// assert_eq!(machine.data_mark("/a")?, Some(Mark::Good));
 /// # let head = [&[0, 0, 0, 30][..], &[255; 12], &[0; 4]].concat();
 /// # let report = [&head[..], &[0, 0, 0, 1, 0, 0, 0, 3, 0, 0, 0, 2], b"/a"].concat();
-/// let _ = client.bytes(now, &report)?; // it was made
-/// assert_eq!(client.data_mark("/a")?, Some(Mark::Stale));
+/// let _ = machine.bytes(now, &report)?; // it was made
+/// assert_eq!(machine.data_mark("/a")?, Some(Mark::Stale));
 /// # Ok::<(), dirwolleu::Fault>(())
 /// ```
 #[derive(Clone, Copy, Debug, PartialEq, Eq, Hash)]
@@ -333,7 +334,7 @@ pub(crate) mod words {
             2 => "another session stands before this one",
             -1 => "out of memory within a step",
             -2 => "out of memory",
-            -3 => "the handle holds no client",
+            -3 => "the handle holds no session",
             -4 => "the path is no UTF-8",
             -5 => "the text is no path",
             -6 => "the timeout is not 1 to 2147483647 milliseconds",

@@ -1,149 +1,29 @@
-//! What a client says at a step.
+//! What the actions of a machine bring: bytes, texts and names, which stay in the library until they are copied.
 
-use crate::client::{Client, State};
 use crate::fault::{Code, Fault, NoReply, UnknownNumber};
 use crate::ffi::{self, Handle};
 use crate::looking::{whole, whole_in, whole_text, Spelled};
-use crate::node::{NodeEvent, Side, Stat};
-use crate::numbers::{brought, cause, kind, outcome};
+use crate::node::Stat;
+use crate::numbers::{brought, cause, outcome};
 use std::convert::Infallible;
 use std::fmt;
-
-/// What a client said at its last step. Do all outputs of a step, in their order, before the next step: those that were not taken are
-/// forgotten there.
-///
-/// It lends: an output, whose bytes stay in the library until they are copied, is over when the next one is taken. And it borrows the
-/// client, so that no step happens while it is read:
-///
-/// ```compile_fail,E0499
-/// # use dirwolleu::{Client, Moment};
-/// # use std::time::Duration;
-/// let mut client = Client::open(Duration::from_secs(10)).unwrap();
-/// let mut outputs = client.opened(Moment::from_millis(1)).unwrap();
-/// client.cut(Moment::from_millis(2)).unwrap(); // `client` is borrowed still
-/// outputs.next();
-/// ```
-#[derive(Debug)]
-#[must_use = "frames that are not written never reach the server"]
-pub struct Outputs<'a> {
-    client: &'a mut Client,
-}
-
-impl<'a> Outputs<'a> {
-    pub(crate) fn of(client: &'a mut Client) -> Outputs<'a> {
-        Outputs { client }
-    }
-
-    /// The next output, and none where all were told.
-    ///
-    /// # Errors
-    ///
-    /// [`Fault::UnknownNumber`] alone, where the library is of another version than this crate.
-    #[allow(clippy::should_implement_trait)] // an iterator can't lend
-    pub fn next(&mut self) -> Result<Option<Output<'_>>, Fault> {
-        let Some(flat) = self.client.handle.next()? else {
-            return Ok(None);
-        };
-        Ok(Some(Output::of(&self.client.handle, &flat)?))
-    }
-
-    /// The client, for look-ups between two outputs.
-    pub fn client(&self) -> &Client {
-        self.client
-    }
-}
-
-/// What a client says.
-///
-/// ```
-/// use dirwolleu::{Client, Moment, Output, State};
-/// use std::time::Duration;
-///
-/// let mut client = Client::open(Duration::from_secs(9))?;
-/// let mut outputs = client.opened(Moment::from_millis(1))?;
-/// let Some(Output::Send(frame)) = outputs.next()? else { panic!("a connection begins with a frame") };
-/// assert_eq!(frame.to_vec()[..4], 45_u32.to_be_bytes());
-/// assert!(matches!(outputs.next()?, Some(Output::State(State::Connecting))));
-/// assert!(outputs.next()?.is_none());
-/// # Ok::<(), dirwolleu::Fault>(())
-/// ```
-#[derive(Debug)]
-#[non_exhaustive]
-pub enum Output<'a> {
-    /// One frame: write all of it to the server.
-    Send(Bytes<'a>),
-    /// The call with this ticket is over.
-    Answer {
-        /// The number that the call was given.
-        ticket: u64,
-        /// The reply of the server, or why there is none.
-        outcome: Result<Reply<'a>, NoReply>,
-    },
-    /// A watch has fired: what is kept of this side of the path is stale.
-    Report {
-        /// The path that was watched.
-        path: Text<'a>,
-        /// The side that was watched.
-        side: Side,
-        /// What has happened.
-        event: NodeEvent,
-    },
-    /// The state is another one. With [`State::Expired`] and [`State::Closed`] the connection is over: close it.
-    State(State),
-    /// The connection is given up: close it. The client knows; no cut is to be handed in.
-    Drop(GivenUp<'a>),
-}
-
-impl<'a> Output<'a> {
-    pub(crate) fn of(handle: &'a Handle, flat: &ffi::Output) -> Result<Output<'a>, UnknownNumber> {
-        let bytes = Bytes {
-            handle,
-            length: flat.length,
-        };
-        Ok(match flat.kind {
-            kind::SEND => Output::Send(bytes),
-            kind::ANSWER => Output::Answer {
-                ticket: flat.ticket,
-                outcome: Reply::of(handle, flat, bytes)?,
-            },
-            kind::REPORT => Output::Report {
-                path: Text { bytes },
-                side: Side::try_from(flat.result)?,
-                event: NodeEvent::try_from(flat.detail)?,
-            },
-            kind::STATE => Output::State(State::try_from(flat.detail)?),
-            kind::DROP => Output::Drop(GivenUp {
-                cause: Cause::of(flat)?,
-                code: Text { bytes },
-            }),
-            other => return Err(UnknownNumber::of("output", other)),
-        })
-    }
-
-    /// Whether the connection is over with this output, so that the program is to close it.
-    pub fn ends_connection(&self) -> bool {
-        matches!(
-            self,
-            Output::Drop(_) | Output::State(State::Expired | State::Closed)
-        )
-    }
-}
 
 /// The reply of a server.
 ///
 /// ```
-/// use dirwolleu::{Brought, Client, Moment, Output, Reply, ANY_VERSION};
+/// use dirwolleu::{ANY_VERSION, Action, Brought, Machine, Moment, Reply};
 /// # use std::time::Duration;
 /// # let now = Moment::from_millis(1);
-/// # let mut client = Client::open(Duration::from_secs(9))?;
-/// # let _ = client.opened(now)?;
+/// # let mut machine = Machine::open(Duration::from_secs(9), 1, 42)?;
+/// # let _ = machine.tick(now)?;
+/// # let _ = machine.opened(now)?;
 /// # let admitted = [&[0, 0, 0, 37, 0, 0, 0, 0, 0, 0, 35, 40, 0, 0, 0, 0, 0, 0, 0, 1, 0, 0, 0, 16][..], &[0; 17]].concat();
-/// # let _ = client.bytes(now, &admitted)?;
+/// # let _ = machine.bytes(now, &admitted)?;
 ///
-/// let _ = client.delete(now, 7, "/a", ANY_VERSION)?;
+/// let _ = machine.delete(now, 7, None, "/a", ANY_VERSION)?;
 /// # let from_server = [0, 0, 0, 16, 0, 0, 0, 1, 0, 0, 0, 0, 0, 0, 0, 5, 0, 0, 0, 0];
-/// let mut outputs = client.bytes(now, &from_server)?;
-/// let Some(Output::Answer { ticket: 7, outcome: Ok(Reply { zxid, result }) }) = outputs.next()? else { panic!("it is answered") };
+/// let mut actions = machine.bytes(now, &from_server)?;
+/// let Some(Action::Answer { ticket: 7, outcome: Ok(Reply { zxid, result }) }) = actions.next()? else { panic!("it is answered") };
 /// assert_eq!(zxid, 5);
 /// assert!(matches!(result, Ok(Brought::Done)));
 /// # Ok::<(), dirwolleu::Fault>(())
@@ -158,7 +38,7 @@ pub struct Reply<'a> {
 
 impl<'a> Reply<'a> {
     /// The reply, or why there is none.
-    fn of(
+    pub(crate) fn of(
         handle: &'a Handle,
         flat: &ffi::Output,
         bytes: Bytes<'a>,
@@ -176,19 +56,20 @@ impl<'a> Reply<'a> {
 /// What a reply brings.
 ///
 /// ```
-/// use dirwolleu::{Brought, Client, Moment, Output, Watch};
+/// use dirwolleu::{Action, Brought, Machine, Moment, Watch};
 /// # use std::time::Duration;
 /// # let now = Moment::from_millis(1);
-/// # let mut client = Client::open(Duration::from_secs(9))?;
-/// # let _ = client.opened(now)?;
+/// # let mut machine = Machine::open(Duration::from_secs(9), 1, 42)?;
+/// # let _ = machine.tick(now)?;
+/// # let _ = machine.opened(now)?;
 /// # let admitted = [&[0, 0, 0, 37, 0, 0, 0, 0, 0, 0, 35, 40, 0, 0, 0, 0, 0, 0, 0, 1, 0, 0, 0, 16][..], &[0; 17]].concat();
-/// # let _ = client.bytes(now, &admitted)?;
+/// # let _ = machine.bytes(now, &admitted)?;
 ///
-/// let _ = client.get_data(now, 7, "/a", Watch::No)?;
+/// let _ = machine.get_data(now, 7, None, "/a", Watch::No)?;
 /// # let head = [0, 0, 0, 91, 0, 0, 0, 1, 0, 0, 0, 0, 0, 0, 0, 5, 0, 0, 0, 0, 0, 0, 0, 3];
 /// # let from_server = [&head[..], b"one", &[0; 68]].concat();
-/// let mut outputs = client.bytes(now, &from_server)?;
-/// let Some(Output::Answer { outcome: Ok(reply), .. }) = outputs.next()? else { panic!("it is answered") };
+/// let mut actions = machine.bytes(now, &from_server)?;
+/// let Some(Action::Answer { outcome: Ok(reply), .. }) = actions.next()? else { panic!("it is answered") };
 /// match reply.result {
 ///     Ok(Brought::Data { data, stat }) => {
 ///         assert_eq!(data.map(|bytes| bytes.to_vec()), Some(b"one".to_vec()));
@@ -201,27 +82,27 @@ impl<'a> Reply<'a> {
 #[derive(Debug)]
 #[non_exhaustive]
 pub enum Brought<'a> {
-    /// To [`exists`](Client::exists) and [`set_data`](Client::set_data): what is known of the node.
+    /// To [`exists`](crate::Machine::exists) and [`set_data`](crate::Machine::set_data): what is known of the node.
     Stat(Stat),
-    /// To [`get_data`](Client::get_data).
+    /// To [`get_data`](crate::Machine::get_data).
     Data {
         /// The data: none where they are null, which is another thing than no bytes.
         data: Option<Bytes<'a>>,
         /// What is known of the node.
         stat: Stat,
     },
-    /// To [`get_children`](Client::get_children).
+    /// To [`get_children`](crate::Machine::get_children).
     Names {
         /// The names, in the server's order, which means nothing.
         names: Names<'a>,
         /// What is known of the node.
         stat: Stat,
     },
-    /// To [`create`](Client::create): the path of the node, which ends in ten digits more where it is sequential.
+    /// To [`create`](crate::Machine::create): the path of the node, which ends in ten digits more where it is sequential.
     Created(Text<'a>),
-    /// To [`delete`](Client::delete) and [`close_session`](Client::close_session): it is done.
+    /// To [`delete`](crate::Machine::delete) and [`close_session`](crate::Machine::close_session): it is done.
     Done,
-    /// To [`Machine::raw`](crate::Machine::raw): all that stands after the header of the reply, of which the core has read nothing.
+    /// To [`raw`](crate::Machine::raw): all that stands after the header of the reply, of which the core has read nothing.
     Raw(Bytes<'a>),
 }
 
@@ -258,12 +139,14 @@ impl<'a> Brought<'a> {
 /// The bytes of a frame or of data, which stay in the library until they are copied.
 ///
 /// ```
-/// use dirwolleu::{Client, Moment, Output};
+/// use dirwolleu::{Action, Machine, Moment};
 /// use std::time::Duration;
 ///
-/// let mut client = Client::open(Duration::from_secs(9))?;
-/// let mut outputs = client.opened(Moment::from_millis(1))?;
-/// let Some(Output::Send(frame)) = outputs.next()? else { panic!("a connection begins with a frame") };
+/// let mut machine = Machine::open(Duration::from_secs(9), 1, 42)?;
+/// let now = Moment::from_millis(1);
+/// let _ = machine.tick(now)?; // a connection is asked for
+/// let mut actions = machine.opened(now)?;
+/// let Some(Action::Send(frame)) = actions.next()? else { panic!("a connection begins with a frame") };
 /// let mut to_server = Vec::new();
 /// frame.append_to(&mut to_server);
 /// assert_eq!(to_server.len(), frame.len());
@@ -276,6 +159,14 @@ impl<'a> Brought<'a> {
 pub struct Bytes<'a> {
     handle: &'a Handle,
     length: usize,
+}
+
+impl<'a> Bytes<'a> {
+    /// Those of what was told last.
+    pub(crate) fn of(handle: &'a Handle, flat: &ffi::Output) -> Bytes<'a> {
+        let length = flat.length;
+        Bytes { handle, length }
+    }
 }
 
 impl Bytes<'_> {
@@ -319,19 +210,20 @@ impl fmt::Debug for Bytes<'_> {
 /// A path or a code, which stays in the library until it is copied.
 ///
 /// ```
-/// use dirwolleu::{Brought, Client, Mode, Moment, Output};
+/// use dirwolleu::{Action, Brought, Machine, Mode, Moment};
 /// # use std::time::Duration;
 /// # let now = Moment::from_millis(1);
-/// # let mut client = Client::open(Duration::from_secs(9))?;
-/// # let _ = client.opened(now)?;
+/// # let mut machine = Machine::open(Duration::from_secs(9), 1, 42)?;
+/// # let _ = machine.tick(now)?;
+/// # let _ = machine.opened(now)?;
 /// # let admitted = [&[0, 0, 0, 37, 0, 0, 0, 0, 0, 0, 35, 40, 0, 0, 0, 0, 0, 0, 0, 1, 0, 0, 0, 16][..], &[0; 17]].concat();
-/// # let _ = client.bytes(now, &admitted)?;
+/// # let _ = machine.bytes(now, &admitted)?;
 ///
-/// let _ = client.create(now, 7, "/queue/job-", None, Mode::PersistentSequential)?;
+/// let _ = machine.create(now, 7, None, "/queue/job-", None, Mode::PersistentSequential)?;
 /// # let head = [0, 0, 0, 41, 0, 0, 0, 1, 0, 0, 0, 0, 0, 0, 0, 5, 0, 0, 0, 0, 0, 0, 0, 21];
 /// # let from_server = [&head[..], b"/queue/job-0000000003"].concat();
-/// let mut outputs = client.bytes(now, &from_server)?;
-/// let Some(Output::Answer { outcome: Ok(reply), .. }) = outputs.next()? else { panic!("it is answered") };
+/// let mut actions = machine.bytes(now, &from_server)?;
+/// let Some(Action::Answer { outcome: Ok(reply), .. }) = actions.next()? else { panic!("it is answered") };
 /// let Ok(Brought::Created(path)) = reply.result else { panic!("a node was made") };
 /// assert_eq!(path.len(), 21);
 /// assert_eq!(String::from(path), "/queue/job-0000000003");
@@ -343,12 +235,9 @@ pub struct Text<'a> {
 }
 
 impl<'a> Text<'a> {
-    /// The text of this output.
-    pub(crate) fn of(handle: &'a Handle, flat: &ffi::Output) -> Text<'a> {
-        let length = flat.length;
-        Text {
-            bytes: Bytes { handle, length },
-        }
+    /// The text that these bytes are.
+    pub(crate) fn of(bytes: Bytes<'a>) -> Text<'a> {
+        Text { bytes }
     }
 }
 
@@ -388,20 +277,21 @@ const ROOM_OF_NAME: usize = 32;
 /// Names of children, which stay in the library until they are copied.
 ///
 /// ```
-/// use dirwolleu::{Brought, Client, Moment, Output, Watch};
+/// use dirwolleu::{Action, Brought, Machine, Moment, Watch};
 /// # use std::time::Duration;
 /// # let now = Moment::from_millis(1);
-/// # let mut client = Client::open(Duration::from_secs(9))?;
-/// # let _ = client.opened(now)?;
+/// # let mut machine = Machine::open(Duration::from_secs(9), 1, 42)?;
+/// # let _ = machine.tick(now)?;
+/// # let _ = machine.opened(now)?;
 /// # let admitted = [&[0, 0, 0, 37, 0, 0, 0, 0, 0, 0, 35, 40, 0, 0, 0, 0, 0, 0, 0, 1, 0, 0, 0, 16][..], &[0; 17]].concat();
-/// # let _ = client.bytes(now, &admitted)?;
+/// # let _ = machine.bytes(now, &admitted)?;
 ///
-/// let _ = client.get_children(now, 7, "/a", Watch::No)?;
+/// let _ = machine.get_children(now, 7, None, "/a", Watch::No)?;
 /// # let head = [0, 0, 0, 101, 0, 0, 0, 1, 0, 0, 0, 0, 0, 0, 0, 5, 0, 0, 0, 0, 0, 0, 0, 2];
 /// # let names = b"\0\0\0\x04port\0\0\0\x01b";
 /// # let from_server = [&head[..], names, &[0; 68]].concat();
-/// let mut outputs = client.bytes(now, &from_server)?;
-/// let Some(Output::Answer { outcome: Ok(reply), .. }) = outputs.next()? else { panic!("it is answered") };
+/// let mut actions = machine.bytes(now, &from_server)?;
+/// let Some(Action::Answer { outcome: Ok(reply), .. }) = actions.next()? else { panic!("it is answered") };
 /// let Ok(Brought::Names { names, .. }) = reply.result else { panic!("it brings names") };
 /// assert_eq!(names.len(), 2);
 /// assert_eq!(names.to_vec()?, ["port", "b"]);
@@ -458,16 +348,17 @@ impl fmt::Debug for Names<'_> {
     }
 }
 
-/// Why a client gives its connection up.
+/// Why a machine gives its connection up.
 ///
 /// ```
-/// use dirwolleu::{Cause, Client, Moment, Output};
+/// use dirwolleu::{Action, Cause, Machine, Moment};
 /// use std::time::Duration;
 ///
-/// let mut client = Client::open(Duration::from_secs(9))?;
-/// let _ = client.opened(Moment::from_millis(1_000))?;
-/// let mut outputs = client.tick(Moment::from_millis(7_000))?; // the server has said nothing
-/// let Some(Output::Drop(given_up)) = outputs.next()? else { panic!("the connection is given up") };
+/// let mut machine = Machine::open(Duration::from_secs(9), 1, 42)?;
+/// let _ = machine.tick(Moment::from_millis(1_000))?;
+/// let _ = machine.opened(Moment::from_millis(1_000))?;
+/// let mut actions = machine.tick(Moment::from_millis(7_000))?; // the server has said nothing
+/// let Some(Action::Drop(given_up)) = actions.next()? else { panic!("the connection is given up") };
 /// assert_eq!(given_up.cause, Cause::Silence);
 /// # Ok::<(), dirwolleu::Fault>(())
 /// ```
@@ -493,7 +384,7 @@ pub enum Cause {
 }
 
 impl Cause {
-    fn of(flat: &ffi::Output) -> Result<Cause, UnknownNumber> {
+    pub(crate) fn of(flat: &ffi::Output) -> Result<Cause, UnknownNumber> {
         Ok(match flat.detail {
             cause::BAD_FRAME => Cause::Frame,
             cause::BAD_PAYLOAD => Cause::Payload,
@@ -510,14 +401,15 @@ impl Cause {
 /// That a connection is given up.
 ///
 /// ```
-/// use dirwolleu::{Cause, Client, Moment, Output};
+/// use dirwolleu::{Action, Cause, Machine, Moment};
 /// use std::time::Duration;
 ///
 /// let now = Moment::from_millis(1);
-/// let mut client = Client::open(Duration::from_secs(9))?;
-/// let _ = client.opened(now)?;
-/// let mut outputs = client.bytes(now, &[255; 4])?; // no length of a frame
-/// let Some(Output::Drop(given_up)) = outputs.next()? else { panic!("the connection is given up") };
+/// let mut machine = Machine::open(Duration::from_secs(9), 1, 42)?;
+/// let _ = machine.tick(now)?;
+/// let _ = machine.opened(now)?;
+/// let mut actions = machine.bytes(now, &[255; 4])?; // no length of a frame
+/// let Some(Action::Drop(given_up)) = actions.next()? else { panic!("the connection is given up") };
 /// assert_eq!(given_up.cause, Cause::Frame);
 /// assert_eq!(given_up.code.to_string(), "F1");
 /// println!("{}", given_up.words()?); // for a log
@@ -540,37 +432,5 @@ impl GivenUp<'_> {
     pub fn words(&self) -> Result<String, Fault> {
         let handle = self.code.bytes.handle;
         whole(|room| handle.words(room)).map(whole_text)
-    }
-}
-
-#[cfg(test)]
-mod tests {
-    use super::Output;
-    use crate::ffi::{self, ClientHandle};
-
-    #[test]
-    fn a_number_that_nobody_knows_is_a_fault() {
-        let handle = ClientHandle::open(1_000).unwrap();
-        for (numbers, what) in [
-            ((0, 0, 0), "output"),
-            ((6, 0, 0), "output"),
-            ((2, 0, 0), "result of a reply"),
-            ((2, 0, 8), "result of a reply"),
-            ((2, 8, 0), "outcome"),
-            ((3, 1, 3), "side"),
-            ((3, 5, 1), "event"),
-            ((4, 5, 0), "state"),
-            ((5, 6, 0), "cause"),
-        ] {
-            let (kind, detail, result) = numbers;
-            let flat = ffi::Output {
-                kind,
-                detail,
-                result,
-                ..ffi::Output::default()
-            };
-            let unknown = Output::of(&handle, &flat).unwrap_err();
-            assert_eq!(unknown.what(), what, "{numbers:?}");
-        }
     }
 }

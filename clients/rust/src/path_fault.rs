@@ -11,11 +11,11 @@ const LONGEST_SHOWN: usize = 256;
 /// Why a text is no path of a node.
 ///
 /// ```
-/// use dirwolleu::{Client, Fault, PathFault};
+/// use dirwolleu::{Fault, Machine, PathFault};
 /// use std::time::Duration;
 ///
-/// let client = Client::open(Duration::from_secs(10))?;
-/// let fault = client.data_mark("/a/../b").unwrap_err();
+/// let machine = Machine::open(Duration::from_secs(10), 1, 42)?;
+/// let fault = machine.data_mark("/a/../b").unwrap_err();
 /// assert!(matches!(fault, Fault::NotPath { reason: Some(PathFault::DotName), .. }));
 /// # Ok::<(), Fault>(())
 /// ```

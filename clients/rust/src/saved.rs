@@ -2,21 +2,21 @@
 
 use std::fmt;
 
-/// A session that is put away, by [`Client::saved`](crate::Client::saved), and taken up by
-/// [`Client::resume`](crate::Client::resume), maybe in another process: its number, its password and the greatest zxid seen.
+/// A session that is put away, by [`Machine::saved`](crate::Machine::saved), and taken up by
+/// [`Machine::resume`](crate::Machine::resume), maybe in another process: its number, its password and the greatest zxid seen.
 ///
 /// Its bytes are a secret: whoever has them has the session. They are not printed.
 ///
 /// ```
-/// use dirwolleu::{Client, SavedSession};
+/// use dirwolleu::{Machine, SavedSession};
 /// use std::time::Duration;
 ///
-/// let client = Client::open(Duration::from_secs(10))?;
-/// let bytes = client.saved()?.as_bytes().to_vec(); // to a file that nobody else reads
+/// let machine = Machine::open(Duration::from_secs(10), 1, 42)?;
+/// let bytes = machine.saved()?.as_bytes().to_vec(); // to a file that nobody else reads
 /// let saved = SavedSession::from_bytes(bytes);
 /// assert_eq!(saved.id(), Some(0)); // no server has admitted it yet
-/// let again = Client::resume(Duration::from_secs(10), &saved)?;
-/// assert_eq!(again.last_zxid(), client.last_zxid());
+/// let again = Machine::resume(Duration::from_secs(10), 1, 42, &saved)?;
+/// assert_eq!(again.last_zxid(), machine.last_zxid());
 /// # Ok::<(), dirwolleu::Fault>(())
 /// ```
 #[derive(Clone, PartialEq, Eq)]
@@ -41,10 +41,44 @@ impl SavedSession {
     pub fn as_bytes(&self) -> &[u8] {
         &self.bytes
     }
+
+    /// What another session after it begins with, as the core renews one: no session, a password of 16 zeros, and the greatest zxid seen, so
+    /// that no server which is behind it admits the session.
+    pub(crate) fn for_another(&self) -> SavedSession {
+        let zxid = &self.bytes[self.bytes.len() - 8..];
+        let none = [&[0; 8][..], &[0, 0, 0, 16], &[0; 16], zxid];
+        SavedSession::from_bytes(none.concat())
+    }
 }
 
 impl fmt::Debug for SavedSession {
     fn fmt(&self, f: &mut fmt::Formatter<'_>) -> fmt::Result {
         f.debug_struct("SavedSession").finish_non_exhaustive()
+    }
+}
+
+#[cfg(test)]
+mod tests {
+    use super::SavedSession;
+
+    #[test]
+    fn another_session_keeps_the_zxid_alone() {
+        let old = [
+            &[1; 8][..],
+            &[0, 0, 0, 3],
+            &[2; 3],
+            &[0, 0, 0, 0, 0, 0, 1, 5],
+        ]
+        .concat();
+        let new = SavedSession::from_bytes(old).for_another();
+        let wanted = [
+            &[0; 8][..],
+            &[0, 0, 0, 16],
+            &[0; 16],
+            &[0, 0, 0, 0, 0, 0, 1, 5],
+        ]
+        .concat();
+        assert_eq!(new.as_bytes(), wanted);
+        assert_eq!(new.id(), Some(0));
     }
 }

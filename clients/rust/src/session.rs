@@ -2,7 +2,6 @@
 
 use crate::acl::{Acl, Id};
 use crate::both::{calls, look_ups, watch, Asks};
-use crate::client::State;
 use crate::engine::Engine;
 use crate::error::Error;
 use crate::events::Events;
@@ -11,6 +10,7 @@ use crate::follow::Follow;
 use crate::hosts::Hosts;
 use crate::keeper::{ask, Keeper, Poller, Shared};
 use crate::kept::{Children, DataAnswer, Kept, Mark};
+use crate::machine::State;
 use crate::multi_read::{Read, ReadAnswer};
 use crate::node::{Mode, Node, Stat};
 use crate::options::{OpenError, SessionOptions};

@@ -7,7 +7,7 @@ use crate::looking::texts_in;
 use crate::numbers::kept;
 use crate::subtree::{buffer, data_stat};
 
-/// What is kept of several paths, as the servers' history has it at one zxid: of [`Client::snapshot`](crate::Client::snapshot) and
+/// What is kept of several paths, as the servers' history has it at one zxid: of [`Machine::snapshot`](crate::Machine::snapshot) and
 /// [`Session::snapshot`](crate::Session::snapshot).
 ///
 /// ```no_run

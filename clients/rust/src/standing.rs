@@ -20,14 +20,14 @@ pub struct Markers<'a> {
 /// A session's node in a directory, and the names that were listed there.
 ///
 /// ```
-/// use dirwolleu::{Client, Contender, Markers, Standing};
+/// use dirwolleu::{Contender, Machine, Markers, Standing};
 /// use std::time::Duration;
 ///
-/// let client = Client::open(Duration::from_secs(10))?;
+/// let machine = Machine::open(Duration::from_secs(10), 1, 42)?;
 /// let names = ["lock-0000000004".into(), "lock-0000000007".into()];
 /// let markers = Markers { own: "lock-", against: &["lock-"] };
 /// let contender = Contender { directory: "/lock", name: "lock-0000000007", names: &names, listed: 9, markers };
-/// assert_eq!(client.standing(&contender)?, Standing::After { rival: "lock-0000000004".into() });
+/// assert_eq!(machine.standing(&contender)?, Standing::After { rival: "lock-0000000004".into() });
 /// # Ok::<(), dirwolleu::Fault>(())
 /// ```
 #[derive(Clone, Copy, Debug, PartialEq, Eq)]
@@ -36,7 +36,7 @@ pub struct Contender<'a> {
     pub directory: &'a str,
     /// The name of its node there.
     pub name: &'a str,
-    /// The names that a [`get_children`](crate::Client::get_children) of the directory has brought, asked after that node was made.
+    /// The names that a [`get_children`](crate::Machine::get_children) of the directory has brought, asked after that node was made.
     pub names: &'a [String],
     /// The zxid of that reply.
     pub listed: i64,
@@ -44,15 +44,15 @@ pub struct Contender<'a> {
     pub markers: Markers<'a>,
 }
 
-/// Whether a session comes first in a directory: of [`Client::standing`](crate::Client::standing).
+/// Whether a session comes first in a directory: of [`Machine::standing`](crate::Machine::standing).
 ///
 /// ```
-/// use dirwolleu::{Client, Contender, Fault, Markers, Standing};
+/// use dirwolleu::{Contender, Fault, Machine, Markers, Standing};
 ///
 /// /// Where a session stands by its node of this name, and the names that were listed at this zxid.
-/// fn tell(client: &Client, name: &str, names: &[String], listed: i64) -> Result<(), Fault> {
+/// fn tell(machine: &Machine, name: &str, names: &[String], listed: i64) -> Result<(), Fault> {
 ///     let markers = Markers { own: "lock-", against: &["lock-"] };
-///     match client.standing(&Contender { directory: "/lock", name, names, listed, markers })? {
+///     match machine.standing(&Contender { directory: "/lock", name, names, listed, markers })? {
 ///         Standing::First { token } => println!("held, with token {token}"),
 ///         Standing::After { rival } => println!("after {rival}, which is to be watched"),
 ///         Standing::Unsure => println!("to be listed again"),

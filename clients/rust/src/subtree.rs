@@ -35,21 +35,21 @@ impl SubtreeNode {
     }
 }
 
-/// All nodes at and below a path, as the servers' history has them at one zxid: of [`Client::subtree`](crate::Client::subtree).
+/// All nodes at and below a path, as the servers' history has them at one zxid: of [`Machine::subtree`](crate::Machine::subtree).
 ///
 /// ```
-/// use dirwolleu::{Client, Fault, Moment, Side, Subtree, Watch};
+/// use dirwolleu::{Fault, Machine, Moment, Side, Subtree, Watch};
 ///
 /// /// The nodes at and below a path, or none where some of them are still asked for.
-/// fn look(client: &mut Client, now: Moment, path: &str) -> Result<Option<Subtree>, Fault> {
-///     for (ticket, read) in (0..).zip(client.lacking(path, 1_000)?) {
-///         let outputs = match read.side {
-///             Side::Data => client.get_data(now, ticket, &read.path, Watch::Yes)?,
-///             _ => client.get_children(now, ticket, &read.path, Watch::Yes)?,
+/// fn look(machine: &mut Machine, now: Moment, path: &str) -> Result<Option<Subtree>, Fault> {
+///     for (ticket, read) in (0..).zip(machine.lacking(path, 1_000)?) {
+///         let actions = match read.side {
+///             Side::Data => machine.get_data(now, ticket, None, &read.path, Watch::Yes)?,
+///             _ => machine.get_children(now, ticket, None, &read.path, Watch::Yes)?,
 ///         };
-///         drop(outputs); // a program does what they say
+///         drop(actions); // a program does what they say
 ///     }
-///     client.subtree(path, 1_000)
+///     machine.subtree(path, 1_000)
 /// }
 /// ```
 #[derive(Clone, Debug, PartialEq, Eq)]
@@ -73,11 +73,11 @@ impl Subtree {
 /// A read, with a watch, that is lacking before there is a subtree.
 ///
 /// ```
-/// use dirwolleu::{Client, Lacking, Side};
+/// use dirwolleu::{Lacking, Machine, Side};
 /// use std::time::Duration;
 ///
-/// let client = Client::open(Duration::from_secs(10))?;
-/// let lacking = client.lacking("/config", 1_000)?; // nothing was read yet
+/// let machine = Machine::open(Duration::from_secs(10), 1, 42)?;
+/// let lacking = machine.lacking("/config", 1_000)?; // nothing was read yet
 /// assert!(lacking.contains(&Lacking { path: "/config".into(), side: Side::Data }));
 /// # Ok::<(), dirwolleu::Fault>(())
 /// ```
@@ -85,7 +85,7 @@ impl Subtree {
 pub struct Lacking {
     /// The path to read.
     pub path: String,
-    /// The data, for [`get_data`](crate::Client::get_data), or the children, for [`get_children`](crate::Client::get_children).
+    /// The data, for [`get_data`](crate::Machine::get_data), or the children, for [`get_children`](crate::Machine::get_children).
     pub side: Side,
 }
 

@@ -3,10 +3,10 @@
 use crate::acl::{Acl, Id};
 use crate::action::{Action, Actions, Refusal};
 use crate::chroot::Chroot;
-use crate::client::State;
 use crate::error::ErrorKind;
 use crate::fault::{Code, Fault, NoReply};
 use crate::looking::Spelled;
+use crate::machine::State;
 use crate::multi_read::ReadAnswer;
 use crate::node::{NodeEvent, Side, Stat};
 use crate::output::{Brought, Cause, GivenUp, Reply};

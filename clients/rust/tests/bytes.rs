@@ -1,10 +1,10 @@
-//! A client that is driven by bytes, as `zookeeper.jute` spells them, and by moments.
+//! A machine with one address: what it says and keeps, to the byte, where it is driven by bytes as `zookeeper.jute` spells them.
 
 mod jute;
 
 use dirwolleu::{
-    Brought, Cause, Children, Client, Code, Contender, DataAnswer, Fault, GivenUp, Kept, Lacking,
-    Mark, Markers, Mode, Moment, NoReply, NodeEvent, Output, Outputs, Reply, SavedSession, Side,
+    Action, Actions, Brought, Cause, Children, Code, Contender, DataAnswer, Fault, GivenUp, Kept,
+    Lacking, Machine, Mark, Markers, Mode, Moment, NoReply, NodeEvent, Reply, SavedSession, Side,
     Standing, State, Subtree, Watch, ANY_VERSION,
 };
 use jute::Record;
@@ -12,15 +12,18 @@ use std::time::Duration;
 
 const TIMEOUT: Duration = Duration::from_secs(9);
 const START: Moment = Moment::from_millis(1_000_000_000);
+
+/// Later than any pause before an address is dialled again.
+const LATER: Moment = Moment::from_millis(1_000_010_000);
 const SESSION: i64 = 0x1234_5678;
 
 /// What was said, with all bytes, as text.
-fn said(mut outputs: Outputs<'_>) -> Vec<String> {
+fn said(mut actions: Actions<'_>) -> Vec<String> {
     let mut lines = Vec::new();
-    while let Some(output) = outputs.next().unwrap() {
-        lines.push(match &output {
-            Output::Send(frame) => format!("Send({:?})", frame.to_vec()),
-            Output::Answer {
+    while let Some(action) = actions.next().unwrap() {
+        lines.push(match &action {
+            Action::Send(frame) => format!("Send({:?})", frame.to_vec()),
+            Action::Answer {
                 outcome:
                     Ok(Reply {
                         result:
@@ -30,19 +33,19 @@ fn said(mut outputs: Outputs<'_>) -> Vec<String> {
                         ..
                     }),
                 ..
-            } => format!("{output:?} {:?}", data.to_vec()),
-            Output::Drop(given_up) => format!("{output:?} {}", given_up.words().unwrap()),
-            _ => format!("{output:?}"),
+            } => format!("{action:?} {:?}", data.to_vec()),
+            Action::Drop(given_up) => format!("{action:?} {}", given_up.words().unwrap()),
+            _ => format!("{action:?}"),
         });
     }
     lines
 }
 
 /// The frames that were said.
-fn frames(mut outputs: Outputs<'_>) -> Vec<Vec<u8>> {
+fn frames(mut actions: Actions<'_>) -> Vec<Vec<u8>> {
     let mut frames = Vec::new();
-    while let Some(output) = outputs.next().unwrap() {
-        if let Output::Send(frame) = output {
+    while let Some(action) = actions.next().unwrap() {
+        if let Action::Send(frame) = action {
             frames.push(frame.to_vec());
         }
     }
@@ -50,9 +53,9 @@ fn frames(mut outputs: Outputs<'_>) -> Vec<Vec<u8>> {
 }
 
 /// The reply to the call of this ticket, which is said next.
-fn reply_to<'a>(ticket: u64, outputs: &'a mut Outputs<'_>) -> Reply<'a> {
-    match outputs.next().unwrap() {
-        Some(Output::Answer {
+fn reply_to<'a>(ticket: u64, actions: &'a mut Actions<'_>) -> Reply<'a> {
+    match actions.next().unwrap() {
+        Some(Action::Answer {
             ticket: answered,
             outcome: Ok(reply),
         }) if answered == ticket => reply,
@@ -61,51 +64,58 @@ fn reply_to<'a>(ticket: u64, outputs: &'a mut Outputs<'_>) -> Reply<'a> {
 }
 
 /// Why the connection is given up, which is said next.
-fn given_up<'a>(outputs: &'a mut Outputs<'_>) -> GivenUp<'a> {
-    match outputs.next().unwrap() {
-        Some(Output::Drop(given_up)) => given_up,
+fn given_up<'a>(actions: &'a mut Actions<'_>) -> GivenUp<'a> {
+    match actions.next().unwrap() {
+        Some(Action::Drop(given_up)) => given_up,
         other => panic!("the connection goes on: {other:?}"),
     }
 }
 
-fn connected() -> Client {
-    let mut client = Client::open(TIMEOUT).unwrap();
-    let _ = client.opened(START).unwrap();
-    let _ = client
-        .bytes(START, &Record::accepted(9_000, SESSION))
-        .unwrap();
-    assert_eq!(client.state(), State::Connected);
-    client
+/// A machine that has asked for its first connection.
+fn dialling() -> Machine {
+    let mut machine = Machine::open(TIMEOUT, 1, 1).unwrap();
+    let _ = machine.tick(START).unwrap();
+    machine
 }
 
-/// A client that has read `/a` with a watch: the bytes `one`, at zxid 5.
-fn watching() -> Client {
-    let mut client = connected();
-    let _ = client.get_data(START, 7, "/a", Watch::Yes).unwrap();
+fn connected() -> Machine {
+    let mut machine = dialling();
+    let _ = machine.opened(START).unwrap();
+    let _ = machine
+        .bytes(START, &Record::accepted(9_000, SESSION))
+        .unwrap();
+    assert_eq!(machine.state(), State::Connected);
+    machine
+}
+
+/// A machine that has read `/a` with a watch: the bytes `one`, at zxid 5.
+fn watching() -> Machine {
+    let mut machine = connected();
+    let _ = machine.get_data(START, 7, None, "/a", Watch::Yes).unwrap();
     let reply = Record::reply(1, 5, 0).buffer(b"one").stat(5, 0, 3, 0);
-    let _ = client.bytes(START, &reply.framed()).unwrap();
-    client
+    let _ = machine.bytes(START, &reply.framed()).unwrap();
+    machine
 }
 
 #[test]
 fn a_connection_begins_with_a_connect_request() {
-    let mut client = Client::open(TIMEOUT).unwrap();
-    assert_eq!(client.state(), State::Idle);
+    let mut machine = dialling();
+    assert_eq!(machine.state(), State::Idle);
     let request = Record::new().int(0).long(0).int(9_000).long(0);
     let request = request.buffer(&[0; 16]).boolean(false).framed();
-    assert_eq!(frames(client.opened(START).unwrap()), [request]);
-    assert_eq!(client.state(), State::Connecting);
+    assert_eq!(frames(machine.opened(START).unwrap()), [request]);
+    assert_eq!(machine.state(), State::Connecting);
     let silent_at = START.saturating_add(TIMEOUT / 3 * 2);
-    assert_eq!(client.deadline(), Some(silent_at));
-    let mut outputs = client
+    assert_eq!(machine.deadline(), Some(silent_at));
+    let mut actions = machine
         .bytes(START, &Record::accepted(6_000, SESSION))
         .unwrap();
     assert!(matches!(
-        outputs.next().unwrap(),
-        Some(Output::State(State::Connected))
+        actions.next().unwrap(),
+        Some(Action::State(State::Connected))
     ));
-    assert!(outputs.next().unwrap().is_none());
-    assert_eq!(outputs.client().timeout(), Duration::from_secs(6));
+    assert!(actions.next().unwrap().is_none());
+    assert_eq!(actions.machine().timeout(), Duration::from_secs(6));
 }
 
 /// The frame of a request: its header, the path, and what follows.
@@ -115,39 +125,43 @@ fn request(xid: i32, kind: i32, path: &str) -> Record {
 
 #[test]
 fn each_call_is_spelled() {
-    let mut client = connected();
+    let mut machine = connected();
     let exists = request(1, jute::EXISTS, "/a").boolean(false);
-    let outputs = client.exists(START, 1, "/a", Watch::No).unwrap();
-    assert_eq!(frames(outputs), [exists.framed()]);
+    let actions = machine.exists(START, 1, None, "/a", Watch::No).unwrap();
+    assert_eq!(frames(actions), [exists.framed()]);
     let get = request(2, jute::GET_DATA, "/a").boolean(true);
-    let outputs = client.get_data(START, 1, "/a", Watch::Yes).unwrap();
-    assert_eq!(frames(outputs), [get.framed()]);
+    let actions = machine.get_data(START, 1, None, "/a", Watch::Yes).unwrap();
+    assert_eq!(frames(actions), [get.framed()]);
     let children = request(3, jute::GET_CHILDREN_2, "/a").boolean(true);
-    let outputs = client.get_children(START, 1, "/a", Watch::Yes).unwrap();
-    assert_eq!(frames(outputs), [children.framed()]);
+    let actions = machine
+        .get_children(START, 1, None, "/a", Watch::Yes)
+        .unwrap();
+    assert_eq!(frames(actions), [children.framed()]);
     let set = request(4, jute::SET_DATA, "/a").int(-1).int(3);
-    let outputs = client.set_data(START, 1, "/a", None, 3).unwrap();
-    assert_eq!(frames(outputs), [set.framed()]);
+    let actions = machine.set_data(START, 1, None, "/a", None, 3).unwrap();
+    assert_eq!(frames(actions), [set.framed()]);
     let create = request(5, jute::CREATE, "/a/b").buffer(b"x").int(1);
     let create = create.int(31).text("world").text("anyone").int(3);
     let mode = Mode::EphemeralSequential;
-    let outputs = client.create(START, 1, "/a/b", Some(b"x"), mode).unwrap();
-    assert_eq!(frames(outputs), [create.framed()]);
+    let actions = machine
+        .create(START, 1, None, "/a/b", Some(b"x"), mode)
+        .unwrap();
+    assert_eq!(frames(actions), [create.framed()]);
     let delete = request(6, jute::DELETE, "/a").int(ANY_VERSION);
-    let outputs = client.delete(START, 1, "/a", ANY_VERSION).unwrap();
-    assert_eq!(frames(outputs), [delete.framed()]);
+    let actions = machine.delete(START, 1, None, "/a", ANY_VERSION).unwrap();
+    assert_eq!(frames(actions), [delete.framed()]);
     let close = Record::new().int(7).int(jute::CLOSE_SESSION);
-    let outputs = client.close_session(START, 1).unwrap();
-    assert_eq!(frames(outputs), [close.framed()]);
+    let actions = machine.close_session(START, 1, None).unwrap();
+    assert_eq!(frames(actions), [close.framed()]);
 }
 
 #[test]
 fn a_reply_is_read() {
-    let mut client = connected();
-    let _ = client.get_data(START, 7, "/a", Watch::Yes).unwrap();
+    let mut machine = connected();
+    let _ = machine.get_data(START, 7, None, "/a", Watch::Yes).unwrap();
     let reply = Record::reply(1, 5, 0).buffer(b"one").stat(5, 2, 3, 0);
-    let mut outputs = client.bytes(START, &reply.framed()).unwrap();
-    let reply = reply_to(7, &mut outputs);
+    let mut actions = machine.bytes(START, &reply.framed()).unwrap();
+    let reply = reply_to(7, &mut actions);
     assert_eq!(reply.zxid, 5);
     let Ok(Brought::Data {
         data: Some(data),
@@ -168,28 +182,28 @@ fn a_reply_is_read() {
 
 #[test]
 fn each_field_of_a_stat_has_its_place() {
-    let mut client = connected();
-    let _ = client.get_data(START, 1, "/a", Watch::Yes).unwrap();
+    let mut machine = connected();
+    let _ = machine.get_data(START, 1, None, "/a", Watch::Yes).unwrap();
     let longs = Record::reply(1, 90, 0).buffer(b"x");
     let longs = longs.long(11).long(12).long(13).long(14);
     let ints = longs.int(15).int(16).int(17).long(18).int(19).int(20);
-    let _ = client.bytes(START, &ints.long(21).framed()).unwrap();
+    let _ = machine.bytes(START, &ints.long(21).framed()).unwrap();
     let Some(Kept {
         answer: DataAnswer::Full { stat, .. },
         ..
-    }) = client.peek_data("/a").unwrap()
+    }) = machine.peek_data("/a").unwrap()
     else {
         panic!("nothing is kept");
     };
     let zxids = (stat.czxid, stat.mzxid, stat.ephemeral_owner);
     assert_eq!((zxids, stat.ctime, stat.mtime), ((11, 12, 18), 13, 14));
     assert_eq!((stat.version, stat.data_length), (15, 19));
-    let _ = client.exists(START, 2, "/a", Watch::No).unwrap();
+    let _ = machine.exists(START, 2, None, "/a", Watch::No).unwrap();
     let longs = Record::reply(2, 90, 0).long(11).long(12).long(13).long(14);
     let ints = longs.int(15).int(16).int(17).long(18).int(19).int(20);
     let bytes = ints.long(21).framed();
-    let mut outputs = client.bytes(START, &bytes).unwrap();
-    let Ok(Brought::Stat(stat)) = reply_to(2, &mut outputs).result else {
+    let mut actions = machine.bytes(START, &bytes).unwrap();
+    let Ok(Brought::Stat(stat)) = reply_to(2, &mut actions).result else {
         panic!("no stat");
     };
     let zxids = (stat.czxid, stat.mzxid, stat.ephemeral_owner, stat.pzxid);
@@ -200,16 +214,16 @@ fn each_field_of_a_stat_has_its_place() {
 
 #[test]
 fn null_data_are_no_empty_data() {
-    let mut client = connected();
-    let _ = client.get_data(START, 1, "/a", Watch::Yes).unwrap();
+    let mut machine = connected();
+    let _ = machine.get_data(START, 1, None, "/a", Watch::Yes).unwrap();
     let reply = Record::reply(1, 5, 0).int(-1).stat(5, 0, 0, 0);
-    let mut outputs = client.bytes(START, &reply.framed()).unwrap();
-    let reply = reply_to(1, &mut outputs);
+    let mut actions = machine.bytes(START, &reply.framed()).unwrap();
+    let reply = reply_to(1, &mut actions);
     assert!(matches!(reply.result, Ok(Brought::Data { data: None, .. })));
     let Some(Kept {
         answer: DataAnswer::Full { data, .. },
         ..
-    }) = client.peek_data("/a").unwrap()
+    }) = machine.peek_data("/a").unwrap()
     else {
         panic!("nothing is kept");
     };
@@ -235,18 +249,22 @@ fn stream() -> Vec<u8> {
 
 /// All that is said where the stream comes in pieces of this length.
 fn pieces(length: usize) -> Vec<String> {
-    let mut client = connected();
-    let _ = client.get_data(START, 1, "/a", Watch::Yes).unwrap();
-    let _ = client.get_children(START, 2, "/a", Watch::Yes).unwrap();
-    let _ = client.exists(START, 3, "/none", Watch::Yes).unwrap();
+    let mut machine = connected();
+    let _ = machine.get_data(START, 1, None, "/a", Watch::Yes).unwrap();
+    let _ = machine
+        .get_children(START, 2, None, "/a", Watch::Yes)
+        .unwrap();
+    let _ = machine.exists(START, 3, None, "/none", Watch::Yes).unwrap();
     let mode = Mode::PersistentSequential;
-    let _ = client.create(START, 4, "/s", Some(b"x"), mode).unwrap();
-    let _ = client.delete(START, 5, "/d", ANY_VERSION).unwrap();
+    let _ = machine
+        .create(START, 4, None, "/s", Some(b"x"), mode)
+        .unwrap();
+    let _ = machine.delete(START, 5, None, "/d", ANY_VERSION).unwrap();
     let mut lines = Vec::new();
     for piece in stream().chunks(length) {
-        lines.extend(said(client.bytes(START, piece).unwrap()));
+        lines.extend(said(machine.bytes(START, piece).unwrap()));
     }
-    assert_eq!(client.last_zxid(), 7);
+    assert_eq!(machine.last_zxid(), 7);
     lines
 }
 
@@ -264,17 +282,17 @@ fn how_a_stream_is_cut_does_not_matter() {
 
 #[test]
 fn a_watch_is_reported_once_and_its_answer_is_stale() {
-    let mut client = watching();
-    assert_eq!(client.data_mark("/a").unwrap(), Some(Mark::Good));
+    let mut machine = watching();
+    assert_eq!(machine.data_mark("/a").unwrap(), Some(Mark::Good));
     let notice = Record::notice(3, "/a");
-    let mut outputs = client.bytes(START, &notice).unwrap();
-    let Some(Output::Report { path, side, event }) = outputs.next().unwrap() else {
+    let mut actions = machine.bytes(START, &notice).unwrap();
+    let Some(Action::Report { path, side, event }) = actions.next().unwrap() else {
         panic!("no report");
     };
     assert_eq!((String::from(path).as_str(), side), ("/a", Side::Data));
     assert_eq!(event, NodeEvent::DataChanged);
-    assert!(outputs.next().unwrap().is_none());
-    let kept = client.peek_data("/a").unwrap().unwrap();
+    assert!(actions.next().unwrap().is_none());
+    let kept = machine.peek_data("/a").unwrap().unwrap();
     assert_eq!(kept.mark, Mark::Stale);
     let DataAnswer::Full {
         data: Some(data),
@@ -284,58 +302,66 @@ fn a_watch_is_reported_once_and_its_answer_is_stale() {
         panic!("no data");
     };
     assert_eq!((data.as_slice(), stat.mzxid), (b"one".as_slice(), 5));
-    assert!(said(client.bytes(START, &notice).unwrap()).is_empty());
-    client.forget_stale();
-    assert_eq!(client.peek_data("/a").unwrap(), None);
+    assert!(said(machine.bytes(START, &notice).unwrap()).is_empty());
+    machine.forget_stale();
+    assert_eq!(machine.peek_data("/a").unwrap(), None);
 }
 
 #[test]
 fn names_of_each_length_are_kept_in_byte_order() {
-    let mut client = connected();
+    let mut machine = connected();
     let long = "n".repeat(1_000);
-    let _ = client.get_children(START, 1, "/a", Watch::Yes).unwrap();
+    let _ = machine
+        .get_children(START, 1, None, "/a", Watch::Yes)
+        .unwrap();
     let reply = Record::reply(1, 5, 0)
         .texts(&["z", &long, "", "b"])
         .stat(5, 0, 0, 3);
-    let mut outputs = client.bytes(START, &reply.framed()).unwrap();
-    let reply = reply_to(1, &mut outputs);
+    let mut actions = machine.bytes(START, &reply.framed()).unwrap();
+    let reply = reply_to(1, &mut actions);
     let Ok(Brought::Names { names, .. }) = reply.result else {
         panic!("no names");
     };
     assert_eq!(names.iter().collect::<Vec<_>>(), ["z", &long, "", "b"]);
     assert_eq!(names.to_vec().unwrap(), ["z", &long, "", "b"]);
-    let kept = client.peek_children("/a").unwrap().unwrap();
+    let kept = machine.peek_children("/a").unwrap().unwrap();
     assert_eq!(kept.answer.names, ["", "b", &long, "z"]);
     assert_eq!((kept.answer.pzxid, kept.mark), (5, Mark::Good));
-    assert_eq!(client.children_mark("/a").unwrap(), Some(Mark::Good));
-    assert_eq!(client.peek_children("/b").unwrap(), None);
+    assert_eq!(machine.children_mark("/a").unwrap(), Some(Mark::Good));
+    assert_eq!(machine.peek_children("/b").unwrap(), None);
 }
 
 #[test]
 fn a_subtree_is_told_once_nothing_is_lacking() {
-    let mut client = connected();
+    let mut machine = connected();
     let read = |path: &str, side| Lacking {
         path: String::from(path),
         side,
     };
     let both = |path| vec![read(path, Side::Data), read(path, Side::Children)];
-    assert_eq!(client.lacking("/a", 9).unwrap(), both("/a"));
-    assert_eq!(client.subtree("/a", 9).unwrap(), None);
-    let _ = client.get_data(START, 1, "/a", Watch::Yes).unwrap();
-    let _ = client.get_children(START, 2, "/a", Watch::Yes).unwrap();
+    assert_eq!(machine.lacking("/a", 9).unwrap(), both("/a"));
+    assert_eq!(machine.subtree("/a", 9).unwrap(), None);
+    let _ = machine.get_data(START, 1, None, "/a", Watch::Yes).unwrap();
+    let _ = machine
+        .get_children(START, 2, None, "/a", Watch::Yes)
+        .unwrap();
     let data = Record::reply(1, 5, 0).buffer(b"one").stat(5, 2, 3, 1);
     let names = Record::reply(2, 5, 0).texts(&["b"]).stat(5, 2, 3, 1);
     let came = [data.framed(), names.framed()].concat();
-    let _ = client.bytes(START, &came).unwrap();
-    assert_eq!(client.lacking("/a", 9).unwrap(), both("/a/b"));
-    let _ = client.get_data(START, 3, "/a/b", Watch::Yes).unwrap();
-    let _ = client.get_children(START, 4, "/a/b", Watch::Yes).unwrap();
+    let _ = machine.bytes(START, &came).unwrap();
+    assert_eq!(machine.lacking("/a", 9).unwrap(), both("/a/b"));
+    let _ = machine
+        .get_data(START, 3, None, "/a/b", Watch::Yes)
+        .unwrap();
+    let _ = machine
+        .get_children(START, 4, None, "/a/b", Watch::Yes)
+        .unwrap();
     let data = Record::reply(3, 6, 0).int(-1).stat(6, 0, 0, 0);
     let names = Record::reply(4, 6, 0).texts(&[]).stat(6, 0, 0, 0);
     let came = [data.framed(), names.framed()].concat();
-    let _ = client.bytes(START, &came).unwrap();
-    assert_eq!(client.lacking("/a", 9).unwrap(), []);
-    let Subtree { zxid, nodes } = client.subtree("/a", 2).unwrap().unwrap();
+    let _ = machine.bytes(START, &came).unwrap();
+    assert_eq!(machine.lacking("/a", 9).unwrap(), []);
+    let Subtree { zxid, nodes } = machine.subtree("/a", 2).unwrap().unwrap();
     let [root, leaf] = nodes.as_slice() else {
         panic!("{nodes:?}");
     };
@@ -346,24 +372,31 @@ fn a_subtree_is_told_once_nothing_is_lacking() {
     assert_eq!((stat.czxid, stat.ctime, stat.mtime), (5, 1_000, 2_000));
     assert_eq!((stat.ephemeral_owner, of_leaf.mzxid), (0, 6));
     assert_eq!(leaf.path, "/a/b");
-    assert_eq!(client.subtree("/a", 1), Err(Fault::TooManyNodes));
-    assert!(matches!(client.lacking("a", 1), Err(Fault::NotPath { .. })));
+    assert_eq!(machine.subtree("/a", 1), Err(Fault::TooManyNodes));
+    assert!(matches!(
+        machine.lacking("a", 1),
+        Err(Fault::NotPath { .. })
+    ));
 }
 
 #[test]
 fn a_snapshot_is_of_several_paths_that_are_all_good() {
-    let mut client = watching();
-    assert_eq!(client.snapshot(&["/a"], &["/a"]), Ok(None));
-    let _ = client.exists(START, 8, "/known", Watch::Yes).unwrap();
-    let _ = client.exists(START, 9, "/none", Watch::Yes).unwrap();
-    let _ = client.get_children(START, 10, "/a", Watch::Yes).unwrap();
+    let mut machine = watching();
+    assert_eq!(machine.snapshot(&["/a"], &["/a"]), Ok(None));
+    let _ = machine
+        .exists(START, 8, None, "/known", Watch::Yes)
+        .unwrap();
+    let _ = machine.exists(START, 9, None, "/none", Watch::Yes).unwrap();
+    let _ = machine
+        .get_children(START, 10, None, "/a", Watch::Yes)
+        .unwrap();
     let known = Record::reply(2, 6, 0).stat(4, 1, 2, 0).framed();
     let none = Record::reply(3, 6, -101).framed();
     let names = Record::reply(4, 6, 0).texts(&["c", "b"]).stat(5, 0, 3, 2);
     let came = [known, none, names.framed()].concat();
-    let _ = client.bytes(START, &came).unwrap();
+    let _ = machine.bytes(START, &came).unwrap();
     let paths = ["/none", "/a", "/known"];
-    let found = client.snapshot(&paths, &["/a"]).unwrap().unwrap();
+    let found = machine.snapshot(&paths, &["/a"]).unwrap().unwrap();
     let [DataAnswer::Absent, DataAnswer::Full { data, stat }, DataAnswer::Known(known)] =
         found.nodes.as_slice()
     else {
@@ -374,54 +407,56 @@ fn a_snapshot_is_of_several_paths_that_are_all_good() {
     assert_eq!((known.mtime, known.data_length), (2_000, 2));
     let names = ["b", "c"].map(String::from).to_vec();
     assert_eq!(found.children, [Children { names, pzxid: 5 }]);
-    let empty = client.snapshot(&[], &[]).unwrap().unwrap();
+    let empty = machine.snapshot(&[], &[]).unwrap().unwrap();
     assert_eq!(
         (empty.zxid, empty.nodes.len(), empty.children.len()),
         (6, 0, 0)
     );
-    let not_path = client.snapshot(&["/a", "b"], &["/a"]).unwrap_err();
+    let not_path = machine.snapshot(&["/a", "b"], &["/a"]).unwrap_err();
     assert_eq!(
         not_path.to_string(),
         "b is no path: no slash at its beginning"
     );
-    let _ = client.bytes(START, &Record::notice(3, "/a")).unwrap();
-    assert_eq!(client.snapshot(&paths, &["/a"]), Ok(None));
-    assert!(client.snapshot(&["/none"], &["/a"]).unwrap().is_some());
+    let _ = machine.bytes(START, &Record::notice(3, "/a")).unwrap();
+    assert_eq!(machine.snapshot(&paths, &["/a"]), Ok(None));
+    assert!(machine.snapshot(&["/none"], &["/a"]).unwrap().is_some());
 }
 
 #[test]
 fn who_holds_by_the_first_name_of_a_prefix_has_a_token() {
-    let mut client = connected();
+    let mut machine = connected();
     let own = "/l/lock-0000000007";
-    let _ = client.get_data(START, 1, own, Watch::Yes).unwrap();
+    let _ = machine.get_data(START, 1, None, own, Watch::Yes).unwrap();
     let longs = Record::reply(1, 90, 0).buffer(b"").long(88).long(89);
     let owned = longs.long(0).long(0).int(1).int(0).int(0).long(SESSION);
     let data = owned.int(0).int(0).long(88).framed();
-    let _ = client.bytes(START, &data).unwrap();
-    assert_eq!(client.holder("/l", "lock-", own), Ok(None));
-    let _ = client.get_children(START, 2, "/l", Watch::Yes).unwrap();
+    let _ = machine.bytes(START, &data).unwrap();
+    assert_eq!(machine.holder("/l", "lock-", own), Ok(None));
+    let _ = machine
+        .get_children(START, 2, None, "/l", Watch::Yes)
+        .unwrap();
     let names = ["lock-0000000007", "lock-0000000008", "a"];
     let reply = Record::reply(2, 90, 0).texts(&names).stat(80, 0, 0, 3);
-    let _ = client.bytes(START, &reply.framed()).unwrap();
-    assert_eq!(client.holder("/l", "lock-", own), Ok(Some(88)));
-    assert_eq!(client.holder("/l", "", own), Ok(None));
-    assert_eq!(client.holder("/", "lock-", own), Ok(None));
+    let _ = machine.bytes(START, &reply.framed()).unwrap();
+    assert_eq!(machine.holder("/l", "lock-", own), Ok(Some(88)));
+    assert_eq!(machine.holder("/l", "", own), Ok(None));
+    assert_eq!(machine.holder("/", "lock-", own), Ok(None));
     for (directory, path, none) in [("l", own, "l"), ("/l", "lock-", "lock-")] {
-        let fault = client.holder(directory, "lock-", path).unwrap_err();
+        let fault = machine.holder(directory, "lock-", path).unwrap_err();
         assert!(matches!(fault, Fault::NotPath { path, .. } if path == none));
     }
 }
 
 #[test]
 fn who_stands_first_has_a_token_and_others_wait() {
-    let mut client = connected();
-    let _ = client
-        .get_data(START, 1, "/l/x-lock-0000000007", Watch::Yes)
+    let mut machine = connected();
+    let _ = machine
+        .get_data(START, 1, None, "/l/x-lock-0000000007", Watch::Yes)
         .unwrap();
     let longs = Record::reply(1, 90, 0).buffer(b"").long(88).long(88);
     let owned = longs.long(0).long(0).int(0).int(0).int(0).long(SESSION);
     let data = owned.int(0).int(0).long(88).framed();
-    let _ = client.bytes(START, &data).unwrap();
+    let _ = machine.bytes(START, &data).unwrap();
     let names = ["a-lock-0000000008", "x-lock-0000000007", "y-0000000001"].map(String::from);
     let mut contender = Contender {
         directory: "/l",
@@ -434,121 +469,118 @@ fn who_stands_first_has_a_token_and_others_wait() {
         },
     };
     let first = Standing::First { token: 88 };
-    assert_eq!(client.standing(&contender), Ok(first));
+    assert_eq!(machine.standing(&contender), Ok(first));
     contender.listed = 87;
-    assert_eq!(client.standing(&contender), Ok(Standing::Unsure));
+    assert_eq!(machine.standing(&contender), Ok(Standing::Unsure));
     contender.name = "a-lock-0000000008";
     let rival = String::from("x-lock-0000000007");
-    assert_eq!(client.standing(&contender), Ok(Standing::After { rival }));
+    assert_eq!(machine.standing(&contender), Ok(Standing::After { rival }));
     contender.name = "a/b";
     assert!(matches!(
-        client.standing(&contender),
+        machine.standing(&contender),
         Err(Fault::NotPath { .. })
     ));
 }
 
 #[test]
 fn pings_and_silence_are_due_at_a_third_and_two_thirds() {
-    let mut client = connected();
+    let mut machine = connected();
     let ping_at = START.saturating_add(TIMEOUT / 3);
-    assert_eq!(client.deadline(), Some(ping_at));
+    assert_eq!(machine.deadline(), Some(ping_at));
     let ping = Record::new().int(jute::PONG).int(jute::PING).framed();
-    assert_eq!(frames(client.tick(ping_at).unwrap()), [ping]);
+    assert_eq!(frames(machine.tick(ping_at).unwrap()), [ping]);
     let silent_at = START.saturating_add(TIMEOUT / 3 * 2);
-    assert_eq!(client.deadline(), Some(silent_at));
-    let mut outputs = client.tick(silent_at).unwrap();
-    let given_up = given_up(&mut outputs);
+    assert_eq!(machine.deadline(), Some(silent_at));
+    let mut actions = machine.tick(silent_at).unwrap();
+    let given_up = given_up(&mut actions);
     assert_eq!(given_up.cause, Cause::Silence);
     assert_eq!(String::from(given_up.code), "D1");
     assert!(!given_up.words().unwrap().is_empty());
     assert!(matches!(
-        outputs.next().unwrap(),
-        Some(Output::State(State::Idle))
+        actions.next().unwrap(),
+        Some(Action::State(State::Idle))
     ));
-    assert_eq!(client.deadline(), None);
+    assert!(matches!(actions.next().unwrap(), Some(Action::HangUp)));
 }
 
 #[test]
 fn a_cut_answers_what_waits_and_watches_are_set_again() {
-    let mut client = watching();
-    let _ = client.exists(START, 8, "/b", Watch::No).unwrap();
-    let mut outputs = client.cut(START).unwrap();
-    let Some(Output::Answer { ticket: 8, outcome }) = outputs.next().unwrap() else {
+    let mut machine = watching();
+    let _ = machine.delete(START, 8, None, "/b", 0).unwrap();
+    let mut actions = machine.cut(START).unwrap();
+    let Some(Action::Answer { ticket: 8, outcome }) = actions.next().unwrap() else {
         panic!("no answer");
     };
     assert_eq!(outcome.unwrap_err(), NoReply::ConnectionLoss);
     assert!(matches!(
-        outputs.next().unwrap(),
-        Some(Output::State(State::Idle))
+        actions.next().unwrap(),
+        Some(Action::State(State::Idle))
     ));
-    let _ = client.opened(START).unwrap();
-    let outputs = client
-        .bytes(START, &Record::accepted(9_000, SESSION))
+    let _ = machine.tick(LATER).unwrap();
+    let _ = machine.opened(LATER).unwrap();
+    let actions = machine
+        .bytes(LATER, &Record::accepted(9_000, SESSION))
         .unwrap();
     let set = Record::new()
         .int(jute::WATCHES_SET)
         .int(jute::SET_WATCHES)
         .long(5);
     let set = set.texts(&["/a"]).texts(&[]).texts(&[]).framed();
-    assert_eq!(frames(outputs), [set]);
-    assert_eq!(client.data_mark("/a").unwrap(), Some(Mark::Good));
+    assert_eq!(frames(actions), [set]);
+    assert_eq!(machine.data_mark("/a").unwrap(), Some(Mark::Good));
 }
 
 #[test]
 fn a_frame_out_of_range_ends_the_connection() {
-    let mut client = connected();
-    let mut outputs = client.bytes(START, &[0xFF; 4]).unwrap();
-    let Some(output) = outputs.next().unwrap() else {
-        panic!("the connection goes on");
-    };
-    assert!(output.ends_connection());
-    let Output::Drop(given_up) = output else {
-        panic!("{output:?}");
-    };
+    let mut machine = connected();
+    let mut actions = machine.bytes(START, &[0xFF; 4]).unwrap();
+    let given_up = given_up(&mut actions);
     assert_eq!(given_up.cause, Cause::Frame);
     assert_eq!(given_up.code.to_string(), "F1");
 }
 
 #[test]
 fn a_reply_that_is_behind_ends_the_connection() {
-    let mut client = watching();
-    let _ = client.exists(START, 8, "/b", Watch::Yes).unwrap();
+    let mut machine = watching();
+    let _ = machine.exists(START, 8, None, "/b", Watch::Yes).unwrap();
     let reply = Record::reply(2, 4, 0).stat(4, 0, 0, 0).framed();
-    let mut outputs = client.bytes(START, &reply).unwrap();
-    let given_up = given_up(&mut outputs);
+    let mut actions = machine.bytes(START, &reply).unwrap();
+    let given_up = given_up(&mut actions);
     assert_eq!(given_up.cause, Cause::Behind { zxid: 4 });
 }
 
 #[test]
 fn watches_that_are_refused_end_the_connection() {
-    let mut client = watching();
-    let _ = client.cut(START).unwrap();
-    let _ = client.opened(START).unwrap();
+    let mut machine = watching();
+    let _ = machine.cut(START).unwrap();
+    let _ = machine.tick(LATER).unwrap();
+    let _ = machine.opened(LATER).unwrap();
     let accepted = Record::accepted(9_000, SESSION);
-    let _ = client.bytes(START, &accepted).unwrap();
+    let _ = machine.bytes(LATER, &accepted).unwrap();
     let refused = Record::reply(jute::WATCHES_SET, 5, -6).framed();
-    let mut outputs = client.bytes(START, &refused).unwrap();
-    let given_up = given_up(&mut outputs);
+    let mut actions = machine.bytes(LATER, &refused).unwrap();
+    let given_up = given_up(&mut actions);
     assert_eq!(given_up.cause, Cause::WatchesRefused { code: Code(-6) });
 }
 
 #[test]
-fn an_expired_session_keeps_nothing() {
-    let mut client = watching();
-    let _ = client.cut(START).unwrap();
-    let _ = client.opened(START).unwrap();
+fn an_expired_session_keeps_nothing_but_its_zxid() {
+    let mut machine = watching();
+    let _ = machine.cut(START).unwrap();
+    let _ = machine.tick(LATER).unwrap();
+    let _ = machine.opened(LATER).unwrap();
+    let _ = machine.delete(LATER, 9, None, "/a", 0).unwrap();
     let refused = Record::new().int(0).int(0).long(0).buffer(&[0; 16]);
-    let mut outputs = client.bytes(START, &refused.framed()).unwrap();
-    let Some(output) = outputs.next().unwrap() else {
-        panic!("no state");
-    };
-    assert!(matches!(output, Output::State(State::Expired)) && output.ends_connection());
-    assert_eq!(client.peek_data("/a").unwrap(), None);
-    let mut outputs = client.delete(START, 9, "/a", 0).unwrap();
-    let Some(Output::Answer { ticket: 9, outcome }) = outputs.next().unwrap() else {
-        panic!("no answer");
-    };
-    assert_eq!(outcome.unwrap_err(), NoReply::SessionExpired);
+    let lines = said(machine.bytes(LATER, &refused.framed()).unwrap());
+    let wanted = [
+        "State(Expired)",
+        "HangUp",
+        "Answer { ticket: 9, outcome: Err(SessionExpired) }",
+        "Renewed",
+    ];
+    assert_eq!(lines[..4], wanted);
+    assert_eq!(machine.peek_data("/a").unwrap(), None);
+    assert_eq!(machine.last_zxid(), 5);
 }
 
 #[test]
@@ -560,83 +592,71 @@ fn a_session_is_saved_and_resumed() {
         "a password is printed"
     );
     let saved = SavedSession::from_bytes(saved.as_bytes().to_vec());
-    let mut client = Client::resume(TIMEOUT, &saved).unwrap();
+    let mut machine = Machine::resume(TIMEOUT, 1, 1, &saved).unwrap();
+    let _ = machine.tick(START).unwrap();
     let password: Vec<u8> = (0..16).collect();
     let request = Record::new().int(0).long(5).int(9_000).long(SESSION);
     let request = request.buffer(&password).boolean(false).framed();
-    assert_eq!(frames(client.opened(START).unwrap()), [request]);
-}
-
-#[test]
-fn a_renewed_client_asks_for_a_new_session_from_its_zxid_on() {
-    let mut client = watching();
-    client.renew(TIMEOUT).unwrap();
-    assert_eq!(client.last_zxid(), 5);
-    assert_eq!(client.data_mark("/a"), Ok(None));
-    let request = Record::new().int(0).long(5).int(9_000).long(0);
-    let request = request.buffer(&[0; 16]).boolean(false).framed();
-    assert_eq!(frames(client.opened(START).unwrap()), [request]);
+    assert_eq!(frames(machine.opened(START).unwrap()), [request]);
 }
 
 #[test]
 fn the_revision_rises_where_something_may_have_changed() {
-    assert_eq!(Client::open(TIMEOUT).unwrap().revision(), 1);
-    let mut client = watching();
-    assert_eq!(client.revision(), 1 + 3, "connecting, connected, a reply");
-    let _ = client.get_data(START, 8, "/b", Watch::Yes).unwrap();
-    let _ = client.tick(START).unwrap();
-    assert_eq!(client.revision(), 1 + 3);
-    let _ = client.bytes(START, &Record::notice(3, "/a")).unwrap();
-    assert_eq!(client.revision(), 1 + 4, "a report");
-    let _ = client.bytes(START, &Record::notice(3, "/a")).unwrap();
-    assert_eq!(client.revision(), 1 + 4, "nobody watches it");
-    client.renew(TIMEOUT).unwrap();
-    assert_eq!(client.revision(), 1 + 5);
+    assert_eq!(Machine::open(TIMEOUT, 1, 1).unwrap().revision(), 1);
+    let mut machine = watching();
+    assert_eq!(machine.revision(), 1 + 3, "connecting, and bytes twice");
+    let _ = machine.get_data(START, 8, None, "/b", Watch::Yes).unwrap();
+    let _ = machine.tick(START).unwrap();
+    assert_eq!(machine.revision(), 1 + 3);
+    let _ = machine.bytes(START, &Record::notice(3, "/a")).unwrap();
+    assert_eq!(machine.revision(), 1 + 4, "bytes");
+    let _ = machine.cut(START).unwrap();
+    assert_eq!(machine.revision(), 1 + 5, "idle");
 }
 
 #[test]
 fn what_is_no_timeout_or_session_is_refused() {
     let too_long = Duration::from_millis(1 << 31);
     for timeout in [Duration::ZERO, Duration::from_micros(999), too_long] {
-        assert_eq!(Client::open(timeout).unwrap_err(), Fault::BadTimeout);
+        assert_eq!(Machine::open(timeout, 1, 1).unwrap_err(), Fault::BadTimeout);
     }
     let short = SavedSession::from_bytes(vec![0; 19]);
-    let resumed = Client::resume(TIMEOUT, &short);
+    let resumed = Machine::resume(TIMEOUT, 1, 1, &short);
     assert_eq!(resumed.unwrap_err(), Fault::NotSaved);
 }
 
 #[test]
 fn what_is_no_path_is_refused() {
-    let mut client = connected();
+    let mut machine = connected();
     for path in ["", "a", "/a/", "//", "/a/../b", "/a\0"] {
-        let asked = client.get_data(START, 1, path, Watch::No).map(said);
+        let asked = machine.get_data(START, 1, None, path, Watch::No).map(said);
         let fault = asked.unwrap_err();
         assert!(
             matches!(fault, Fault::NotPath { .. }),
             "{path:?}: {fault:?}"
         );
-        assert_eq!(client.peek_data(path), Err(fault), "{path:?}");
+        assert_eq!(machine.peek_data(path), Err(fault), "{path:?}");
     }
-    assert_eq!(client.state(), State::Connected);
+    assert_eq!(machine.state(), State::Connected);
 }
 
 #[test]
 fn outputs_that_were_not_taken_are_forgotten() {
-    let mut client = connected();
-    let _ = client.exists(START, 1, "/a", Watch::No).unwrap();
-    assert!(said(client.tick(START).unwrap()).is_empty());
-    assert!(said(client.tick(START).unwrap()).is_empty());
+    let mut machine = connected();
+    let _ = machine.exists(START, 1, None, "/a", Watch::No).unwrap();
+    assert!(said(machine.tick(START).unwrap()).is_empty());
+    assert!(said(machine.tick(START).unwrap()).is_empty());
 }
 
 #[test]
-fn a_client_moves_between_places_and_threads() {
+fn a_machine_moves_between_places_and_threads() {
     fn is_send<T: Send>() {}
-    is_send::<Client>();
-    is_send::<Outputs<'_>>();
+    is_send::<Machine>();
+    is_send::<Actions<'_>>();
     is_send::<dirwolleu::Session>();
-    let mut clients = vec![watching()];
-    clients.extend([watching(), connected()]);
-    let mut first = Box::new(clients.remove(0));
+    let mut machines = vec![watching()];
+    machines.extend([watching(), connected()]);
+    let mut first = Box::new(machines.remove(0));
     let thread = std::thread::spawn(move || {
         let lines = said(first.bytes(START, &Record::notice(2, "/a")).unwrap());
         (first, lines)
@@ -644,5 +664,5 @@ fn a_client_moves_between_places_and_threads() {
     let (first, lines) = thread.join().unwrap();
     assert_eq!(lines.len(), 1);
     assert_eq!(first.data_mark("/a").unwrap(), Some(Mark::Stale));
-    assert_eq!(clients[0].data_mark("/a").unwrap(), Some(Mark::Good));
+    assert_eq!(machines[0].data_mark("/a").unwrap(), Some(Mark::Good));
 }

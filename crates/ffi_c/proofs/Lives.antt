@@ -1,218 +1,151 @@
--- The whole life of a handle, use by use: each leaves a client that stands where its uses have led, so by induction on the uses what holds
--- of every client holds of it.
-use Rattle.std.proofs.Common.{◌≡◌, ℕ, zero, suc, ℤ, pos, negsuc, List, [], ◌∷◌, Option, Some, None, inl, inr, refl, sym, ap, subst, ◌∙◌}
-use Rattle.std.specs.Prelude.{Result, Ok, Err, IfSome, unsigned_abs}
-use Rattle.zk_turns.specs.Turns.{Input, Now, Item, Turn, Turned, Halts, Output, Start, new_start}
-use Rattle.zk_turns.specs.Turns as turns
+-- The whole life of a session's handle, use by use: each leaves a session that is sound, by what its agent's calls ensure.
+use Rattle.std.proofs.Common.{◌≡◌, ℕ, zero, suc, ℤ, pos, negsuc, List, [], ◌∷◌, Option, Some, None, refl, sym, ap, subst, ◌∙◌}
+use Rattle.std.proofs.Common.{true≢false}
+use Rattle.std.proofs.lemmas.List.Elements.{All-nil}
+use Rattle.std.specs.Prelude.{Bool, true, false, Result, Ok, Err, IfSome, All, unsigned_abs}
+use Rattle.zk_frames.specs.declared.limits.FrameLimits.{FrameLimits}
+use Rattle.zk_turns.specs.Turns.{Start, new_start}
 use Rattle.zk_turns.specs.View.{View, view_at}
-use Rattle.zk_turns.specs.Rule.{Stands, HaltsAt, forgotten}
-use Rattle.zk_turns.proofs.Stepped.{one_turn, halt_stands}
-use Rattle.zk_client.specs.Clients.{renewed_start, view_of}
+use Rattle.zk_turns.specs.Rule.{Stands}
+use Rattle.zk_client.specs.Clients.{view_of}
 use Rattle.zk_client.specs.SavedSessions.{PutAway, bytes_read}
-use Rattle.zk_client.specs.Views.{said}
 use Rattle.zk_client.specs.declared.saved_fault.SavedFault.{SavedFault}
-use Rattle.zk_client.proofs.Holding.{holds_here}
-use Rattle.zk_conclusions.specs.Revisions.{raised}
+use Rattle.zk_agent.specs.declared.agent.Agent.{Agent}
+use Rattle.zk_agent.specs.Agents.{IsLed}
+use Rattle.zk_agent.specs.Calls.{IsInTime, IsServed}
+use Rattle.zk_calls.specs.declared.line.Line.{Line}
+use Rattle.zk_follow.specs.Following as following
 use Rattle.ffi_device.specs.Refused.{RefusesTimeout}
-use Rattle.ffi_device.specs.Sessions as session
 use Rattle.ffi_device.specs.Sessions.{put_start}
-use Rattle.ffi_device.specs.Steps as step
-use Rattle.ffi_device.specs.declared.device.Device.{Device}
 use Rattle.ffi_device.specs.declared.flat.Flat.{Flat}
-use Rattle.ffi_c.specs.Held as held
-use Rattle.ffi_c.specs.Held.{Holds, IsClosed, Makes}
-use Rattle.ffi_c.specs.Lives.{Use, Opens, Resumes, Renews, Steps, Ticks, Reads, Forgets, Looks, Closes, Does, Used, held_after, IsLife}
-use Rattle.ffi_c.specs.Lives.{Turns, Halted_at, CameBy, Came, HoldsForLife, RefusesInput}
+use Rattle.ffi_device.specs.Happenings.{Happening}
+use Rattle.ffi_device.specs.Taking.{AreFollowed}
+use Rattle.ffi_device.specs.Steps as step
+use Rattle.ffi_device.specs.Steps.{BeginsWith, Stepped, within}
+use Rattle.ffi_device.specs.declared.device.Device.{Device}
+use Rattle.ffi_c.specs.Held.{ForgetsStale, Holds, Makes, Tells, TellsAll}
+use Rattle.ffi_c.specs.Lives.{Use, Opens, Resumes, Steps, Reads, ReadsAll, Forgets, Looks, Frees, Does}
+use Rattle.ffi_c.specs.Lives.{Used, held_after, IsLife, IsSound, RefusesHappening, SoundForLife}
 
--- ---- a client that stands
+-- the session of a handle, if it has one that goes on, is sound
+abbrev Sound : Option Device → Type 0
+Sound held = (session : Device) → held ≡ Some session → session.is_over ≡ false → IsSound session
 
-abbrev pub Past_of : Type 1
-Past_of = Start → List Item → Type 0
-
--- the client of a handle, if it has one, stands where it has come
-abbrev pub StandsIn : Past_of → Option Device → Type 0
-StandsIn Earlier held = (device : Device) → held ≡ Some device
-    → (start : Start) × (items : List Item) × Earlier start items × Stands start items (view_of device.client)
-
-fresh : (start : Start) → Stands start [] (view_at start [])
+pub fresh : (start : Start) → Stands start [] (view_at start [])
 fresh start = record { standing = refl; saved = refl; lists = refl; cache = refl; going = λ goes_on. refl; said = tt; asked = tt }
 
-pub forget_stands : (start : Start) (items : List Item) (view : View)
-    → Stands start items view → Stands start (turns.Forgets ∷ items) (record view { cache = forgotten view.cache })
-forget_stands start items view s = record {
-  standing = s.standing;
-  saved = s.saved;
-  lists = s.lists;
-  cache = ap forgotten s.cache;
-  going = λ on. ap (λ (v : View). record v { cache = forgotten v.cache }) (s.going on);
-  said = s.said;
-  asked = s.asked;
+pub empty_holds_none : {P : Type 0} (session : Device) (held : Option Device) → held ≡ None → held ≡ Some session → P
+empty_holds_none session held empty is = absurd (let e : None ≡ Some session = sym empty ∙ is in cc)
+
+pub in_held : (P : Device → Type 0) (session : Device) (held : Option Device) → Holds held P → held ≡ Some session → P session
+in_held P session held holds is = subst (λ h. IfSome h P) is holds.1
+
+begun : (start : Start) (session : Device) → BeginsWith (view_at start []) session → IsSound session
+begun start session begins = record {
+  led = (start, [], subst (Stands start []) (sym begins.client) (fresh start));
+  followed = let client = view_of session.agent.asker.follower.client in
+      subst (following.AreFollowed session.agent.latest client) (sym begins.subjects)
+      (All-nil (following.IsFollowed session.agent.latest client 0));
+  served = let P = IsServed (view_of session.agent.asker.follower.client) in subst (All P) (sym begins.calls) (All-nil P);
+  limits = let P = IsInTime session.agent.latest in subst (All P) (sym begins.calls) (All-nil P);
 }
 
--- ---- what a handle holds
+made : (Refuses : ℤ → Type 0) (start : Start) (code : ℤ) (after : Option Device) → Makes Refuses start code after → Sound after
+made Refuses start (pos zero) after makes session is on =
+    begun start session (in_held (BeginsWith (view_at start [])) session after makes is)
+made Refuses start (pos (suc n)) after makes session is on = empty_holds_none session after makes.1 is
+made Refuses start (negsuc n) after makes session is on = empty_holds_none session after makes.1 is
 
-pub empty_holds_none : {P : Type 0} (device : Device) (held : Option Device) → held ≡ None → held ≡ Some device → P
-empty_holds_none device held empty is = absurd (let e : None ≡ Some device = sym empty ∙ is in cc)
+resumed : (limits : FrameLimits) (timeout : ℤ) (saved : List ℕ) (code : ℤ) (before after : Option Device)
+    (read : Result PutAway SavedFault)
+    → bytes_read saved ≡ read
+    → Does before (Resumes limits timeout saved code) after → Sound after
+resumed limits timeout saved code before after (Ok put) reads does session is on =
+    made (RefusesTimeout timeout) (within limits (put_start timeout put)) code after (does.0 put reads) session is on
+resumed limits timeout saved code before after (Err fault) reads does session is on = empty_holds_none session after (does.1 fault reads) is
 
-pub in_held : (P : Device → Type 0) (device : Device) (held : Option Device) → Holds held P → held ≡ Some device → P device
-in_held P device held holds is = subst (λ h. IfSome h P) is holds.1
+stepped : (now : ℕ) (what : Happening) (old session : Device) → Sound (Some old) → Stepped now what old session → IsSound session
+stepped now what old session sound does =
+    let took = does.took.took in
+    record {
+      led = took.comes.led (sound old refl does.took.went_on).led;
+      followed = took.followed;
+      served = took.served;
+      limits = took.limits;
+    }
 
-begun : (start : Start) (number : ℕ) (device : Device) → step.BeginsAt start number device → Stands start [] (view_of device.client)
-begun start number device begins = subst (Stands start []) (sym begins.view) (fresh start)
+over_goes_on : {P : Type 0} (is_over : Bool) → is_over ≡ true → is_over ≡ false → P
+over_goes_on is_over over on = absurd (true≢false (sym over ∙ on))
 
-made : (Refuses : ℤ → Type 0) (start : Start) (code : ℤ) (after : Option Device)
-    → Makes Refuses start code after → (device : Device) → after ≡ Some device
-    → Stands start [] (view_of device.client)
-made Refuses start (pos zero) after makes device is = begun start 1 device (in_held (step.BeginsAt start 1) device after makes is)
-made Refuses start (pos (suc n)) after makes device is = empty_holds_none device after makes.1 is
-made Refuses start (negsuc n) after makes device is = empty_holds_none device after makes.1 is
+steps : (now : ℕ) (what : Happening) (code : ℤ) (before after : Option Device)
+    → Sound before → Does before (Steps now what code) after → Sound after
+steps now what code None after sound does session is on = empty_holds_none session after does.empty is
+steps now what (pos zero) (Some old) after sound does session is on =
+    stepped now what old session sound (in_held (step.Steps (RefusesHappening what) now what old (pos zero)) session after does is)
+steps now what (negsuc zero) (Some old) after sound does session is on =
+    over_goes_on session.is_over (in_held (step.Steps (RefusesHappening what) now what old (negsuc zero)) session after does is).over on
+steps now what (pos (suc n)) (Some old) after sound does session is on =
+    sound session (ap Some (sym (in_held (step.Steps (RefusesHappening what) now what old (pos (suc n))) session after does is).1)) on
+steps now what (negsuc (suc n)) (Some old) after sound does session is on =
+    sound session (ap Some (sym (in_held (step.Steps (RefusesHappening what) now what old (negsuc (suc n))) session after does is).1)) on
 
--- ---- one use after the others
+-- what is sound is so by its agent alone
+same_agent : (old session : Device) → session.agent ≡ old.agent → IsSound old → IsSound session
+same_agent old session same sound = record {
+  led = subst (λ (a : Agent _). IsLed (view_of a.asker.follower.client)) (sym same) sound.led;
+  followed = subst AreFollowed (sym same) sound.followed;
+  served = subst (λ (a : Agent _). All (IsServed (view_of a.asker.follower.client)) a.asker.line.entries.items) (sym same) sound.served;
+  limits = subst (λ (a : Agent _). All (IsInTime a.latest) a.asker.line.entries.items) (sym same) sound.limits;
+}
 
-module _ (Earlier : Past_of) where
-  opens : (timeout code : ℤ) (before after : Option Device)
-      → Does before (Opens timeout code) after → StandsIn (CameBy (Opens timeout code) before after Earlier) after
-  opens timeout code before after does device is = (
-    new_start (unsigned_abs timeout),
-    [],
-    (refl, refl),
-    made (RefusesTimeout timeout) (new_start (unsigned_abs timeout)) code after does device is,
-  )
+reads : (room told : Flat) (code : ℤ) (before after : Option Device)
+    → Sound before → Does before (Reads room told code) after → Sound after
+reads room told code None after sound does session is on = empty_holds_none session after does.empty is
+reads room told code (Some old) after sound does session is on =
+    let tells = in_held (λ s. Tells old room code told s) session after does is in
+    same_agent old session tells.agent (sound old refl (sym tells.over ∙ on))
 
-  resumes_by : (timeout : ℤ) (saved : List ℕ) (code : ℤ) (before after : Option Device) (read : Result PutAway SavedFault)
-      → bytes_read saved ≡ read
-      → Does before (Resumes timeout saved code) after → StandsIn (CameBy (Resumes timeout saved code) before after Earlier) after
-  resumes_by timeout saved code before after (Ok put) reads does device is = (
-    put_start timeout put,
-    [],
-    (put, reads, refl, refl),
-    made (RefusesTimeout timeout) (put_start timeout put) code after (does.0 put reads) device is,
-  )
-  resumes_by timeout saved code before after (Err fault) reads does device is = empty_holds_none device after (does.1 fault reads) is
+reads_all : (room written : List ℕ) (count : ℕ) (code : ℤ) (before after : Option Device)
+    → Sound before → Does before (ReadsAll room written count code) after → Sound after
+reads_all room written count code None after sound does session is on = empty_holds_none session after does.empty is
+reads_all room written count (pos zero) (Some old) after sound does session is on =
+    let tells = in_held (TellsAll old room written count (pos zero)) session after does is in
+    same_agent old session tells.agent (sound old refl (sym tells.over ∙ on))
+reads_all room written count (pos (suc n)) (Some old) after sound does session is on =
+    sound session (ap Some (sym (in_held (TellsAll old room written count (pos (suc n))) session after does is).3)) on
+reads_all room written count (negsuc n) (Some old) after sound does session is on =
+    sound session (ap Some (sym (in_held (TellsAll old room written count (negsuc n)) session after does is).3)) on
 
-  renews : (timeout code : ℤ) (before after : Option Device) → StandsIn Earlier before → Does before (Renews timeout code) after
-      → StandsIn (CameBy (Renews timeout code) before after Earlier) after
-  renews timeout code None after stood does device is = empty_holds_none device after does.empty is
-  renews timeout (pos zero) (Some old) after stood does device is =
-      let renewed = in_held (session.Renews timeout old (pos zero)) device after does is in (
-        renewed_start timeout (view_of old.client),
-        [],
-        (old, refl, refl, refl),
-        begun (renewed_start timeout (view_of old.client)) (raised old.revision.number) device renewed,
-      )
-  renews timeout (pos (suc n)) (Some old) after stood does device is =
-      let kept = in_held (session.Renews timeout old (pos (suc n))) device after does is in
-      stood device (ap Some (sym kept.1))
-  renews timeout (negsuc n) (Some old) after stood does device is =
-      let kept = in_held (session.Renews timeout old (negsuc n)) device after does is in
-      stood device (ap Some (sym kept.1))
+forgets : (code : ℤ) (before after : Option Device) → Sound before → Does before (Forgets code) after → Sound after
+forgets code None after sound does session is on = empty_holds_none session after does.empty is
+forgets code (Some old) after sound does session is on =
+    let gone = (in_held (ForgetsStale old code) session after does is).forgot in
+    let was = sound old refl (sym gone.over ∙ on) in
+    record {
+      led = gone.led was.led;
+      followed = gone.followed was.followed;
+      served = subst (λ (line : Line _). All (IsServed (view_of session.agent.asker.follower.client)) line.entries.items) (sym gone.calls)
+          (subst (λ (view : View). All (IsServed view) old.agent.asker.line.entries.items) (sym gone.view) was.served);
+      limits = subst (λ (line : Line _). All (IsInTime session.agent.latest) line.entries.items) (sym gone.calls)
+          (subst (λ (now : ℕ). All (IsInTime now) old.agent.asker.line.entries.items) (sym gone.latest) was.limits);
+    }
 
-  stepped : (moment : ℕ) (input : Input) (old device : Device) (after : Option Device) → StandsIn Earlier (Some old)
-      → step.Heard moment input old device → after ≡ Some device
-      → (start : Start) × (items : List Item) × ((more : List Item) × Earlier start more × Turns moment input after more items)
-      × Stands start items (view_of device.client)
-  stepped moment input old device after stood heard is =
-      let s = stood old refl in
-      let rule = heard.rule in (
-        s.0,
-        Turned (record { input = input; outputs = rule.second }) ∷ Turned (record { input = Now moment; outputs = rule.first }) ∷ s.1,
-        (s.1, s.2, (device, rule.first, rule.second, is, rule.outputs, refl)),
-        one_turn s.0 (Turned (record { input = Now moment; outputs = rule.first }) ∷ s.1) rule.between (view_of device.client)
-            (record { input = input; outputs = rule.second })
-            (one_turn s.0 s.1 (view_of old.client) rule.between (record { input = Now moment; outputs = rule.first }) s.3 rule.tells)
-            rule.takes,
-      )
+one : (used_by : Use) (before after : Option Device) → Sound before → Does before used_by after → Sound after
+one (Opens limits timeout code) before after sound does =
+    made (RefusesTimeout timeout) (within limits (new_start (unsigned_abs timeout))) code after does
+one (Resumes limits timeout saved code) before after sound does =
+    resumed limits timeout saved code before after (bytes_read saved) refl does
+one (Steps now what code) before after sound does = steps now what code before after sound does
+one (Reads room told code) before after sound does = reads room told code before after sound does
+one (ReadsAll room written count code) before after sound does = reads_all room written count code before after sound does
+one (Forgets code) before after sound does = forgets code before after sound does
+one Looks before after sound does = λ session is on. sound session (sym does ∙ is) on
+one Frees before after sound does = λ session is on. empty_holds_none session after does is
 
-  halted_by : (moment : ℕ) (old device : Device) → StandsIn Earlier (Some old) → HaltsAt moment (view_of old.client) (view_of device.client)
-      → (start : Start) × (items : List Item) × ((more : List Item) × Earlier start more × Halted_at moment more items)
-      × Stands start items (view_of device.client)
-  halted_by moment old device stood (inl at_once) =
-      let s = stood old refl in
-      (s.0, Halts ∷ s.1, (s.1, s.2, inl refl), halt_stands s.0 s.1 (view_of old.client) (view_of device.client) s.3 at_once)
-  halted_by moment old device stood (inr later) =
-      let s = stood old refl in
-      let turn : Turn = record { input = Now moment; outputs = later.0 } in (
-        s.0,
-        Halts ∷ Turned turn ∷ s.1,
-        (s.1, s.2, inr (later.0, refl)),
-        halt_stands s.0 (Turned turn ∷ s.1) later.1 (view_of device.client)
-            (one_turn s.0 s.1 (view_of old.client) later.1 turn s.3 later.2) later.3,
-      )
+all_sound : (uses : List Used) → IsLife uses → Sound (held_after uses)
+all_sound [] lived session is on = absurd (let e : None ≡ Some session = is in cc)
+all_sound (used ∷ earlier) lived session is on =
+    one used.use_of (held_after earlier) used.held (all_sound earlier lived.1) lived.0 session is on
 
-  steps : (moment : ℕ) (input : Input) (code : ℤ) (before after : Option Device)
-      → StandsIn Earlier before → Does before (Steps moment input code) after
-      → StandsIn (CameBy (Steps moment input code) before after Earlier) after
-  steps moment input code None after stood does device is = empty_holds_none device after does.empty is
-  steps moment input (pos zero) (Some old) after stood does device is =
-      stepped moment input old device after stood
-      (in_held (step.Steps (RefusesInput input) moment input old (pos zero)) device after does is) is
-  steps moment input (negsuc zero) (Some old) after stood does device is =
-      halted_by moment old device stood
-      (in_held (step.Steps (RefusesInput input) moment input old (negsuc zero)) device after does is).halts
-  steps moment input (pos (suc n)) (Some old) after stood does device is =
-      stood device (ap Some (sym (in_held (step.Steps (RefusesInput input) moment input old (pos (suc n))) device after does is).1))
-  steps moment input (negsuc (suc n)) (Some old) after stood does device is =
-      stood device (ap Some (sym (in_held (step.Steps (RefusesInput input) moment input old (negsuc (suc n))) device after does is).1))
-
-  ticks : (moment : ℕ) (code : ℤ) (before after : Option Device) → StandsIn Earlier before → Does before (Ticks moment code) after
-      → StandsIn (CameBy (Ticks moment code) before after Earlier) after
-  ticks moment code None after stood does device is = empty_holds_none device after does.empty is
-  ticks moment (pos zero) (Some old) after stood does device is =
-      let s = stood old refl in
-      let told = in_held (step.Ticks moment old (pos zero)) device after does is in
-      let turn : Turn = record { input = Now moment; outputs = said device.said.items } in (
-        s.0,
-        Turned turn ∷ s.1,
-        (s.1, s.2, (device, is, refl)),
-        one_turn s.0 s.1 (view_of old.client) (view_of device.client) turn s.3 told.rule,
-      )
-  ticks moment (negsuc zero) (Some old) after stood does device is =
-      halted_by moment old device stood (in_held (step.Ticks moment old (negsuc zero)) device after does is).halts
-  ticks moment (pos (suc n)) (Some old) after stood does device is =
-      absurd (in_held (step.Ticks moment old (pos (suc n))) device after does is)
-  ticks moment (negsuc (suc n)) (Some old) after stood does device is =
-      absurd (in_held (step.Ticks moment old (negsuc (suc n))) device after does is)
-
-  reads : (room told : Flat) (code : ℤ) (before after : Option Device)
-      → StandsIn Earlier before → Does before (Reads room told code) after → StandsIn Earlier after
-  reads room told code None after stood does device is = empty_holds_none device after does.empty is
-  reads room told code (Some old) after stood does device is =
-      let s = stood old refl in
-      let tells = in_held (λ d. held.Tells old room code told d) device after does is in
-      (s.0, s.1, s.2, subst (λ c. Stands s.0 s.1 (view_of c)) (sym tells.client) s.3)
-
-  forgets : (code : ℤ) (before after : Option Device)
-      → StandsIn Earlier before → Does before (Forgets code) after → StandsIn (CameBy (Forgets code) before after Earlier) after
-  forgets code None after stood does device is = empty_holds_none device after does.empty is
-  forgets code (Some old) after stood does device is =
-      let s = stood old refl in
-      let gone = in_held (held.Forgets old code) device after does is in (
-        s.0,
-        turns.Forgets ∷ s.1,
-        (s.1, s.2, refl),
-        subst (Stands s.0 (turns.Forgets ∷ s.1)) (sym gone.view) (forget_stands s.0 s.1 (view_of old.client) s.3),
-      )
-
-  one : (used_by : Use) (before after : Option Device)
-      → StandsIn Earlier before → Does before used_by after → StandsIn (CameBy used_by before after Earlier) after
-  one (Opens timeout code) before after stood does = opens timeout code before after does
-  one (Resumes timeout saved code) before after stood does = resumes_by timeout saved code before after (bytes_read saved) refl does
-  one (Renews timeout code) before after stood does = renews timeout code before after stood does
-  one (Steps moment input code) before after stood does = steps moment input code before after stood does
-  one (Ticks moment code) before after stood does = ticks moment code before after stood does
-  one (Reads room told code) before after stood does = reads room told code before after stood does
-  one (Forgets code) before after stood does = forgets code before after stood does
-  one Looks before after stood does = λ device is. stood device (sym does ∙ is)
-  one Closes before after stood does = λ device is. empty_holds_none device after does is
-
--- ---- all uses
-
-pub stands : (uses : List Used) → IsLife uses → StandsIn (Came uses) (held_after uses)
-stands [] lived device is = absurd (let e : None ≡ Some device = is in cc)
-stands (used ∷ earlier) lived device is =
-    one (Came earlier) used.use_of (held_after earlier) used.held (stands earlier lived.1) lived.0 device is
-
-pub holds_for_life : HoldsForLife
-holds_for_life uses device lived is =
-    let s = stands uses lived device is in
-    (s.0, s.1, s.2, holds_here s.0 s.1 (view_of device.client) s.3)
+pub sound_for_life : SoundForLife
+sound_for_life uses session lived is on = all_sound uses lived session is on

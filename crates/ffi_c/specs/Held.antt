@@ -1,17 +1,18 @@
--- What a handle holds after a call.
-use Rattle.std.specs.Prelude.{◌≡◌, ◌++◌, List, drop, length, take, ℕ, zero, suc, ℤ, pos, negsuc, Option, Some, None, IsSome, IfSome}
-use Rattle.std.specs.Option.{option_map}
-use Rattle.std.specs.List.{slice_get}
-use Rattle.zk_turns.specs.Rule.{forgotten}
+-- What a handle holds after a call, and what is told of it.
+use Rattle.std.specs.Prelude.{◌≡◌, ◌<◌, ◌^◌, ◌++◌, List, [], drop, length, take, ℕ, zero, suc, ℤ, pos, negsuc, Option, Some, None}
+use Rattle.std.specs.Prelude.{IsSome, IfSome}
+use Rattle.zk_frames.specs.declared.limits.FrameLimits.{FrameLimits}
 use Rattle.zk_turns.specs.Turns.{Start}
-use Rattle.zk_client.specs.Clients.{view_of}
+use Rattle.zk_turns.specs.View.{view_at}
+use Rattle.zk_agent.specs.Agents.{NothingAt}
+use Rattle.ffi_device.specs.AtOnce.{WritesOutputs}
+use Rattle.ffi_device.specs.Outputs.{next_of, read_after}
+use Rattle.ffi_device.specs.Refused.{RefusesMemory}
+use Rattle.ffi_device.specs.Steps.{BeginsWith, Forgot, within}
 use Rattle.ffi_device.specs.declared.device.Device.{Device}
 use Rattle.ffi_device.specs.declared.flat.Flat.{Flat}
-use Rattle.ffi_device.specs.Flats.{flat_of}
-use Rattle.ffi_device.specs.Outputs.{read_after}
-use Rattle.ffi_device.specs.Steps.{BeginsAt}
 
--- the handle holds a device, or another thing, of which this is so
+-- the handle holds something of which this is so
 abbrev pub Holds : {T : Type 0} → Option T → (T → Type 0) → Type 0
 Holds held P = IsSome held × IfSome held P
 
@@ -26,36 +27,58 @@ pub record LeavesRoom (code : ℤ) (room written : List ℕ) (count : ℕ) : Typ
   pub unwritten : written ≡ room
   pub none : count ≡ 0
 
--- A client is made: 0 where the handle holds one that has begun so, at revision 1, and any other number where it holds nothing, for a
--- reason that this number has.
-abbrev pub Makes : (Refuses : ℤ → Type 0) → Start → ℤ → Option Device → Type 0
-Makes Refuses start (pos zero) held = Holds held (BeginsAt start 1)
-Makes Refuses start code held = Refuses code × (held ≡ None)
-
 -- A text is written: 0 where as much of it as there is room for stands at the front, and -2 where memory ran out.
 abbrev pub Writes : (text : List ℕ) (code : ℤ) (room written : List ℕ) (count : ℕ) → Type 0
 Writes text (pos zero) room written count = (written ≡ take (length room) text ++ drop (length text) room) × (count ≡ length text)
 Writes text (negsuc (suc zero)) room written count = (written ≡ room) × (count ≡ 0)
 Writes text code room written count = ⊥
 
--- An output is told: 0 where it is the next one, and 1 where all were told.
+-- An action is told: 0 where it is the next one, and 1 where all were told.
 abbrev pub TellsOf : Option Flat → Flat → ℤ → Flat → Type 0
 TellsOf (Some flat) before (pos zero) after = after ≡ flat
 TellsOf None before (pos (suc zero)) after = after ≡ before
 TellsOf next before code after = ⊥
 
--- The same of a device, of which nothing else changes than that one more output was read.
+-- A session is made: 0 where the handle holds one that has begun so, and any other number where it holds nothing, for a reason that this
+-- number has.
+abbrev pub Makes : (Refuses : ℤ → Type 0) → Start → ℤ → Option Device → Type 0
+Makes Refuses start (pos zero) held = Holds held (BeginsWith (view_at start []))
+Makes Refuses start code held = Refuses code × (held ≡ None)
+
+-- The same with payloads within these limits.
+abbrev pub MakesWithin : (incoming outgoing : ℕ) → (Refuses : ℤ → Type 0) → Start → ℤ → Option Device → Type 0
+MakesWithin incoming outgoing Refuses start code held =
+    (limits : FrameLimits) → limits.incoming ≡ incoming → limits.outgoing ≡ outgoing → Makes Refuses (within limits start) code held
+
+-- The next action is told. Nothing else changes than that one more was read.
 pub record Tells (before : Device) (room : Flat) (code : ℤ) (told : Flat) (after : Device) : Type 0 where
-  pub tells : TellsOf (option_map flat_of (slice_get before.said.items before.read)) room code told
-  pub client : after.client ≡ before.client
+  pub tells : TellsOf (next_of before.said.items before.read) room code told
+  pub agent : after.agent ≡ before.agent
   pub said : after.said ≡ before.said
-  pub read : after.read ≡ read_after (option_map flat_of (slice_get before.said.items before.read)) before.read
+  pub read : after.read ≡ read_after (next_of before.said.items before.read) before.read
+  pub over : after.is_over ≡ before.is_over
   pub number : after.revision ≡ before.revision
 
--- The stale answers of a device are gone, and nothing else.
-pub record Forgets (before : Device) (code : ℤ) (after : Device) : Type 0 where
+-- All that waits is told at once, with 0, where there is room for all; and where memory ran out, as the number says, nothing is written or
+-- told.
+abbrev pub TellsAll : (before : Device) (room written : List ℕ) (count : ℕ) (code : ℤ) (after : Device) → Type 0
+TellsAll before room written count (pos zero) after = WritesOutputs before room written count after
+TellsAll before room written count code after = RefusesMemory code × (written ≡ room) × (count ≡ 0) × (after ≡ before)
+
+-- The stale answers are gone, which is told by 0, and nothing else is another one.
+pub record ForgetsStale (before : Device) (code : ℤ) (after : Device) : Type 0 where
   pub told : code ≡ pos 0
-  pub view : view_of after.client ≡ record (view_of before.client) { cache = forgotten (view_of before.client).cache }
-  pub said : after.said ≡ before.said
-  pub read : after.read ≡ before.read
-  pub number : after.revision ≡ before.revision
+  pub forgot : Forgot before after
+
+-- The first moment at which something is due, with 0; or that nothing will be due, with 1.
+abbrev pub FirstDue : Device → ℤ → ℕ → Type 0
+FirstDue session (pos zero) first =
+    ((moment : ℕ) → moment < 2 ^ 64 → moment < first → NothingAt session.agent moment) × ¬ (NothingAt session.agent first)
+FirstDue session (pos (suc zero)) first = (moment : ℕ) → moment < 2 ^ 64 → NothingAt session.agent moment
+FirstDue session code first = ⊥
+
+-- A moment, with 0; or that there is none, with 1, and then 0 is written.
+abbrev pub TellsMoment : Option ℕ → ℤ → ℕ → Type 0
+TellsMoment (Some moment) (pos zero) told = told ≡ moment
+TellsMoment None (pos (suc zero)) told = told ≡ 0
+TellsMoment moment code told = ⊥

@@ -2,8 +2,6 @@
 pub mod Held
 pub mod Kept
 pub mod Lives
-pub mod SessionLives
-pub mod SessionPasts
-pub mod Sessions
+pub mod Pasts
 pub mod Stood
 pub mod inner

@@ -1,4 +1,4 @@
-//! What follows from several answers together.
+//! What follows from several answers together, of a session.
 
 ghost use Rattle.std.specs.Prelude.{◌≡◌, Some, None, negsuc, pos};
 ghost use Rattle.zk_client.specs.Clients.{view_of};
@@ -14,7 +14,7 @@ ghost use Rattle.ffi_c.specs.Kept.{FindsText};
 ghost use Rattle.ffi_c.specs.Stood.{FindsHolder, FindsStanding};
 ghost use Rattle.ffi_c.specs.inner.Stood.{TellsStands};
 
-use crate::handle::DwClient;
+use crate::handle::DwSession;
 use crate::taking::{CLOSED, NONE, WAITS};
 use ffi_device::{Contender, DeviceRefusal, Stands, holder, lacking, snapshot, standing, subtree};
 use ffi_handles::{Handle, take_value};
@@ -23,26 +23,27 @@ use std::alloc::Global;
 /// Copies all nodes at and below a path, of which there may be at most `most`, each after its parent, as many bytes of them as there is
 /// room for, and writes how many there are.
 #[unsafe(no_mangle)]
-pub extern "C" fn dw_subtree(
+pub extern "C" fn dw_session_subtree(
     alloc: Global,
-    handle: &mut DwClient,
+    handle: &mut DwSession,
     path: &[u8],
     most: usize,
     out: &mut [u8],
     count: &mut usize,
 ) -> i32
     ensures closed { handle.old.slot.held ≡ None → LeavesRoom result out.old out.new count.new }
-    ensures finds { (d : Device) → handle.old.slot.held ≡ Some d → FindsText
-        (RefusesNodes (¬ (IsWholeBelow (view_of d.client).cache path.now)) (HasMoreNodes (view_of d.client).cache path.now most) path.now)
-        (WritesText (IsSubtreeText (view_of d.client) path.now most)) result out.old out.new count.new }
+    ensures finds { (d : Device) → handle.old.slot.held ≡ Some d
+        → FindsText (RefusesNodes (¬ (IsWholeBelow (view_of d.agent.asker.follower.client).cache path.now))
+        (HasMoreNodes (view_of d.agent.asker.follower.client).cache path.now most) path.now)
+        (WritesText (IsSubtreeText (view_of d.agent.asker.follower.client) path.now most)) result out.old out.new count.new }
     ensures same { handle.new.slot.held ≡ handle.old.slot.held }
 {
     *count = 0;
-    let Some(device) = take_value(alloc, handle) else {
+    let Some(session) = take_value(alloc, handle) else {
         return CLOSED;
     };
-    let found = subtree(alloc, &device.client, path, most, out);
-    *handle = DwClient::of(device);
+    let found = subtree(alloc, session.agent.client(), path, most, out);
+    *handle = DwSession::of(session);
     match found {
         Ok(length) => {
             *count = length;
@@ -55,26 +56,27 @@ pub extern "C" fn dw_subtree(
 /// Copies the reads that are lacking before there is a subtree of a path with at most `most` nodes, as many bytes of them as there is
 /// room for, and writes how many there are.
 #[unsafe(no_mangle)]
-pub extern "C" fn dw_lacking(
+pub extern "C" fn dw_session_lacking(
     alloc: Global,
-    handle: &mut DwClient,
+    handle: &mut DwSession,
     path: &[u8],
     most: usize,
     out: &mut [u8],
     count: &mut usize,
 ) -> i32
     ensures closed { handle.old.slot.held ≡ None → LeavesRoom result out.old out.new count.new }
-    ensures finds { (d : Device) → handle.old.slot.held ≡ Some d → FindsText
-        (RefusesNodes (HasNoPath (view_of d.client).cache path.now) (HasMoreNodes (view_of d.client).cache path.now most) path.now)
-        (WritesText (IsLackingText (view_of d.client).cache path.now most)) result out.old out.new count.new }
+    ensures finds { (d : Device) → handle.old.slot.held ≡ Some d
+        → FindsText (RefusesNodes (HasNoPath (view_of d.agent.asker.follower.client).cache path.now)
+        (HasMoreNodes (view_of d.agent.asker.follower.client).cache path.now most) path.now)
+        (WritesText (IsLackingText (view_of d.agent.asker.follower.client).cache path.now most)) result out.old out.new count.new }
     ensures same { handle.new.slot.held ≡ handle.old.slot.held }
 {
     *count = 0;
-    let Some(device) = take_value(alloc, handle) else {
+    let Some(session) = take_value(alloc, handle) else {
         return CLOSED;
     };
-    let found = lacking(alloc, &device.client, path, most, out);
-    *handle = DwClient::of(device);
+    let found = lacking(alloc, session.agent.client(), path, most, out);
+    *handle = DwSession::of(session);
     match found {
         Ok(length) => {
             *count = length;
@@ -87,25 +89,26 @@ pub extern "C" fn dw_lacking(
 /// Copies what is kept of the nodes of the first paths, and of the names below the second ones, where all of it is good, as many bytes of
 /// it as there is room for, and writes how many there are.
 #[unsafe(no_mangle)]
-pub extern "C" fn dw_snapshot(
+pub extern "C" fn dw_session_snapshot(
     alloc: Global,
-    handle: &mut DwClient,
+    handle: &mut DwSession,
     nodes: &[u8],
     parents: &[u8],
     out: &mut [u8],
     count: &mut usize,
 ) -> i32
     ensures closed { handle.old.slot.held ≡ None → LeavesRoom result out.old out.new count.new }
-    ensures finds { (d : Device) → handle.old.slot.held ≡ Some d → FindsText (RefusesSnapshot (view_of d.client).cache nodes.now
-        parents.now) (WritesText (IsSnapshotText (view_of d.client) nodes.now parents.now)) result out.old out.new count.new }
+    ensures finds { (d : Device) → handle.old.slot.held ≡ Some d
+        → FindsText (RefusesSnapshot (view_of d.agent.asker.follower.client).cache nodes.now parents.now)
+        (WritesText (IsSnapshotText (view_of d.agent.asker.follower.client) nodes.now parents.now)) result out.old out.new count.new }
     ensures same { handle.new.slot.held ≡ handle.old.slot.held }
 {
     *count = 0;
-    let Some(device) = take_value(alloc, handle) else {
+    let Some(session) = take_value(alloc, handle) else {
         return CLOSED;
     };
-    let found = snapshot(alloc, &device.client, nodes, parents, out);
-    *handle = DwClient::of(device);
+    let found = snapshot(alloc, session.agent.client(), nodes, parents, out);
+    *handle = DwSession::of(session);
     match found {
         Ok(length) => {
             *count = length;
@@ -137,9 +140,9 @@ fn write_stands(stands: Result<Stands, DeviceRefusal>, token: &mut i64, count: &
 /// Tells whether the session comes first in a directory by its node of this name, by the names of a listing that was answered at a zxid,
 /// and by markers, that of its name first: writes its token where it stands first, and else copies the name of the last rival before it.
 #[unsafe(no_mangle)]
-pub extern "C" fn dw_standing(
+pub extern "C" fn dw_session_standing(
     alloc: Global,
-    handle: &mut DwClient,
+    handle: &mut DwSession,
     directory: &[u8],
     name: &[u8],
     names: &[u8],
@@ -150,12 +153,12 @@ pub extern "C" fn dw_standing(
     count: &mut usize,
 ) -> i32
     ensures closed { handle.old.slot.held ≡ None → LeavesRoom result out.old out.new count.new × (token.new ≡ pos 0) }
-    ensures stands { (d : Device) → handle.old.slot.held ≡ Some d
-        → FindsStanding (view_of d.client) directory.now name.now names.now listed markers.now result token.new out.old out.new count.new }
+    ensures stands { (d : Device) → handle.old.slot.held ≡ Some d → FindsStanding (view_of d.agent.asker.follower.client) directory.now
+        name.now names.now listed markers.now result token.new out.old out.new count.new }
     ensures same { handle.new.slot.held ≡ handle.old.slot.held }
 {
     (*token, *count) = (0, 0);
-    let Some(device) = take_value(alloc, handle) else {
+    let Some(session) = take_value(alloc, handle) else {
         return CLOSED;
     };
     let contender = Contender {
@@ -165,17 +168,17 @@ pub extern "C" fn dw_standing(
         listed,
         markers,
     };
-    let stands = standing(alloc, &device.client, &contender, out);
-    *handle = DwClient::of(device);
+    let stands = standing(alloc, session.agent.client(), &contender, out);
+    *handle = DwSession::of(session);
     write_stands(stands, token, count)
 }
 
 /// Tells whether the session holds the first place of the names in a directory that begin with a prefix, by its node of this path: writes
 /// its token where it does.
 #[unsafe(no_mangle)]
-pub extern "C" fn dw_holder(
+pub extern "C" fn dw_session_holder(
     alloc: Global,
-    handle: &mut DwClient,
+    handle: &mut DwSession,
     directory: &[u8],
     prefix: &[u8],
     path: &[u8],
@@ -183,15 +186,15 @@ pub extern "C" fn dw_holder(
 ) -> i32
     ensures closed { handle.old.slot.held ≡ None → (result ≡ negsuc 2) × (token.new ≡ pos 0) }
     ensures finds { (d : Device) → handle.old.slot.held ≡ Some d
-        → FindsHolder (view_of d.client) directory.now prefix.now path.now result token.new }
+        → FindsHolder (view_of d.agent.asker.follower.client) directory.now prefix.now path.now result token.new }
     ensures same { handle.new.slot.held ≡ handle.old.slot.held }
 {
     *token = 0;
-    let Some(device) = take_value(alloc, handle) else {
+    let Some(session) = take_value(alloc, handle) else {
         return CLOSED;
     };
-    let found = holder(alloc, &device.client, directory, prefix, path);
-    *handle = DwClient::of(device);
+    let found = holder(alloc, session.agent.client(), directory, prefix, path);
+    *handle = DwSession::of(session);
     match found {
         Ok(Some(shown)) => {
             *token = shown;

@@ -1,40 +1,40 @@
-//! What C holds of a device.
+//! What C holds of a session.
 
 ghost use Rattle.std.specs.Prelude.{◌≡◌, IfSome, IfNone, Some, None, is_some};
 
-use crate::slot::DeviceSlot;
+use crate::slot::SessionSlot;
 use ffi_device::Device;
 use ffi_handles::{Handle, Slot};
 use std::alloc::Global;
 
-/// A device, or nothing. C makes the first one of zeros.
+/// A session, or nothing. C makes the first one of zeros.
 #[repr(C)]
-pub struct DwClient {
+pub struct DwSession {
     is_open: bool,
-    slot: DeviceSlot,
+    slot: SessionSlot,
     ghost told: { is_open ≡ is_some slot.held },
 }
 
-impl Handle for DwClient {
+impl Handle for DwSession {
     type Value = Device;
 
     ghost held = { λ handle. handle.slot.held };
 
-    fn closed(alloc: Global) -> DwClient
+    fn closed(alloc: Global) -> DwSession
         ensures { result.slot.held ≡ None }
     {
-        DwClient {
+        DwSession {
             is_open: false,
-            slot: DeviceSlot::of(Slot::empty(alloc)),
+            slot: SessionSlot::of(Slot::empty(alloc)),
         }
     }
 
-    fn of(device: Box<Device, Global>) -> DwClient
-        ensures { result.slot.held ≡ Some device.value }
+    fn of(session: Box<Device, Global>) -> DwSession
+        ensures { result.slot.held ≡ Some session.value }
     {
-        DwClient {
+        DwSession {
             is_open: true,
-            slot: DeviceSlot::of(Slot::of(device)),
+            slot: SessionSlot::of(Slot::of(session)),
         }
     }
 
@@ -42,7 +42,7 @@ impl Handle for DwClient {
         ensures some { IfSome result (λ b. self.slot.held ≡ Some b.value) }
         ensures none { IfNone result (self.slot.held ≡ None) }
     {
-        let DwClient { is_open, slot } = self;
+        let DwSession { is_open, slot } = self;
         if is_open {
             return Some(slot.into_slot().into_box());
         }
@@ -50,7 +50,7 @@ impl Handle for DwClient {
     }
 }
 
-impl Drop for DwClient {
+impl Drop for DwSession {
     fn drop(self) {
         let _ = self.into_box();
     }

@@ -1,19 +1,11 @@
 //! What follows for a whole life of a handle, over definitions alone.
 
-ghost use Rattle.ffi_c.specs.Lives.{HoldsForLife, SameForLife};
-ghost use Rattle.ffi_c.specs.SessionLives.{SoundForLife};
-ghost use Rattle.ffi_c.specs.SessionPasts.{CoherentForLife};
+ghost use Rattle.ffi_c.specs.Lives.{SameForLife, SoundForLife};
+ghost use Rattle.ffi_c.specs.Pasts.{CoherentForLife};
 
-/// Whoever took a handle of zeros, used it by the functions of this library alone, one after the other and whatever they answered, and has
-/// a client in it has all of [`holds`](zk_client::holds) for the turns that the steps were since the client was made or renewed, with
-/// the outputs that `dw_next` gave: its good answers are the history's, and each notice that ended one was told once.
-pub fn holds_for_life()
-    ensures { HoldsForLife }
-{}
-
-/// Whoever was told the same number twice by `dw_revision`, below the last one, of a handle that was not opened, resumed or closed in
-/// between, has each good answer as it was, and no other is good; state and session are the same, whatever functions were called between.
-/// So `dw_subtree` and its like tell the same (`same_conclusions` of `zk_conclusions`).
+/// Whoever was told the same number twice by `dw_session_revision`, below the last one, of a handle that was not opened, resumed or freed
+/// in between, has each good answer as it was, and no other is good; state and session are the same, whatever functions were called
+/// between. So `dw_session_subtree` and its like tell the same (`same_conclusions` of `zk_conclusions`).
 pub fn same_for_life()
     ensures { SameForLife }
 {}

@@ -1,4 +1,4 @@
-//! A device on the heap at a pointer that C may hold.
+//! A session on the heap at a pointer that C may hold.
 
 ghost use Rattle.std.specs.Prelude.{◌≡◌, Option};
 ghost use Rattle.std.specs.Coded.{coded_option};
@@ -12,26 +12,26 @@ use ffi_handles::Slot;
 use std::alloc::Global;
 use std::marker::Model;
 
-/// A device on the heap, or nothing: a `Slot` for C's memory, where no type has a parameter.
+/// A session on the heap, or nothing: a `Slot` for C's memory, where no type has a parameter.
 #[repr(C)]
 #[derive(Drop)]
-pub struct DeviceSlot {
+pub struct SessionSlot {
     at: *mut u8,
     alloc: Global,
     pub ghost held: { Option Device } by { coded_option the_row.coded },
 }
 
-impl Model for DeviceSlot {
+impl Model for SessionSlot {
     ghost also_owns = { λ slot. owned the_row (ghosts.dealloc_token slot.alloc) slot.at slot.held };
 }
 
-impl DeviceSlot {
+impl SessionSlot {
     /// What this slot holds, for C.
-    pub fn of(slot: Slot<Device, Global>) -> DeviceSlot
+    pub fn of(slot: Slot<Device, Global>) -> SessionSlot
         ensures { result.held ≡ slot.held }
     {
         let Slot { at, alloc } = slot;
-        DeviceSlot {
+        SessionSlot {
             at: at.cast::<u8>(),
             alloc,
         }
@@ -41,7 +41,7 @@ impl DeviceSlot {
     pub fn into_slot(self) -> Slot<Device, Global>
         ensures { result.held ≡ self.held }
     {
-        let DeviceSlot { at, alloc } = self;
+        let SessionSlot { at, alloc } = self;
         Slot {
             at: at.cast::<Device>(),
             alloc,
@@ -49,4 +49,4 @@ impl DeviceSlot {
     }
 }
 
-unsafe impl Send for DeviceSlot {}
+unsafe impl Send for SessionSlot {}

@@ -1,50 +1,85 @@
-//! What happens to a client.
+//! What happens to a session.
 
 ghost use Rattle.std.specs.Prelude.{◌≡◌, Some, None};
-ghost use Rattle.zk_turns.specs.Turns.{Bytes, Opened, Cut};
 ghost use Rattle.ffi_device.specs.declared.device.Device.{Device};
+ghost use Rattle.ffi_device.specs.Steps.{Addressed, Bytes, Cut, Failed, Moment, Opened, Steps};
 ghost use Rattle.ffi_device.specs.Refused.{RefusesMemory, RefusesNothing};
-ghost use Rattle.ffi_device.specs.Steps.{Steps, Ticks};
 ghost use Rattle.ffi_c.specs.Held.{Holds, IsClosed};
 
-use crate::handle::DwClient;
+use crate::handle::DwSession;
 use crate::taking::drive;
 use std::alloc::Global;
 
-/// A connection begins at this moment.
+/// The connection that was asked for is there at this moment.
 #[unsafe(no_mangle)]
-pub extern "C" fn dw_opened(alloc: Global, handle: &mut DwClient, now_ms: u64) -> i32
+pub extern "C" fn dw_session_opened(alloc: Global, handle: &mut DwSession, now_ms: u64) -> i32
     ensures closed { handle.old.slot.held ≡ None → IsClosed result handle.new.slot.held }
     ensures steps { (d : Device) → handle.old.slot.held ≡ Some d
         → Holds handle.new.slot.held (Steps RefusesNothing now_ms Opened d result) }
 {
-    drive(alloc, handle, |device| device.opened_at(now_ms))
+    drive(alloc, handle, |session| session.opened_at(now_ms))
 }
 
-/// The connection is over at this moment.
+/// The connection that was asked for could not be made.
 #[unsafe(no_mangle)]
-pub extern "C" fn dw_cut(alloc: Global, handle: &mut DwClient, now_ms: u64) -> i32
+pub extern "C" fn dw_session_failed(alloc: Global, handle: &mut DwSession, now_ms: u64) -> i32
     ensures closed { handle.old.slot.held ≡ None → IsClosed result handle.new.slot.held }
-    ensures steps { (d : Device) → handle.old.slot.held ≡ Some d → Holds handle.new.slot.held (Steps RefusesNothing now_ms Cut d result) }
+    ensures steps { (d : Device) → handle.old.slot.held ≡ Some d
+        → Holds handle.new.slot.held (Steps RefusesNothing now_ms Failed d result) }
 {
-    drive(alloc, handle, |device| device.cut_at(now_ms))
-}
-
-/// The moment, in milliseconds of a clock that does not go back.
-#[unsafe(no_mangle)]
-pub extern "C" fn dw_tick(alloc: Global, handle: &mut DwClient, now_ms: u64) -> i32
-    ensures closed { handle.old.slot.held ≡ None → IsClosed result handle.new.slot.held }
-    ensures ticks { (d : Device) → handle.old.slot.held ≡ Some d → Holds handle.new.slot.held (Ticks now_ms d result) }
-{
-    drive(alloc, handle, |device| device.tick(now_ms))
+    drive(alloc, handle, |session| session.failed_at(now_ms))
 }
 
 /// Bytes came from the server at this moment, cut in any way.
 #[unsafe(no_mangle)]
-pub extern "C" fn dw_bytes(alloc: Global, handle: &mut DwClient, now_ms: u64, bytes: &[u8]) -> i32
+pub extern "C" fn dw_session_bytes(
+    alloc: Global,
+    handle: &mut DwSession,
+    now_ms: u64,
+    bytes: &[u8],
+) -> i32
     ensures closed { handle.old.slot.held ≡ None → IsClosed result handle.new.slot.held }
     ensures steps { (d : Device) → handle.old.slot.held ≡ Some d
         → Holds handle.new.slot.held (Steps RefusesMemory now_ms (Bytes bytes.now) d result) }
 {
-    drive(alloc, handle, |device| device.bytes_at(now_ms, bytes))
+    drive(
+        alloc,
+        handle,
+        |session| session.bytes_at(alloc, now_ms, bytes),
+    )
+}
+
+/// The connection is over at this moment.
+#[unsafe(no_mangle)]
+pub extern "C" fn dw_session_cut(alloc: Global, handle: &mut DwSession, now_ms: u64) -> i32
+    ensures closed { handle.old.slot.held ≡ None → IsClosed result handle.new.slot.held }
+    ensures steps { (d : Device) → handle.old.slot.held ≡ Some d
+        → Holds handle.new.slot.held (Steps RefusesNothing now_ms Cut d result) }
+{
+    drive(alloc, handle, |session| session.cut_at(now_ms))
+}
+
+/// The moment, in milliseconds of a clock that does not go back.
+#[unsafe(no_mangle)]
+pub extern "C" fn dw_session_moment(alloc: Global, handle: &mut DwSession, now_ms: u64) -> i32
+    ensures closed { handle.old.slot.held ≡ None → IsClosed result handle.new.slot.held }
+    ensures steps { (d : Device) → handle.old.slot.held ≡ Some d
+        → Holds handle.new.slot.held (Steps RefusesNothing now_ms Moment d result) }
+{
+    drive(alloc, handle, |session| session.tick(now_ms))
+}
+
+/// The list of addresses is another one, of this many.
+#[unsafe(no_mangle)]
+pub extern "C" fn dw_session_addresses(
+    alloc: Global,
+    handle: &mut DwSession,
+    now_ms: u64,
+    count: usize,
+) -> i32
+    ensures closed { handle.old.slot.held ≡ None → IsClosed result handle.new.slot.held }
+    ensures steps { (d : Device) → handle.old.slot.held ≡ Some d
+        → Holds handle.new.slot.held (Steps RefusesNothing now_ms (Addressed count) d result) }
+{
+    drive(alloc, handle, |session| session.addresses_at(now_ms, count))
 }

@@ -1,6 +1,9 @@
--- Lemmas on a device: texts that follow one another are told apart and read back, a refusal leaves it as it was, and a reply is told whole.
+-- Lemmas on a device: texts that follow one another are told apart and read back, a refusal leaves it as it was, a reply and each action
+-- are told whole, and it begins as its client does.
+pub mod Beginning
 pub mod Parents
 pub mod ReadTexts
 pub mod Refusing
 pub mod Replies
 pub mod Spelled
+pub mod Told

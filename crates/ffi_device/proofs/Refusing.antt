@@ -2,12 +2,12 @@
 use mathlib.Core.Path.{refl}
 use Rattle.std.proofs.Common.{inl, inr, subst, sym}
 use Rattle.std.specs.Prelude.{◌≡◌, ◌∷◌, List, ℕ, ℤ, negsuc, Result, Ok, Err, IfErr, IsErrAnd}
-use Rattle.zk_turns.specs.Turns.{Input}
 use Rattle.zk_turns.specs.View.{Cache}
 use Rattle.ffi_device.specs.declared.device.Device.{Device}
 use Rattle.ffi_device.specs.declared.refusal.DeviceRefusal.{DeviceRefusal}
 use Rattle.ffi_device.specs.declared.refusal.DeviceRefusal.TheVariants.{Halted, Memory, NotText, NotPath, BadTimeout, NoSuchMode, NotSaved}
 use Rattle.ffi_device.specs.declared.refusal.DeviceRefusal.TheVariants.{NotWhole, TooMany, NotTexts, NoSuchOperation, CredentialTooLarge}
+use Rattle.ffi_device.specs.declared.refusal.DeviceRefusal.TheVariants.{NoSuchLimits}
 use Rattle.ffi_device.specs.Codes.{refusal_code, refusal_of}
 use Rattle.ffi_device.specs.Refused.{RefusesPath, RefusesCreate, RefusesNodes}
 use Rattle.zk_nodes.specs.PathFault.{IsPath}
@@ -16,23 +16,25 @@ use Rattle.zk_conclusions.specs.declared.no_subtree.NoSubtree.{NoSubtree}
 use Rattle.zk_conclusions.specs.declared.no_subtree.NoSubtree.TheVariants as why
 use Rattle.ffi_device.specs.Snapshots.{RefusesSnapshot}
 use Rattle.ffi_device.specs.Standings.{RefusesStanding}
+use Rattle.ffi_device.specs.Happenings.{Happening}
 use Rattle.ffi_device.specs.Steps.{Steps}
 use Rattle.ffi_device.specs.inner.Texts.{RefusesPaths, RefusesTexts}
 
-pub refuses : (Refuses : ℤ → Type 0) (moment : ℕ) (input : Input) (device : Device) (refusal : DeviceRefusal)
-    → Refuses (refusal_code refusal) → (Refuses (negsuc 0) → ⊥) → Steps Refuses moment input device (refusal_code refusal) device
-refuses Refuses moment input device Halted is goes_on = absurd (goes_on is)
-refuses Refuses moment input device Memory is goes_on = (is, refl)
-refuses Refuses moment input device NotText is goes_on = (is, refl)
-refuses Refuses moment input device NotPath is goes_on = (is, refl)
-refuses Refuses moment input device BadTimeout is goes_on = (is, refl)
-refuses Refuses moment input device NoSuchMode is goes_on = (is, refl)
-refuses Refuses moment input device NotSaved is goes_on = (is, refl)
-refuses Refuses moment input device NotWhole is goes_on = (is, refl)
-refuses Refuses moment input device TooMany is goes_on = (is, refl)
-refuses Refuses moment input device NotTexts is goes_on = (is, refl)
-refuses Refuses moment input device NoSuchOperation is goes_on = (is, refl)
-refuses Refuses moment input device CredentialTooLarge is goes_on = (is, refl)
+pub refuses : (Refuses : ℤ → Type 0) (now : ℕ) (what : Happening) (device : Device) (refusal : DeviceRefusal)
+    → Refuses (refusal_code refusal) → (Refuses (negsuc 0) → ⊥) → Steps Refuses now what device (refusal_code refusal) device
+refuses Refuses now what device Halted is goes_on = absurd (goes_on is)
+refuses Refuses now what device Memory is goes_on = (is, refl)
+refuses Refuses now what device NotText is goes_on = (is, refl)
+refuses Refuses now what device NotPath is goes_on = (is, refl)
+refuses Refuses now what device BadTimeout is goes_on = (is, refl)
+refuses Refuses now what device NoSuchMode is goes_on = (is, refl)
+refuses Refuses now what device NotSaved is goes_on = (is, refl)
+refuses Refuses now what device NotWhole is goes_on = (is, refl)
+refuses Refuses now what device TooMany is goes_on = (is, refl)
+refuses Refuses now what device NotTexts is goes_on = (is, refl)
+refuses Refuses now what device NoSuchOperation is goes_on = (is, refl)
+refuses Refuses now what device CredentialTooLarge is goes_on = (is, refl)
+refuses Refuses now what device NoSuchLimits is goes_on = (is, refl)
 
 pub refuses_create : (path : List ℕ) (mode : ℕ) (refusal : DeviceRefusal) → RefusesPath path (refusal_code refusal)
     → RefusesCreate path mode (refusal_code refusal)
@@ -48,6 +50,7 @@ refuses_create path mode TooMany is = is
 refuses_create path mode NotTexts is = is
 refuses_create path mode NoSuchOperation is = is
 refuses_create path mode CredentialTooLarge is = is
+refuses_create path mode NoSuchLimits is = is
 
 -- the same of a path for all nodes at and below it
 pub refuses_path : (lacking many : Type 0) (path : List ℕ) (refusal : DeviceRefusal) → RefusesPath path (refusal_code refusal)
@@ -64,6 +67,7 @@ refuses_path lacking many path TooMany is = absurd is
 refuses_path lacking many path NotTexts is = is
 refuses_path lacking many path NoSuchOperation is = is
 refuses_path lacking many path CredentialTooLarge is = is
+refuses_path lacking many path NoSuchLimits is = is
 
 -- what a refusal of them says, by its number
 pub refuses_nodes : (lacking many : Type 0) (path : List ℕ) (why : NoSubtree)
@@ -95,6 +99,7 @@ refuses_markers directory name names markers TooMany is = absurd is
 refuses_markers directory name names markers NotTexts is = inr (λ own against are. is (own ∷ against) are)
 refuses_markers directory name names markers NoSuchOperation is = absurd is
 refuses_markers directory name names markers CredentialTooLarge is = absurd is
+refuses_markers directory name names markers NoSuchLimits is = absurd is
 
 -- what spells no nodes of a snapshot
 pub refuses_first : (cache : Cache) (nodes parents : List ℕ) (refusal : DeviceRefusal) → RefusesPaths nodes (refusal_code refusal)
@@ -111,6 +116,7 @@ refuses_first cache nodes parents TooMany is = absurd is
 refuses_first cache nodes parents NotTexts is = inl is
 refuses_first cache nodes parents NoSuchOperation is = absurd is
 refuses_first cache nodes parents CredentialTooLarge is = absurd is
+refuses_first cache nodes parents NoSuchLimits is = absurd is
 
 -- what spells no parents
 pub refuses_second : (cache : Cache) (nodes parents : List ℕ) (refusal : DeviceRefusal) → RefusesPaths parents (refusal_code refusal)
@@ -127,6 +133,7 @@ refuses_second cache nodes parents TooMany is = absurd is
 refuses_second cache nodes parents NotTexts is = inr is
 refuses_second cache nodes parents NoSuchOperation is = absurd is
 refuses_second cache nodes parents CredentialTooLarge is = absurd is
+refuses_second cache nodes parents NoSuchLimits is = absurd is
 
 -- what is so of a refusal is so of what is handed on
 pub on_refused : {T : Type 0} (r : Result T DeviceRefusal) (refusal : DeviceRefusal) (P : DeviceRefusal → Type 0)

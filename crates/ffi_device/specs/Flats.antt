@@ -1,4 +1,4 @@
--- Outputs as numbers, and the text that is read separately.
+-- Answers, states and faults as numbers, and the text that is read separately.
 use Rattle.std.specs.Prelude.{ℕ, ℤ, pos, true, false, List, [], length, Some, None, string_bytes}
 use Rattle.zk_nodes.specs.declared.side.Side.{Side}
 use Rattle.zk_nodes.specs.declared.side.Side.TheVariants.{Data, Child}
@@ -104,15 +104,6 @@ abbrev pub side_number : Side → ℤ
 side_number Data = pos 1
 side_number Child = pos 2
 
--- an output as numbers
-abbrev pub flat_of : {A : Type 0} → Output A → Flat
-flat_of (output.Send bytes) = record (plain (pos 1) (pos 0)) { length = length bytes.items }
-flat_of (output.Answer ticket why) = record (outcome_flat why) { ticket = ticket }
-flat_of (output.Report path side event) =
-    record (plain (pos 3) (event_number event)) { result = side_number side; length = length (string_bytes path) }
-flat_of (output.State state) = plain (pos 4) (pos (state_number state))
-flat_of (output.Drop why) = record (fault_flat why) { length = length (fault_code (fault_view why)) }
-
 -- the text of what a reply brings
 abbrev pub result_text : {A : Type 0} → CallResult A → List ℕ
 result_text (result.Data (Some bytes) stat) = bytes.items
@@ -124,11 +115,3 @@ result_text _ = []
 abbrev pub outcome_text : {A : Type 0} → Outcome A → List ℕ
 outcome_text (outcome.Replied zxid brought) = result_text brought
 outcome_text _ = []
-
--- the text of an output: a frame, data, a path, what stands after the header of a reply or the code of a drop, and else nothing
-abbrev pub text_of : {A : Type 0} → Output A → List ℕ
-text_of (output.Send bytes) = bytes.items
-text_of (output.Answer ticket why) = outcome_text why
-text_of (output.Report path side event) = string_bytes path
-text_of (output.Drop why) = fault_code (fault_view why)
-text_of _ = []

@@ -1,5 +1,6 @@
--- What was said, one output at a time.
+-- What was said, one action at a time.
 use Rattle.std.specs.Prelude.{ℕ, zero, suc, List, [], Option, Some, None, get_or}
+use Rattle.std.specs.Option.{option_map}
 use Rattle.std.specs.List.{slice_get}
 use Rattle.zk_client.specs.FaultText.{fault_words}
 use Rattle.zk_client.specs.Views.{fault_view}
@@ -7,38 +8,20 @@ use Rattle.zk_client.specs.declared.call_result.CallResult.{CallResult}
 use Rattle.zk_client.specs.declared.call_result.CallResult.TheVariants as result
 use Rattle.zk_client.specs.declared.output.Outcome.{Outcome}
 use Rattle.zk_client.specs.declared.output.Outcome.TheVariants as outcome
-use Rattle.zk_client.specs.declared.output.Output.{Output}
-use Rattle.zk_client.specs.declared.output.Output.TheVariants as output
+use Rattle.zk_agent.specs.declared.action.Action.{Action}
+use Rattle.zk_agent.specs.declared.action.Action.TheVariants as action
+use Rattle.ffi_device.specs.Actions.{action_flat, action_text}
 use Rattle.ffi_device.specs.declared.flat.Flat.{Flat}
-use Rattle.ffi_device.specs.Flats.{text_of}
 
 -- how many were read after one was asked for
 abbrev pub read_after : Option Flat → ℕ → ℕ
 read_after None read = read
 read_after (Some flat) read = suc read
 
--- the text of an output, if there is one
-abbrev pub text_if : {A : Type 0} → Option (Output A) → List ℕ
-text_if None = []
-text_if (Some output) = text_of output
-
 -- what was told last
 abbrev pub told : {T : Type 0} → List T → (read : ℕ) → Option T
 told said zero = None
 told said (suc read) = slice_get said read
-
--- the text of the output that was told last
-abbrev pub told_text : {A : Type 0} → List (Output A) → (read : ℕ) → List ℕ
-told_text said read = text_if (told said read)
-
--- the words of a drop, and else nothing
-abbrev pub words_of : {A : Type 0} → Option (Output A) → List ℕ
-words_of (Some (output.Drop why)) = fault_words (fault_view why)
-words_of _ = []
-
--- the words of a drop that was told last
-abbrev pub told_words : {A : Type 0} → List (Output A) → (read : ℕ) → List ℕ
-told_words said read = words_of (told said read)
 
 -- the names that a reply brings, if it does
 abbrev pub result_names : {A : Type 0} → CallResult A → List (List ℕ)
@@ -50,15 +33,34 @@ abbrev pub outcome_names : {A : Type 0} → Outcome A → List (List ℕ)
 outcome_names (outcome.Replied zxid brought) = result_names brought
 outcome_names _ = []
 
--- the names of a listing, in the order of the reply
-abbrev pub names_in : {A : Type 0} → Option (Output A) → List (List ℕ)
-names_in (Some (output.Answer ticket outcome)) = outcome_names outcome
+-- what is told next, as numbers
+abbrev pub next_of : {A : Type 0} → List (Action A) → (read : ℕ) → Option Flat
+next_of said read = option_map action_flat (slice_get said read)
+
+-- the text of an action, if there is one
+abbrev pub text_if : {A : Type 0} → Option (Action A) → List ℕ
+text_if None = []
+text_if (Some action) = action_text action
+
+abbrev pub told_text : {A : Type 0} → List (Action A) → (read : ℕ) → List ℕ
+told_text said read = text_if (told said read)
+
+-- the words of why a connection is given up, where that was told last
+abbrev pub words_of : {A : Type 0} → Option (Action A) → List ℕ
+words_of (Some (action.GivenUp why)) = fault_words (fault_view why)
+words_of _ = []
+
+abbrev pub told_words : {A : Type 0} → List (Action A) → (read : ℕ) → List ℕ
+told_words said read = words_of (told said read)
+
+-- the names of the listing that was told last, in the order of the reply
+abbrev pub names_in : {A : Type 0} → Option (Action A) → List (List ℕ)
+names_in (Some (action.Answer ticket outcome)) = outcome_names outcome
 names_in _ = []
 
--- the names of the listing that was told last
-abbrev pub told_names : {A : Type 0} → List (Output A) → (read : ℕ) → List (List ℕ)
+abbrev pub told_names : {A : Type 0} → List (Action A) → (read : ℕ) → List (List ℕ)
 told_names said read = names_in (told said read)
 
 -- the name of this index in that listing, if there is one
-abbrev pub told_name : {A : Type 0} → (index : ℕ) → List (Output A) → (read : ℕ) → List ℕ
+abbrev pub told_name : {A : Type 0} → (index : ℕ) → List (Action A) → (read : ℕ) → List ℕ
 told_name index said read = get_or (told_names said read) index []

@@ -1,47 +1,123 @@
--- What becomes of a device, by the number that is told.
-use Rattle.std.specs.Prelude.{◌≡◌, ℕ, zero, ℤ, pos, negsuc, []}
-use Rattle.zk_turns.specs.Turns.{Input, Now, Start}
-use Rattle.zk_turns.specs.View.{view_at}
-use Rattle.zk_turns.specs.Rule.{Rule, RuleAt, HaltsAt}
-use Rattle.zk_client.specs.Views.{said}
+-- What becomes of an agent's device, by the number that is told.
+use Rattle.std.specs.Prelude.{◌≡◌, ◌^◌, ℕ, zero, ℤ, pos, negsuc, false, true, List, [], Option, Some, None, Result}
+use Rattle.std.specs.Prelude.{MatchResult}
+use Rattle.std.specs.List.Sorted.{IsPermutation}
+use Rattle.std.specs.declared.alloc.Global.{Global}
+use Rattle.zk_conversation.specs.Calls.{Raw}
+use Rattle.zk_conversation.specs.declared.raw.RawOperation.{RawOperation}
+use Rattle.zk_frames.specs.declared.limits.FrameLimits.{FrameLimits}
+use Rattle.zk_turns.specs.Turns.{Start}
+use Rattle.zk_turns.specs.Rule.{forgotten}
+use Rattle.zk_turns.specs.View.{View, view_at}
 use Rattle.zk_client.specs.Clients.{view_of}
-use Rattle.zk_conclusions.specs.Revisions.{noted, raised}
+use Rattle.zk_dialler.specs.Orders.{numbers, shuffled}
+use Rattle.zk_dialler.specs.Chances.{state_after}
+use Rattle.zk_dialler.specs.declared.dialler.Dialler.{Dialler}
+use Rattle.zk_dialler.specs.declared.dialler.Phase.TheVariants.{Waiting}
+use Rattle.zk_agent.specs.declared.input.AgentInput.{AgentInput}
+use Rattle.zk_agent.specs.Agents.{IsBroken, IsLed}
+use Rattle.zk_agent.specs.Credentials.{no_papers, papers_of}
+use Rattle.zk_agent.specs.Telling.{told_by}
+use Rattle.zk_conclusions.specs.Revisions.{raised}
+use Rattle.ffi_device.specs.Codes.{refusal_code}
+use Rattle.ffi_device.specs.Refused.{RefusesMemory}
+use Rattle.ffi_device.specs.declared.refusal.DeviceRefusal.{DeviceRefusal}
+pub use Rattle.ffi_device.specs.Happenings.{Happening, Opened, Failed, Cut, Moment, Bytes, Addressed, Calls, Introduces, Follows}
+pub use Rattle.ffi_device.specs.Happenings.{Unfollows, FollowsTree, UnfollowsTree}
+pub use Rattle.ffi_device.specs.Happenings.{happening, is_bytes, limit_of}
+pub use Rattle.ffi_device.specs.Taking.{AgentTook, AreFollowed}
+use Rattle.ffi_device.specs.Revisions.{revised}
 use Rattle.ffi_device.specs.declared.device.Device.{Device}
 
--- A moment and an input were two turns by the rule of the client. Their outputs are there, and none was read. They were noted in the
--- revision.
-pub record Heard (moment : ℕ) (input : Input) (before after : Device) : Type 0 where
-  pub rule : RuleAt moment (view_of before.client) (record { input = input; outputs = said after.said.items }) (view_of after.client)
-  pub unread : after.read ≡ 0
-  pub number : after.revision.number ≡ noted (said after.said.items) before.revision.number
+-- ---- steps
 
--- A moment was a turn by the rule of the client, in the same way.
-pub record Told (moment : ℕ) (before after : Device) : Type 0 where
-  pub rule : Rule (view_of before.client) (record { input = Now moment; outputs = said after.said.items }) (view_of after.client)
+-- The agent took an input that was noticed at a moment, by all that a step of it promises. What it said is there, in its order, and none of
+-- it was read.
+pub record Took (now : ℕ) (given : AgentInput Global) (before after : Device) : Type 0 where
+  pub went_on : before.is_over ≡ false
+  pub goes_on : after.is_over ≡ false
   pub unread : after.read ≡ 0
-  pub number : after.revision.number ≡ noted (said after.said.items) before.revision.number
+  pub took : AgentTook now given before.agent after.agent after.said.items
+  pub number : after.revision.number ≡ revised (is_bytes (happening given)) (told_by after.said.items) before.revision.number
 
--- The client ran out of memory: it has halted, and there are no outputs. The revision is the next one.
-pub record Halted (moment : ℕ) (before after : Device) : Type 0 where
-  pub halts : HaltsAt moment (view_of before.client) (view_of after.client)
+-- The same of an input that is this.
+pub record Stepped (now : ℕ) (what : Happening) (before after : Device) : Type 0 where
+  pub given : AgentInput Global
+  pub is : happening given ≡ what
+  pub took : Took now given before after
+
+-- Memory ran out within this step, or within an earlier one: the agent goes on no further, and nothing is told. The revision is the next
+-- one. The agent's client has gone on until then, in one chain from before this step.
+pub record Stopped (before after : Device) : Type 0 where
+  pub over : after.is_over ≡ true
   pub silent : after.said.items ≡ []
   pub number : after.revision.number ≡ raised before.revision.number
+  pub broke : IsBroken before.agent after.agent
 
--- A moment and an input: 0 where they were turns, -1 where the client has halted, and any other number where nothing happened, for
--- a reason that this number has.
-abbrev pub Steps : (Refuses : ℤ → Type 0) → (moment : ℕ) → Input → (before : Device) → (code : ℤ) → (after : Device) → Type 0
-Steps Refuses moment input before (pos zero) after = Heard moment input before after
-Steps Refuses moment input before (negsuc zero) after = Halted moment before after
-Steps Refuses moment input before code after = Refuses code × (after ≡ before)
+-- What happened, at a moment: 0 where it was one step of the agent, -1 where the agent goes on no further, and any other number where
+-- nothing happened, for a reason that it has.
+abbrev pub Steps : (Refuses : ℤ → Type 0) → (now : ℕ) → Happening → (before : Device) → (code : ℤ) → (after : Device) → Type 0
+Steps Refuses now what before (pos zero) after = Stepped now what before after
+Steps Refuses now what before (negsuc zero) after = Stopped before after
+Steps Refuses now what before code after = Refuses code × (after ≡ before)
 
--- A moment alone.
-abbrev pub Ticks : (moment : ℕ) → (before : Device) → (code : ℤ) → (after : Device) → Type 0
-Ticks moment before (pos zero) after = Told moment before after
-Ticks moment before (negsuc zero) after = Halted moment before after
-Ticks moment before code after = ⊥
+-- A request of another operation, whose bytes after the header a caller spells: a call like all others, which is refused where memory ran
+-- out alone. Where the number that was asked for is that of none which a caller may spell, -12 is told, and nothing happened.
+abbrev pub StepsRaw : Option RawOperation → (bytes : List ℕ) (now ticket : ℕ) (until : Option ℕ) (before : Device) → (code : ℤ)
+    → (after : Device) → Type 0
+StepsRaw (Some operation) bytes now ticket until before code after =
+    Steps RefusesMemory now (Calls ticket (Raw operation bytes) until) before code after
+StepsRaw None bytes now ticket until before code after = (code ≡ negsuc 11) × (after ≡ before)
 
--- A device whose client has begun so, at this revision.
-pub record BeginsAt (start : Start) (number : ℕ) (device : Device) : Type 0 where
-  pub view : view_of device.client ≡ view_at start []
+-- ---- beginnings
+
+-- The stale answers are gone from what the client keeps, and nothing else is another one.
+pub record Forgot (before after : Device) : Type 0 where
+  pub view : view_of after.agent.asker.follower.client ≡ record (view_of before.agent.asker.follower.client)
+      { cache = forgotten (view_of before.agent.asker.follower.client).cache }
+  pub led : IsLed (view_of before.agent.asker.follower.client) → IsLed (view_of after.agent.asker.follower.client)
+  pub followed : AreFollowed before.agent → AreFollowed after.agent
+  pub subjects : after.agent.asker.follower.subjects ≡ before.agent.asker.follower.subjects
+  pub calls : after.agent.asker.line ≡ before.agent.asker.line
+  pub dialler : after.agent.dialler ≡ before.agent.dialler
+  pub timeout : after.agent.timeout_ms ≡ before.agent.timeout_ms
+  pub latest : after.agent.latest ≡ before.agent.latest
+  pub heard : after.agent.heard_at ≡ before.agent.heard_at
+  pub trees : after.agent.trees ≡ before.agent.trees
+  pub credentials : after.agent.credentials ≡ before.agent.credentials
+  pub said : after.said ≡ before.said
+  pub read : after.read ≡ before.read
+  pub over : after.is_over ≡ before.is_over
+  pub number : after.revision ≡ before.revision
+
+-- Nothing was asked, followed, heard or said yet, and the client is this one. The revision is 1.
+pub record BeginsWith (view : View) (device : Device) : Type 0 where
+  pub client : view_of device.agent.asker.follower.client ≡ view
+  pub subjects : device.agent.asker.follower.subjects.items ≡ []
+  pub calls : device.agent.asker.line.entries.items ≡ []
+  pub latest : device.agent.latest ≡ 0
+  pub heard : device.agent.heard_at ≡ None
+  pub credentials : papers_of device.agent.credentials ≡ no_papers
+  pub phase : device.agent.dialler.phase ≡ Waiting
   pub silent : device.said.items ≡ []
-  pub number_is : device.revision.number ≡ number
+  pub trees : device.agent.trees.all.items ≡ []
+  pub next : device.agent.trees.next ≡ 2 ^ 63
+  pub goes_on : device.is_over ≡ false
+  pub number : device.revision.number ≡ 1
+
+-- a session to begin with, whose payloads have these limits
+abbrev pub within : FrameLimits → Start → Start
+within limits start = record start { limits = limits }
+
+-- a device that has begun so, or a refusal for a reason that its number has
+abbrev pub Begins : (Refuses : ℤ → Type 0) → Start → Result Device DeviceRefusal → Type 0
+Begins Refuses start made = MatchResult made (BeginsWith (view_at start [])) (λ refusal. Refuses (refusal_code refusal))
+
+-- Nothing was dialled yet, and this many addresses are there, in an order that is random by the seed.
+pub record Dials {A : Type 0} (addresses seed : ℕ) (dialler : Dialler A) : Type 0 where
+  pub phase : dialler.phase ≡ Waiting
+  pub order : dialler.ring.order.items ≡ shuffled seed addresses (numbers addresses)
+  pub each : IsPermutation (numbers addresses) dialler.ring.order.items
+  pub first : dialler.ring.next ≡ 0
+  pub backoff : dialler.backoff
+      ≡ record { chance = record { state = state_after addresses seed }; failures = 0; connected = None; ended = 0; least = 0; moment = 0 }

@@ -1,128 +1,214 @@
-//! A client with the outputs of its last step.
+//! An agent with the actions of its last step.
 
-ghost use Rattle.std.specs.Prelude.{◌≡◌, ◌<ℤ◌, pos, [], IfErr, OnOk, unsigned_abs};
-ghost use Rattle.zk_turns.specs.Turns.{Bytes, Opened, Cut, new_start};
-ghost use Rattle.zk_client.specs.Views.{input_view, said as said_by};
+ghost use Rattle.std.specs.Prelude.{◌≡◌, ◌≢◌, ◌<◌, ◌<ℤ◌, ◌^◌, ℕ, pos, true, None, IfErr, IfOk, IfSome, OnOk, Ok, Err, unsigned_abs};
+ghost use Rattle.zk_session.specs.declared.states.State.TheVariants.{Closed};
+ghost use Rattle.zk_turns.specs.Turns.{new_start};
 ghost use Rattle.zk_client.specs.Clients.{view_of};
-ghost use Rattle.zk_conclusions.specs.Revisions.{noted, raised};
+ghost use Rattle.zk_client.specs.SavedSessions.{PutAway, bytes_read};
+ghost use Rattle.zk_client.specs.declared.saved_fault.SavedFault.{SavedFault};
+ghost use Rattle.zk_client.specs.declared.saved_fault.SavedFault.TheVariants as saved_faults;
+ghost use Rattle.ffi_device.specs.declared.refusal.DeviceRefusal.TheVariants as refusals;
+ghost use Rattle.zk_conclusions.specs.Revisions.{raised};
 ghost use Rattle.ffi_device.specs.Codes.{code_of};
 ghost use Rattle.ffi_device.specs.Refused.{RefusesMemory, RefusesNothing, RefusesTimeout};
-ghost use Rattle.ffi_device.specs.Sessions.{Begins};
-ghost use Rattle.ffi_device.specs.Steps.{Halted, Heard, Steps, Ticks};
+ghost use Rattle.ffi_device.specs.Sessions.{put_start};
+ghost use Rattle.ffi_device.specs.Happenings.{happening, Addressed, Bytes, Cut, Failed, Moment, Opened};
+ghost use Rattle.zk_agent.specs.Agents.{NothingAt};
+ghost use Rattle.ffi_device.specs.Steps.{Dials, Forgot, Begins, BeginsWith, Stepped, Steps, Stopped, within};
 
 use crate::refusal::DeviceRefusal;
+use crate::revisions::{is_bytes, revise};
+use crate::sessions::resumed;
 use std::alloc::Global;
-use zk_client::{Client, Input, Output};
+use zk_agent::{Action, Agent, AgentInput, Settings};
+use zk_client::{Client, FrameLimits};
 use zk_conclusions::Revision;
 
-/// A client, what it said at its last step, whose room the next step uses again, how much of that was read, and a number that rises
-/// where what it shows may change. Its methods stand by what they are about: calls in `calls`, what was said in `outputs`, another
-/// session in `sessions`, and here what comes from a connection. What is kept is looked up by functions over the client, as
-/// [`peek_data`](crate::peek_data).
+/// An agent, what it said at its last step, how much of that was read, whether it goes on no further, since memory ran out within a step,
+/// and a number that rises where what its client shows may change. Its methods stand by what they are about: calls in `calls`, what is
+/// followed in `subjects`, what was said in `outputs`, and here what comes from a connection. What is kept is looked up by functions over
+/// the agent's client, as [`peek_data`](crate::peek_data).
 #[derive(Drop)]
 pub struct Device {
-    pub client: Client<Global>,
-    pub said: Vec<Output<Global>, Global>,
+    pub agent: Agent<Global>,
+    pub said: Vec<Action<Global>, Global>,
     pub read: usize,
+    pub is_over: bool,
     pub revision: Revision,
 }
 
 impl Device {
-    /// A client of no session yet, which asks for this timeout in milliseconds.
-    pub fn new(alloc: Global, timeout_ms: i32) -> Result<Device, DeviceRefusal>
-        ensures begins { Begins (RefusesTimeout timeout_ms) (new_start (unsigned_abs timeout_ms)) result }
+    /// A session of no server yet, which asks for this timeout in milliseconds, has this many addresses, and payloads within these limits.
+    /// The order of addresses and the pauses are random by the seed. A refusal is `BadTimeout`, else `Memory`.
+    pub fn open(
+        alloc: Global,
+        timeout_ms: i32,
+        addresses: usize,
+        seed: u64,
+        limits: FrameLimits,
+    ) -> Result<Device, DeviceRefusal>
+        ensures begins { Begins (RefusesTimeout timeout_ms) (within limits (new_start (unsigned_abs timeout_ms))) result }
         ensures accepted { OnOk result (pos 0 <ℤ timeout_ms) }
+        ensures dials { IfOk result (λ device. Dials addresses seed device.agent.dialler) }
+        ensures timeout { IfOk result (λ device. device.agent.timeout_ms ≡ timeout_ms) }
     {
         if timeout_ms <= 0 {
             return Err(DeviceRefusal::BadTimeout);
         }
-        Ok(Device::of(alloc, Client::new(alloc, timeout_ms)))
+        let settings = Settings {
+            timeout_ms,
+            addresses,
+            seed,
+        };
+        let client = Client::new(alloc, timeout_ms).with_limits(limits);
+        Device::of(alloc, client, settings)
     }
 
-    // A client that has said nothing yet.
-    pub(crate) fn of(alloc: Global, client: Client<Global>) -> Device
-        ensures client { view_of result.client ≡ view_of client }
-        ensures silent { result.said.items ≡ [] }
-        ensures number { result.revision.number ≡ 1 }
+    /// The same, which takes up the session of these bytes first. A refusal is `BadTimeout`, else `NotSaved`, else `Memory`.
+    pub fn resume(
+        alloc: Global,
+        timeout_ms: i32,
+        addresses: usize,
+        seed: u64,
+        limits: FrameLimits,
+        saved: &[u8],
+    ) -> Result<Device, DeviceRefusal>
+        ensures begins { (put : PutAway) → bytes_read saved.now ≡ Ok put
+            → Begins (RefusesTimeout timeout_ms) (within limits (put_start timeout_ms put)) result }
+        ensures accepted { OnOk result (pos 0 <ℤ timeout_ms) }
+        ensures dials { IfOk result (λ device. Dials addresses seed device.agent.dialler) }
+        ensures timeout { IfOk result (λ device. device.agent.timeout_ms ≡ timeout_ms) }
+        ensures unread { (fault : SavedFault) → bytes_read saved.now ≡ Err fault → fault ≢ saved_faults.Memory → pos 0 <ℤ timeout_ms
+            → result ≡ Err refusals.NotSaved }
     {
-        Device {
-            client,
-            said: Vec::new(alloc),
-            read: 0,
-            revision: Revision::new(),
+        let client = resumed(alloc, timeout_ms, saved)?;
+        let settings = Settings {
+            timeout_ms,
+            addresses,
+            seed,
+        };
+        Device::of(alloc, client.with_limits(limits), settings)
+    }
+
+    // An agent of this client, which has said nothing yet. The one refusal is `Memory`.
+    fn of(
+        alloc: Global,
+        client: Client<Global>,
+        settings: Settings,
+    ) -> Result<Device, DeviceRefusal>
+        requires { pos 0 <ℤ settings.timeout_ms }
+        ensures begins { IfOk result (BeginsWith (view_of client)) }
+        ensures dials { IfOk result (λ device. Dials settings.addresses settings.seed device.agent.dialler) }
+        ensures timeout { IfOk result (λ device. device.agent.timeout_ms ≡ settings.timeout_ms) }
+        ensures refused { IfErr result (λ refusal. refusal ≡ refusals.Memory) }
+    {
+        match Agent::new(alloc, client, settings) {
+            Ok(agent) => Ok(Device {
+                agent,
+                said: Vec::new(alloc),
+                read: 0,
+                is_over: false,
+                revision: Revision::new(),
+            }),
+            Err(_) => Err(DeviceRefusal::Memory),
         }
     }
 
-    // What a step gave is noted.
-    fn note(&mut self)
-        ensures client { self.new.client ≡ self.old.client }
-        ensures said { self.new.said ≡ self.old.said }
-        ensures read { self.new.read ≡ self.old.read }
-        ensures number { self.new.revision.number ≡ noted (said_by self.old.said.items) self.old.revision.number }
-    {
-        self.revision.note(self.said.as_slice());
-    }
-
-    // Memory ran out within a step.
+    // Memory ran out, within this step or an earlier one. Nothing is told.
     fn stop(&mut self) -> DeviceRefusal
-        ensures halted { result ≡ DeviceRefusal.Halted }
-        ensures client { self.new.client ≡ self.old.client }
+        ensures halted { result ≡ refusals.Halted }
+        ensures over { self.new.is_over ≡ true }
         ensures said { self.new.said ≡ self.old.said }
         ensures number { self.new.revision.number ≡ raised self.old.revision.number }
+        ensures agent { self.new.agent ≡ self.old.agent }
     {
+        self.is_over = true;
         self.revision.raise();
         DeviceRefusal::Halted
     }
 
-    /// Takes an input that is noticed at this moment. What was said before is forgotten. The one refusal is `Halted`.
-    pub(crate) fn step_at(&mut self, now: u64, input: Input<Global>) -> Result<(), DeviceRefusal>
-        ensures heard { OnOk result (Heard now (input_view input) self.old self.new) }
-        ensures halted { IfErr result (λ refusal. (refusal ≡ DeviceRefusal.Halted) × Halted now self.old self.new) }
+    /// Takes an input that is noticed at this moment. What was said before is forgotten. The one refusal is `Halted`, which each later step
+    /// answers too.
+    pub(crate) fn step_at(
+        &mut self,
+        now: u64,
+        input: AgentInput<Global>,
+    ) -> Result<(), DeviceRefusal>
+        ensures stepped { OnOk result (Stepped now (happening input) self.old self.new) }
+        ensures stopped { IfErr result (λ refusal. (refusal ≡ refusals.Halted) × Stopped self.old self.new) }
     {
+        self.said.clear();
         self.read = 0;
-        let Ok(()) = self.client.step_at_into(now, input, &mut self.said) else {
+        if self.is_over {
+            return Err(self.stop());
+        }
+        let is_bytes = is_bytes(&input);
+        let Ok(said) = self.agent.step(now, input) else {
             return Err(self.stop());
         };
-        self.note();
+        revise(&mut self.revision, is_bytes, said.as_slice());
+        self.said = said;
         Ok(())
     }
 
-    /// A connection begins.
+    /// The connection that was asked for is there.
     pub fn opened_at(&mut self, now: u64) -> Result<(), DeviceRefusal>
         ensures { Steps RefusesNothing now Opened self.old (code_of result) self.new }
     {
-        self.step_at(now, Input::Opened)
+        self.step_at(now, AgentInput::Opened)
+    }
+
+    /// The connection that was asked for could not be made.
+    pub fn failed_at(&mut self, now: u64) -> Result<(), DeviceRefusal>
+        ensures { Steps RefusesNothing now Failed self.old (code_of result) self.new }
+    {
+        self.step_at(now, AgentInput::Failed)
+    }
+
+    /// Bytes came from the server.
+    pub fn bytes_at(&mut self, alloc: Global, now: u64, bytes: &[u8]) -> Result<(), DeviceRefusal>
+        ensures { Steps RefusesMemory now (Bytes bytes.now) self.old (code_of result) self.new }
+    {
+        let owned = Vec::from_slice(alloc, bytes)?;
+        self.step_at(now, AgentInput::Bytes(owned))
     }
 
     /// The connection is over.
     pub fn cut_at(&mut self, now: u64) -> Result<(), DeviceRefusal>
         ensures { Steps RefusesNothing now Cut self.old (code_of result) self.new }
     {
-        self.step_at(now, Input::Cut)
+        self.step_at(now, AgentInput::Cut)
     }
 
     /// The moment, and nothing else.
     pub fn tick(&mut self, now: u64) -> Result<(), DeviceRefusal>
-        ensures { Ticks now self.old (code_of result) self.new }
+        ensures { Steps RefusesNothing now Moment self.old (code_of result) self.new }
     {
-        self.read = 0;
-        let Ok(()) = self.client.tick_into(now, &mut self.said) else {
-            return Err(self.stop());
-        };
-        self.note();
-        Ok(())
+        self.step_at(now, AgentInput::Moment)
     }
 
-    /// Bytes came from the server.
-    pub fn bytes_at(&mut self, now: u64, bytes: &[u8]) -> Result<(), DeviceRefusal>
-        ensures { Steps RefusesMemory now (Bytes bytes.now) self.old (code_of result) self.new }
+    /// Takes the stale answers out of what the client keeps. It is no step: what was said is there still.
+    pub fn forget_stale(&mut self)
+        ensures { Forgot self.old self.new }
     {
-        self.client.reserve(bytes.len())?;
-        self.read = 0;
-        let Ok(()) = self.client.bytes_at_into(now, bytes, &mut self.said) else {
-            return Err(self.stop());
-        };
-        self.note();
-        Ok(())
+        self.agent.forget_stale();
+    }
+
+    /// The first moment at which something is due: at the latest then a step is to be made, if nothing else happens. It may be past, and
+    /// there is none where nothing will be due, as after a close.
+    pub fn deadline(&self) -> Option<u64>
+        ensures before { IfSome result (λ first. (moment : ℕ) → moment < 2 ^ 64 → moment < first → NothingAt self.now.agent moment) }
+        ensures due { IfSome result (λ first. ¬ (NothingAt self.now.agent first)) }
+        ensures never { result ≡ None → (moment : ℕ) → moment < 2 ^ 64 → NothingAt self.now.agent moment }
+        ensures closed { (view_of self.now.agent.asker.follower.client).standing.state ≡ Closed → result ≡ None }
+    {
+        self.agent.deadline()
+    }
+
+    /// The list of addresses is another one, of this many.
+    pub fn addresses_at(&mut self, now: u64, count: usize) -> Result<(), DeviceRefusal>
+        ensures { Steps RefusesNothing now (Addressed count) self.old (code_of result) self.new }
+    {
+        self.step_at(now, AgentInput::Addresses(count))
     }
 }

@@ -1,11 +1,11 @@
-//! Outputs as numbers.
+//! Answers, states and faults as numbers.
 
 ghost use Rattle.std.specs.Prelude.{◌≡◌, length, pos};
 ghost use Rattle.zk_client.specs.FaultText.{fault_code};
 ghost use Rattle.zk_client.specs.Views.{fault_view};
 ghost use Rattle.zk_records.specs.Events.{event_number};
 ghost use Rattle.ffi_device.specs.Sessions.{state_number};
-ghost use Rattle.ffi_device.specs.Flats.{fault_flat, flat_of, outcome_flat, outcome_text, plain, side_number, stat_of, text_of};
+ghost use Rattle.ffi_device.specs.Flats.{fault_flat, outcome_flat, outcome_text, plain, side_number, stat_of};
 ghost use Rattle.ffi_device.specs.Flats.{with_result};
 
 use std::alloc::Global;
@@ -73,7 +73,7 @@ const NO_STAT: FlatStat = FlatStat {
 };
 
 /// An output of this kind, with this detail and nothing else.
-pub fn plain(kind: i32, detail: i32) -> Flat
+pub(crate) fn plain(kind: i32, detail: i32) -> Flat
     ensures { result ≡ plain kind detail }
 {
     Flat {
@@ -172,7 +172,7 @@ fn outcome_flat(outcome: &Outcome<Global>) -> Flat
 }
 
 /// A state.
-pub fn state_flat(state: State) -> Flat
+pub(crate) fn state_flat(state: State) -> Flat
     ensures { result ≡ plain (pos 4) (pos (state_number state)) }
 {
     match state {
@@ -205,7 +205,7 @@ fn fault_flat(fault: Fault) -> Flat
 }
 
 /// A frame that is to be sent.
-pub fn send_flat(bytes: &[u8]) -> Flat
+pub(crate) fn send_flat(bytes: &[u8]) -> Flat
     ensures { result ≡ record (plain (pos 1) (pos 0)) { length = length bytes.now } }
 {
     let mut flat = plain(1, 0);
@@ -214,7 +214,7 @@ pub fn send_flat(bytes: &[u8]) -> Flat
 }
 
 /// An answer to the call of this ticket.
-pub fn answer_flat(ticket: u64, outcome: &Outcome<Global>) -> Flat
+pub(crate) fn answer_flat(ticket: u64, outcome: &Outcome<Global>) -> Flat
     ensures { result ≡ record (outcome_flat outcome.now) { ticket = ticket } }
 {
     let mut flat = outcome_flat(outcome);
@@ -223,7 +223,7 @@ pub fn answer_flat(ticket: u64, outcome: &Outcome<Global>) -> Flat
 }
 
 /// A report about a side of a path.
-pub fn report_flat(path: &[u8], side: Side, event: Event) -> Flat
+pub(crate) fn report_flat(path: &[u8], side: Side, event: Event) -> Flat
     ensures { result ≡ record (plain (pos 3) (event_number event)) { result = side_number side; length = length path.now } }
 {
     let mut flat = plain(3, event.number());
@@ -236,7 +236,7 @@ pub fn report_flat(path: &[u8], side: Side, event: Event) -> Flat
 }
 
 /// Why a connection is given up.
-pub fn drop_flat(fault: Fault) -> Flat
+pub(crate) fn drop_flat(fault: Fault) -> Flat
     ensures { result ≡ record (fault_flat fault) { length = length (fault_code (fault_view fault)) } }
 {
     let mut flat = fault_flat(fault);
@@ -244,21 +244,8 @@ pub fn drop_flat(fault: Fault) -> Flat
     flat
 }
 
-/// An output, as numbers.
-pub fn flat_of(output: &Output<Global>) -> Flat
-    ensures { result ≡ flat_of output.now }
-{
-    match output {
-        Output::Send(bytes) => send_flat(bytes.as_slice()),
-        Output::Answer { ticket, outcome } => answer_flat(*ticket, outcome),
-        Output::Report { path, side, event } => report_flat(path.as_bytes(), *side, *event),
-        Output::State(state) => state_flat(*state),
-        Output::Drop(fault) => drop_flat(*fault),
-    }
-}
-
 /// The text of an answer: data, a path or what stands after the header of a reply, and else nothing.
-pub fn outcome_text(outcome: &Outcome<Global>) -> &[u8]
+pub(crate) fn outcome_text(outcome: &Outcome<Global>) -> &[u8]
     ensures { result.now ≡ outcome_text outcome.now }
 {
     match outcome {
@@ -272,18 +259,5 @@ pub fn outcome_text(outcome: &Outcome<Global>) -> &[u8]
             _ => b"",
         },
         _ => b"",
-    }
-}
-
-/// The text of an output: a frame, the text of an answer, a path or the code of a drop, and else nothing.
-pub fn text_of(output: &Output<Global>) -> &[u8]
-    ensures { result.now ≡ text_of output.now }
-{
-    match output {
-        Output::Send(bytes) => bytes.as_slice(),
-        Output::Answer { outcome, .. } => outcome_text(outcome),
-        Output::Report { path, .. } => path.as_bytes(),
-        Output::Drop(fault) => fault.code().as_bytes(),
-        Output::State(_) => b"",
     }
 }

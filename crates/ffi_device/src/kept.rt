@@ -8,7 +8,6 @@ ghost use Rattle.ffi_device.specs.Codes.{refusal_code};
 ghost use Rattle.ffi_device.specs.Kept.{data_flat, data_stat_flat, data_text, mark_number, AreKeptNames, AreNames};
 ghost use Rattle.ffi_device.specs.Kept.{AreSpelled, IsKeptName, TellsNames, WritesName, WritesNames};
 ghost use Rattle.ffi_device.specs.Refused.{RefusesPath};
-ghost use Rattle.zk_turns.specs.Rule.{forgotten};
 
 use crate::copying::copy_into;
 use crate::paths::{path_of, refuse_no_path, text_of};
@@ -293,11 +292,4 @@ pub fn peek_names(
     let path = path_of(alloc, path)?;
     let text = names_text(alloc, client.peek_children(&path))?;
     Ok(copy_into(text.as_slice(), room))
-}
-
-/// Takes the stale answers out.
-pub fn forget_stale(client: &mut Client<Global>)
-    ensures { view_of client.new ≡ record (view_of client.old) { cache = forgotten (view_of client.old).cache } }
-{
-    client.forget_stale();
 }

@@ -1,22 +1,22 @@
-//! What was said, one output at a time.
+//! What was said, one action at a time.
 
 ghost use Rattle.std.specs.Prelude.{◌≡◌, ◌++◌, [], IfOk, OnErr, drop, get_or, length, string_bytes, take};
 ghost use Rattle.std.specs.Option.{option_map};
-ghost use Rattle.std.specs.List.{slice_get};
-ghost use Rattle.ffi_device.specs.Flats.{flat_of};
 ghost use Rattle.ffi_device.specs.Kept.{WritesText};
-ghost use Rattle.ffi_device.specs.Outputs.{names_in, outcome_names, read_after, told, told_name, told_names, told_text, told_words};
+ghost use Rattle.ffi_device.specs.Outputs.{next_of, outcome_names, read_after, told, told_name, told_names, told_text, told_words};
 ghost use Rattle.ffi_device.specs.Texts.{AreTexts};
 
+use crate::actions::{action_flat, action_text};
 use crate::copying::copy_into;
 use crate::device::Device;
-use crate::flat::{Flat, flat_of, text_of};
+use crate::flat::Flat;
 use crate::texts::{spelled_texts, text_at};
 use std::alloc::{AllocError, Global};
-use zk_client::{CallResult, Outcome, Output};
+use zk_agent::Action;
+use zk_client::{CallResult, Outcome};
 
 /// The names of a listing, each after its length, and nothing where the answer is none. An error says that memory ran out.
-pub fn outcome_names(alloc: Global, outcome: &Outcome<Global>) -> Result<Vec<u8>, AllocError>
+pub(crate) fn outcome_names(alloc: Global, outcome: &Outcome<Global>) -> Result<Vec<u8>, AllocError>
     ensures { IfOk result (λ text. AreTexts (outcome_names outcome.now) text.items) }
 {
     match outcome {
@@ -29,7 +29,7 @@ pub fn outcome_names(alloc: Global, outcome: &Outcome<Global>) -> Result<Vec<u8>
 }
 
 /// The name of this index in a listing, and nothing where there is none.
-pub fn outcome_name(outcome: &Outcome<Global>, index: usize) -> &[u8]
+pub(crate) fn outcome_name(outcome: &Outcome<Global>, index: usize) -> &[u8]
     ensures { result.now ≡ get_or (outcome_names outcome.now) index [] }
 {
     match outcome {
@@ -41,28 +41,19 @@ pub fn outcome_name(outcome: &Outcome<Global>, index: usize) -> &[u8]
     }
 }
 
-// The names of a listing, each after its length, and nothing where it is none.
-fn names_text(alloc: Global, told: Option<&Output<Global>>) -> Result<Vec<u8>, AllocError>
-    ensures { IfOk result (λ text. AreTexts (names_in (option_map (λ output. output.now) told.entry)) text.items) }
-{
-    match told {
-        Some(Output::Answer { outcome, .. }) => outcome_names(alloc, outcome),
-        _ => Ok(Vec::new(alloc)),
-    }
-}
-
 impl Device {
-    /// The next output of the last step, as numbers. The one before is over.
+    /// The next action of the last step, as numbers. The one before is over.
     pub fn next(&mut self) -> Option<Flat>
-        ensures next { result ≡ option_map flat_of (slice_get self.old.said.items self.old.read) }
-        ensures client { self.new.client ≡ self.old.client }
+        ensures next { result ≡ next_of self.old.said.items self.old.read }
+        ensures agent { self.new.agent ≡ self.old.agent }
         ensures said { self.new.said ≡ self.old.said }
         ensures read { self.new.read ≡ read_after result self.old.read }
+        ensures over { self.new.is_over ≡ self.old.is_over }
         ensures number { self.new.revision ≡ self.old.revision }
     {
         match self.said.as_slice().get(self.read) {
-            Some(output) => {
-                let flat = flat_of(output);
+            Some(action) => {
+                let flat = action_flat(action);
                 self.read += 1;
                 Some(flat)
             }
@@ -70,9 +61,9 @@ impl Device {
         }
     }
 
-    // The output that was told last.
-    fn told(&self) -> Option<&Output<Global>>
-        ensures { option_map (λ output. output.now) result ≡ told self.now.said.items self.now.read }
+    // The action that was told last.
+    fn told(&self) -> Option<&Action<Global>>
+        ensures { option_map (λ action. action.now) result ≡ told self.now.said.items self.now.read }
     {
         if self.read == 0 {
             return None;
@@ -80,18 +71,18 @@ impl Device {
         self.said.as_slice().get(self.read - 1)
     }
 
-    // The text of the output that was told last, and nothing where none was told.
+    // The text of the action that was told last, and nothing where none was told.
     fn told_text(&self) -> &[u8]
         ensures { result.now ≡ told_text self.now.said.items self.now.read }
     {
         match self.told() {
-            Some(output) => text_of(output),
+            Some(action) => action_text(action),
             None => b"",
         }
     }
 
-    /// Copies the text of the output that was told last, from this place on, as much of it as there is room for, and tells how
-    /// many bytes there are from there on.
+    /// Copies the text of the action that was told last, from this place on, as much of it as there is room for, and tells how many
+    /// bytes there are from there on.
     pub fn copy_text(&self, from: usize, room: &mut [u8]) -> usize
         ensures count { result ≡ length (drop from (told_text self.now.said.items self.now.read)) }
         ensures copied { room.new ≡ take (length room.old) (drop from (told_text self.now.said.items self.now.read))
@@ -101,12 +92,12 @@ impl Device {
         copy_into(&text[from.min(text.len())..], room)
     }
 
-    /// The words of a drop that was told last: why the connection is given up. An error says that memory ran out.
+    /// The words of why a connection is given up, where that was told last. An error says that memory ran out.
     pub fn words(&self, alloc: Global) -> Result<String<Global>, AllocError>
         ensures { IfOk result (λ words. string_bytes words ≡ told_words self.now.said.items self.now.read) }
     {
         match self.told() {
-            Some(Output::Drop(fault)) => format!(in alloc; "{fault}"),
+            Some(Action::GivenUp(fault)) => format!(in alloc; "{fault}"),
             _ => Ok(String::new(alloc)),
         }
     }
@@ -116,7 +107,7 @@ impl Device {
         ensures { result.now ≡ told_name index self.now.said.items self.now.read }
     {
         match self.told() {
-            Some(Output::Answer { outcome, .. }) => outcome_name(outcome, index),
+            Some(Action::Answer { outcome, .. }) => outcome_name(outcome, index),
             _ => b"",
         }
     }
@@ -137,7 +128,10 @@ impl Device {
         ensures written { IfOk result (WritesText (AreTexts (told_names self.now.said.items self.now.read)) room.old room.new) }
         ensures same { OnErr result (room.new ≡ room.old) }
     {
-        let text = names_text(alloc, self.told())?;
+        let text = match self.told() {
+            Some(Action::Answer { outcome, .. }) => outcome_names(alloc, outcome)?,
+            _ => Vec::new(alloc),
+        };
         Ok(copy_into(text.as_slice(), room))
     }
 }

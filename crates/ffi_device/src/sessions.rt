@@ -1,16 +1,17 @@
-//! What a device shows of its session, the session put away and taken up, and a new one after it.
+//! What is shown of a session, and the session put away and taken up.
 
-ghost use Rattle.std.specs.Prelude.{◌≡◌, ◌≢◌, ◌<ℤ◌, pos, IfOk, MatchResult, OnOk, Ok, Err};
+ghost use Rattle.std.specs.Prelude.{◌≡◌, ◌≢◌, ◌<ℤ◌, pos, [], IfOk, MatchResult, OnOk, Ok, Err};
+ghost use Rattle.zk_session.specs.declared.states.State.TheVariants.{Idle};
+ghost use Rattle.zk_turns.specs.View.{view_at};
 ghost use Rattle.zk_client.specs.Clients.{view_of};
 ghost use Rattle.zk_client.specs.SavedSessions.{PutAway, bytes_read, saved_bytes};
 ghost use Rattle.zk_client.specs.declared.saved_fault.SavedFault.{SavedFault};
 ghost use Rattle.zk_client.specs.declared.saved_fault.SavedFault.TheVariants as saved_faults;
 ghost use Rattle.ffi_device.specs.declared.refusal.DeviceRefusal.TheVariants as refusals;
 ghost use Rattle.ffi_device.specs.Refused.{RefusesTimeout};
-ghost use Rattle.ffi_device.specs.Codes.{code_of};
-ghost use Rattle.ffi_device.specs.Sessions.{Begins, Renews, put_of, put_start, state_number};
+ghost use Rattle.ffi_device.specs.Codes.{refusal_code};
+ghost use Rattle.ffi_device.specs.Sessions.{put_of, put_start, state_number};
 
-use crate::device::Device;
 use crate::refusal::DeviceRefusal;
 use std::alloc::{AllocError, Global};
 use zk_client::{Client, SavedFault, SavedSession, State};
@@ -29,45 +30,33 @@ fn read_saved(alloc: Global, saved: &[u8]) -> Result<SavedSession<Global>, Devic
     }
 }
 
-impl Device {
-    /// A client that takes up the session of these bytes, with this timeout in milliseconds. A refusal is `BadTimeout`, else
-    /// `NotSaved`, else `Memory`.
-    pub fn resume(alloc: Global, timeout_ms: i32, saved: &[u8]) -> Result<Device, DeviceRefusal>
-        ensures begins { (put : PutAway) → bytes_read saved.now ≡ Ok put
-            → Begins (RefusesTimeout timeout_ms) (put_start timeout_ms put) result }
-        ensures accepted { OnOk result (pos 0 <ℤ timeout_ms) }
-        ensures unread { (fault : SavedFault) → bytes_read saved.now ≡ Err fault → fault ≢ saved_faults.Memory → pos 0 <ℤ timeout_ms
-            → result ≡ Err refusals.NotSaved }
-    {
-        if timeout_ms <= 0 {
-            return Err(DeviceRefusal::BadTimeout);
-        }
-        let session = match read_saved(alloc, saved) {
-            Ok(session) => session,
-            Err(refusal) => return Err(refusal),
-        };
-        let client = Client::resume(alloc, timeout_ms, &session.as_saved());
-        drop(session);
-        match client {
-            Ok(client) => Ok(Device::of(alloc, client)),
-            Err(_) => Err(DeviceRefusal::Memory),
-        }
+/// A client that takes up the session of these bytes, with this timeout in milliseconds. A refusal is `BadTimeout`, else `NotSaved`, else
+/// `Memory`.
+pub(crate) fn resumed(
+    alloc: Global,
+    timeout_ms: i32,
+    saved: &[u8],
+) -> Result<Client<Global>, DeviceRefusal>
+    ensures begins { (put : PutAway) → bytes_read saved.now ≡ Ok put
+        → MatchResult result (λ client. view_of client ≡ view_at (put_start timeout_ms put) [])
+        (λ refusal. RefusesTimeout timeout_ms (refusal_code refusal)) }
+    ensures idle { IfOk result (λ client. (view_of client).standing.state ≡ Idle) }
+    ensures accepted { OnOk result (pos 0 <ℤ timeout_ms) }
+    ensures unread { (fault : SavedFault) → bytes_read saved.now ≡ Err fault → fault ≢ saved_faults.Memory → pos 0 <ℤ timeout_ms
+        → result ≡ Err refusals.NotSaved }
+{
+    if timeout_ms <= 0 {
+        return Err(DeviceRefusal::BadTimeout);
     }
-
-    /// Begins a new session, which asks for this timeout in milliseconds. The last seen zxid is kept, and nothing else; the revision goes
-    /// on, with the next number. A refusal is `BadTimeout`, else `Memory`.
-    pub fn renew(&mut self, alloc: Global, timeout_ms: i32) -> Result<(), DeviceRefusal>
-        ensures { Renews timeout_ms self.old (code_of result) self.new }
-    {
-        if timeout_ms <= 0 {
-            return Err(DeviceRefusal::BadTimeout);
-        }
-        let client = self.client.renewed(alloc, timeout_ms)?;
-        let mut device = Device::of(alloc, client);
-        device.revision = self.revision;
-        device.revision.raise();
-        *self = device;
-        Ok(())
+    let session = match read_saved(alloc, saved) {
+        Ok(session) => session,
+        Err(refusal) => return Err(refusal),
+    };
+    let client = Client::resume(alloc, timeout_ms, &session.as_saved());
+    drop(session);
+    match client {
+        Ok(client) => Ok(client),
+        Err(_) => Err(DeviceRefusal::Memory),
     }
 }
 

@@ -2,10 +2,10 @@
 
 use super::{Attempt, Course, Engine};
 use crate::action::Actions;
-use crate::client::State;
 use crate::fault::{Fault, NoReply};
 use crate::growing::Growing;
 use crate::machine::Machine;
+use crate::machine::State;
 use crate::moment::Moment;
 use crate::outbox::Outbox;
 use crate::stats::{ConnectionEnd, Observation};

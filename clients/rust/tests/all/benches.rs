@@ -1,34 +1,43 @@
-//! A client at the server in memory, which is proved to be one of the model: no socket and no clock, and bytes are cut where the test says.
+//! A machine at the server in memory, which is proved to be one of the model: no socket and no clock, and bytes are cut where the test says.
 //! It wants `libdirwolleu_bench.a` beside the library.
 
 use crate::bench::{self, Bench, Change};
 use dirwolleu::{
-    Brought, Client, DataAnswer, Fault, Mark, Mode, Moment, NodeEvent, Output, Outputs, Side,
+    Action, Actions, Brought, DataAnswer, Fault, Machine, Mark, Mode, Moment, NodeEvent, Side,
     State, Watch,
 };
 use std::time::Duration;
 
 const TIMEOUT: Duration = Duration::from_secs(6);
-const NOW: Moment = Moment::from_millis(1_000);
+const START: Moment = Moment::from_millis(1_000);
 const NUMBER: i64 = 77;
 
-/// A client and its server.
+/// A machine and its server.
 struct Pair {
-    client: Client,
+    machine: Machine,
     bench: Bench,
+    now: Moment,
+    tickets: u64,
     /// How many bytes come at a time.
     piece: usize,
-    /// What was said to callers.
-    said: Vec<String>,
+    heard: Heard,
 }
 
-/// What a client says to its server, and to its callers.
-fn read(mut outputs: Outputs<'_>, said: &mut Vec<String>) -> Vec<u8> {
+/// What was said to callers, and whether a connection is asked for.
+#[derive(Default)]
+struct Heard {
+    said: Vec<String>,
+    is_dialled: bool,
+}
+
+/// What a machine says to its server, and to its callers.
+fn read(mut actions: Actions<'_>, heard: &mut Heard) -> Vec<u8> {
     let mut sent = Vec::new();
-    while let Some(output) = outputs.next().unwrap() {
-        match output {
-            Output::Send(frame) => sent.extend(frame.to_vec()),
-            Output::Answer { outcome, .. } => {
+    let said = &mut heard.said;
+    while let Some(action) = actions.next().unwrap() {
+        match action {
+            Action::Send(frame) => sent.extend(frame.to_vec()),
+            Action::Answer { outcome, .. } => {
                 let reply = outcome.unwrap();
                 said.push(match reply.result.unwrap() {
                     Brought::Data { data, .. } => {
@@ -38,7 +47,9 @@ fn read(mut outputs: Outputs<'_>, said: &mut Vec<String>) -> Vec<u8> {
                     _ => format!("done at {}", reply.zxid),
                 });
             }
-            Output::Report { side, event, .. } => said.push(report(side, event)),
+            Action::Report { side, event, .. } => said.push(report(side, event)),
+            Action::Dial { .. } => heard.is_dialled = true,
+            Action::Renewed => said.push(String::from("renewed")),
             _ => {}
         }
     }
@@ -52,16 +63,18 @@ fn report(side: Side, event: NodeEvent) -> String {
 impl Pair {
     fn new(piece: usize) -> Pair {
         Pair {
-            client: Client::open(TIMEOUT).unwrap(),
+            machine: Machine::open(TIMEOUT, 1, 1).unwrap(),
             bench: Bench::new(NUMBER),
+            now: START,
+            tickets: 0,
             piece,
-            said: Vec::new(),
+            heard: Heard::default(),
         }
     }
 
-    /// Hands something to the client, and moves bytes until none is on its way. Whether the server has the connection then.
-    fn step(&mut self, hand: impl FnOnce(&mut Client) -> Result<Outputs<'_>, Fault>) -> bool {
-        let mut sent = read(hand(&mut self.client).unwrap(), &mut self.said);
+    /// Hands something to the machine, and moves bytes until none is on its way. Whether the server has the connection then.
+    fn step(&mut self, hand: impl FnOnce(&mut Machine) -> Result<Actions<'_>, Fault>) -> bool {
+        let mut sent = read(hand(&mut self.machine).unwrap(), &mut self.heard);
         loop {
             self.bench.hear(&sent);
             while self.bench.process() {}
@@ -69,18 +82,29 @@ impl Pair {
             if bytes.is_empty() {
                 return is_open;
             }
-            sent = read(self.client.bytes(NOW, &bytes).unwrap(), &mut self.said);
+            sent = read(
+                self.machine.bytes(self.now, &bytes).unwrap(),
+                &mut self.heard,
+            );
         }
     }
 
+    /// Connects once that is asked for, after a pause where there is one.
     fn connect(&mut self, number: i32) -> bool {
+        let _ = read(self.machine.tick(self.now).unwrap(), &mut self.heard);
+        while !self.heard.is_dialled {
+            self.now = self.machine.deadline().unwrap();
+            let _ = read(self.machine.tick(self.now).unwrap(), &mut self.heard);
+        }
+        self.heard.is_dialled = false;
         self.bench.connect(number).unwrap();
-        self.step(|client| client.opened(NOW))
+        let now = self.now;
+        self.step(|machine| machine.opened(now))
     }
 
     fn cut(&mut self) {
         self.bench.cut();
-        let _ = self.client.cut(NOW).unwrap();
+        let _ = read(self.machine.cut(self.now).unwrap(), &mut self.heard);
     }
 
     /// Another session changes a node, and the first server takes it.
@@ -90,21 +114,24 @@ impl Pair {
     }
 
     fn read(&mut self, path: &str) {
-        assert!(self.step(|client| client.get_data(NOW, 1, path, Watch::Yes)));
+        self.tickets += 1;
+        let (now, ticket) = (self.now, self.tickets);
+        assert!(self.step(|machine| machine.get_data(now, ticket, None, path, Watch::Yes)));
     }
 
     /// Bytes that are on their way come.
     fn wait(&mut self) {
-        assert!(self.step(|client| client.tick(NOW)));
+        let now = self.now;
+        assert!(self.step(|machine| machine.tick(now)));
     }
 
     fn take_said(&mut self) -> Vec<String> {
-        std::mem::take(&mut self.said)
+        std::mem::take(&mut self.heard.said)
     }
 }
 
-fn mark(client: &Client, path: &str) -> Option<Mark> {
-    let kept = client.peek_data(path).unwrap()?;
+fn mark(machine: &Machine, path: &str) -> Option<Mark> {
+    let kept = machine.peek_data(path).unwrap()?;
     assert!(matches!(kept.answer, DataAnswer::Full { .. }));
     Some(kept.mark)
 }
@@ -117,9 +144,9 @@ fn what_is_marked_good_is_what_the_history_has() {
         assert!(pair.connect(1));
         pair.read("/a");
         pair.change("/a", &Change::Write(b"two"));
-        assert_eq!(mark(&pair.client, "/a"), Some(Mark::Good)); // the notice is on its way
+        assert_eq!(mark(&pair.machine, "/a"), Some(Mark::Good)); // the notice is on its way
         pair.wait();
-        assert_eq!(mark(&pair.client, "/a"), Some(Mark::Stale));
+        assert_eq!(mark(&pair.machine, "/a"), Some(Mark::Stale));
         pair.read("/a");
         let changed = report(Side::Data, NodeEvent::DataChanged);
         assert_eq!(pair.take_said(), ["one at 1", changed.as_str(), "two at 2"]);
@@ -139,11 +166,11 @@ fn a_server_that_is_behind_ends_the_connection() {
     pair.read("/a");
     pair.cut();
     assert!(!pair.connect(2));
-    assert_eq!(pair.client.state(), State::Connecting);
+    assert_eq!(pair.machine.state(), State::Connecting);
     pair.cut();
     pair.bench.take(2);
     assert!(pair.connect(2));
-    assert_eq!(pair.client.state(), State::Connected);
+    assert_eq!(pair.machine.state(), State::Connected);
 }
 
 #[test]
@@ -153,18 +180,18 @@ fn a_session_that_has_expired_is_told_so() {
     pair.cut();
     pair.bench.expire(true);
     assert!(!pair.connect(1));
-    assert_eq!(pair.client.state(), State::Expired);
+    assert_eq!(pair.take_said(), ["renewed"]);
     pair.bench.expire(false);
-    pair.client.renew(TIMEOUT).unwrap();
     assert!(pair.connect(1));
-    assert_eq!(pair.client.state(), State::Connected);
+    assert_eq!(pair.machine.state(), State::Connected);
 }
 
 #[test]
 fn the_server_of_another_session_learns_what_was_written() {
     let mut pair = Pair::new(4096);
     assert!(pair.connect(1));
-    assert!(pair.step(|client| client.create(NOW, 1, "/mine", Some(b"x"), Mode::Ephemeral)));
+    let (now, mode) = (pair.now, Mode::Ephemeral);
+    assert!(pair.step(|machine| machine.create(now, 9, None, "/mine", Some(b"x"), mode)));
     let mut other = Bench::new(NUMBER + 1);
     assert!(other.learn(&mut pair.bench));
     assert!(!other.learn(&mut pair.bench));

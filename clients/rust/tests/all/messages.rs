@@ -1,7 +1,7 @@
 //! What errors print: the reason, the path as the program named it, and what to do.
 
 use crate::{started, TIMEOUT};
-use dirwolleu::{Client, Hosts, Mode, Moment, Session, SessionOptions, Watch, ANY_VERSION};
+use dirwolleu::{Hosts, Machine, Mode, Moment, Session, SessionOptions, Watch, ANY_VERSION};
 use std::fmt::{Debug, Display};
 use std::net::{IpAddr, Ipv4Addr, SocketAddr, TcpListener};
 use std::thread;
@@ -98,7 +98,7 @@ fn below_a_chroot_the_path_is_that_of_the_program() {
 
 #[test]
 fn a_text_that_is_no_path_says_why() {
-    let mut client = Client::open(TIMEOUT).unwrap();
+    let mut machine = Machine::open(TIMEOUT, 1, 1).unwrap();
     let long = format!("/{}", "x".repeat(4_096));
     let begin = &long[..256];
     for (path, why) in [
@@ -116,12 +116,12 @@ fn a_text_that_is_no_path_says_why() {
             &format!("{begin}.. is no path: more than 4096 bytes"),
         ),
     ] {
-        assert_eq!(printed(client.peek_data(path)), why);
-        assert_eq!(printed(client.peek_children(path)), why);
-        let asked = client.exists(Moment::from_millis(1), 1, path, Watch::No);
+        assert_eq!(printed(machine.peek_data(path)), why);
+        assert_eq!(printed(machine.peek_children(path)), why);
+        let asked = machine.exists(Moment::from_millis(1), 1, None, path, Watch::No);
         assert_eq!(printed(asked), why);
     }
-    assert_eq!(printed(client.peek_data("/")), "no error");
+    assert_eq!(printed(machine.peek_data("/")), "no error");
 }
 
 #[test]

@@ -1,0 +1,137 @@
+//! All that waits to be told, at once.
+
+ghost use Rattle.std.specs.Prelude.{◌≡◌, ◌++◌, IfOk, OnErr, OnOk, Some, drop, map};
+ghost use Rattle.std.specs.List.{flat_map, AllByRecursion};
+ghost use Rattle.ffi_device.specs.Outputs.{names_in, words_of};
+ghost use Rattle.ffi_device.specs.AtOnce.{action_output, joined, output_bytes, spelled, waiting};
+ghost use Rattle.ffi_device.specs.AtOnce.{AreOutputs, FitsOutput, IsSpelled, WritesOutputs};
+
+use crate::actions::{action_flat, action_text};
+use crate::copying::copy_into;
+use crate::device::Device;
+use crate::flat::Flat;
+use crate::outputs::outcome_names;
+use std::alloc::{AllocError, Global};
+use zk_agent::Action;
+use zk_jute::{BytesRef, PutError, Record, Then};
+
+// Writes an output, of which these are longs, at the end of the text.
+#[tactic(auto, unfolding(crate::specs::AtOnce::spelled, crate::specs::AtOnce::IsSpelled))]
+fn write_fields(
+    flat: &Flat,
+    ticket: i64,
+    size: i64,
+    names: i64,
+    bytes: &[u8],
+    text: &mut Vec<u8>,
+) -> Result<(), PutError>
+    ensures ok { OnOk result (text.new.items ≡ text.old.items ++ spelled flat.now ticket size names bytes.now) }
+    ensures fits { OnOk result (IsSpelled flat.now ticket size names bytes.now) }
+{
+    let stat = &flat.stat;
+    let counts = Then(stat.data_length, Then(stat.num_children, stat.pzxid));
+    let owned = Then(stat.aversion, Then(stat.ephemeral_owner, counts));
+    let versions = Then(stat.version, Then(stat.cversion, owned));
+    let times = Then(stat.ctime, Then(stat.mtime, versions));
+    let stat = Then(stat.czxid, Then(stat.mzxid, times));
+    let flags = Then(flat.is_null, flat.has_stat);
+    let sizes = Then(flat.zxid, Then(size, Then(names, flags)));
+    let code = Then(flat.code, Then(ticket, sizes));
+    let numbers = Then(flat.kind, Then(flat.detail, Then(flat.result, code)));
+    let bytes = BytesRef { bytes: Some(bytes) };
+    Then(numbers, Then(stat, bytes)).write(text)
+}
+
+// Writes an output at the end of the text. An error says that memory ran out: what came in a frame is never too long.
+fn write_output(flat: &Flat, bytes: &[u8], text: &mut Vec<u8>) -> Result<(), AllocError>
+    ensures ok { OnOk result (text.new.items ≡ text.old.items ++ output_bytes (flat.now, bytes.now)) }
+    ensures fits { OnOk result (FitsOutput (flat.now, bytes.now)) }
+{
+    let ticket = flat.ticket.cast_signed();
+    let size = (flat.length as u64).cast_signed();
+    let names = (flat.names as u64).cast_signed();
+    match write_fields(flat, ticket, size, names, bytes, text) {
+        Ok(()) => Ok(()),
+        Err(_) => Err(AllocError),
+    }
+}
+
+// The names of a listing, each after its length, or the words of why a connection is given up, and else nothing.
+fn rest_of(alloc: Global, action: &Action<Global>) -> Result<Vec<u8>, AllocError>
+    ensures { IfOk result (λ rest. rest.items ≡ joined (names_in (Some action.now)) ++ words_of (Some action.now)) }
+{
+    match action {
+        Action::Answer { outcome, .. } => outcome_names(alloc, outcome),
+        Action::GivenUp(fault) => Ok(format!(in alloc; "{fault}")?.into_bytes()),
+        _ => Ok(Vec::new(alloc)),
+    }
+}
+
+// Writes an action at the end of the text. A frame and data are not copied once more.
+fn write_action(
+    alloc: Global,
+    action: &Action<Global>,
+    text: &mut Vec<u8>,
+) -> Result<(), AllocError>
+    ensures ok { OnOk result (text.new.items ≡ text.old.items ++ output_bytes (action_output action.now)) }
+    ensures fits { OnOk result (FitsOutput (action_output action.now)) }
+{
+    let flat = action_flat(action);
+    let mut rest = rest_of(alloc, action)?;
+    if rest.is_empty() {
+        return write_output(&flat, action_text(action), text);
+    }
+    let mut bytes = Vec::from_slice(alloc, action_text(action))?;
+    bytes.append(&mut rest)?;
+    write_output(&flat, bytes.as_slice(), text)
+}
+
+// Writes these actions at the end of the text.
+fn write_actions(
+    alloc: Global,
+    actions: &[Action<Global>],
+    text: &mut Vec<u8>,
+) -> Result<(), AllocError>
+    ensures ok { OnOk result (text.new.items ≡ text.old.items ++ flat_map output_bytes (map action_output actions.now)) }
+    ensures fits { OnOk result (AllByRecursion FitsOutput (map action_output actions.now)) }
+{
+    for action in actions {
+        write_action(alloc, action, text)?;
+    }
+    Ok(())
+}
+
+impl Device {
+    // The actions that were not told yet.
+    fn unread_actions(&self) -> &[Action<Global>]
+        ensures { result.now ≡ drop self.now.read self.now.said.items }
+    {
+        let said = self.said.as_slice();
+        &said[self.read.min(said.len())..]
+    }
+
+    // All that waits to be told.
+    fn outputs_text(&self, alloc: Global) -> Result<Vec<u8>, AllocError>
+        ensures { IfOk result (λ text. AreOutputs (waiting self.now.said.items self.now.read) text.items) }
+    {
+        let mut text = Vec::new(alloc);
+        write_actions(alloc, self.unread_actions(), &mut text)?;
+        Ok(text)
+    }
+
+    /// Writes all actions of the last step that were not told yet, where there is room for all: then they are told. Else nothing is. Tells
+    /// how many bytes they are. An error says that memory ran out.
+    pub fn outputs(&mut self, alloc: Global, room: &mut [u8]) -> Result<usize, AllocError>
+        ensures written { IfOk result (λ count. WritesOutputs self.old room.old room.new count self.new) }
+        ensures same { OnErr result ((room.new ≡ room.old) × (self.new ≡ self.old)) }
+    {
+        let text = self.outputs_text(alloc)?;
+        let wanted = text.len();
+        if room.len() < wanted {
+            return Ok(wanted);
+        }
+        copy_into(text.as_slice(), room);
+        self.read = self.said.len();
+        Ok(wanted)
+    }
+}
