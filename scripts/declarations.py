@@ -46,8 +46,8 @@ POINTERS = {
     "room_for_text": ("char *", "*mut u8", "c_void_p"),
     "room_for_either": ("void *", "*mut u8", "c_void_p"),
 }
-# The handles, which are alike.
-HANDLES = ("client", "session", "bench")
+# The handles.
+HANDLES = ("session", "bench")
 ENUMS = {name: spelled[0] for name, spelled in SPELLED.items() if spelled[0].startswith("enum ")}
 # A field that is an address is in a struct of its own, as in the source.
 ADDRESS = "struct {\n    uint8_t *at;\n  }"
@@ -310,17 +310,14 @@ def declarations_of_c(description: Part) -> str:
 
 
 def declarations_of_rust(description: Part, _version: str) -> str:
-    """The structs and functions of `ffi.rs`, which has one struct for both handles."""
+    """The structs and functions of `ffi.rs`."""
     lines = []
-    client, session = (dict(part["fields"]) for part in parts_with(description, "struct") if part["struct"] in HANDLES[:2])
-    if client != session:
-        raise Unread(f"{INTERFACE}: the handles are not alike")
     for part in parts_with(description, "struct"):
         name = part["struct"]
-        if name in BY_HAND or name == "session":
+        if name in BY_HAND:
             continue
-        if name == "client":
-            lines += ["/// `dw_client`, and `dw_session`.", "#[repr(C)]", "struct Raw {", "    is_open: bool,", "    slot: Slot,", "}", ""]
+        if name == "session":
+            lines += ["/// `dw_session`.", "#[repr(C)]", "struct Raw {", "    is_open: bool,", "    slot: Slot,", "}", ""]
             lines += ["#[repr(C)]", "struct Slot {", "    at: *mut u8,", "}", ""]
             continue
         lines += [f"/// `dw_{name}`.", "#[repr(C)]", "#[derive(Default)]", "#[allow(dead_code)]", f"pub(crate) struct {SPELLED[name][RUST]} {{"]
@@ -464,9 +461,7 @@ def tables_of_python(description: Part, version: str) -> str:
     for part in parts_with(description, "enum"):
         lines += [f"{one.constant} = {one.number}" for one in numbers_in(part)] + [""]
     for part in parts_with(description, "struct"):
-        if part["struct"] == "session":
-            continue
-        name = "_Handle" if part["struct"] == "client" else SPELLED[part["struct"]][PYTHON]
+        name = "_Handle" if part["struct"] == "session" else SPELLED[part["struct"]][PYTHON]
         if name == "_Handle":
             lines += ["", "class _Slot(Structure):", '    _fields_ = [("at", c_void_p)]', ""]
         kinds = {"address": "_Slot"}

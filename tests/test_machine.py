@@ -328,7 +328,7 @@ class TurnTest(unittest.TestCase):
     requests may be on their way, that after the other 1,023, since it goes with the first reply."""
 
     def setUp(self) -> None:
-        self.session, self.asked = Handle("dw_session_"), self.NODE
+        self.session, self.asked = Handle(), self.NODE
         self.session.call("open", TIMEOUT_MS, 1, 1)
         accepted = struct.pack(">iiiqi16s?", 37, 0, TIMEOUT_MS, 1, 16, b"", False)
         steps: list[list[Any]] = [["moment"], ["opened"], ["bytes", accepted]]

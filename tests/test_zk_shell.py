@@ -192,10 +192,11 @@ def moments_in(text: str) -> list[int]:
 
 
 def without_moments(text: str) -> str:
-    """The text without moments. At an address that refuses, a busy machine dials less often: what is printed of that again counts once."""
+    """The text without moments. At an address that refuses, a busy machine dials less or more often by the time that the command ends: what is
+    printed of that again counts once, and a last dial whose end has not come does not count."""
     lines = MOMENT.sub("-", text).split("\n")
-    again = [at for at in range(2, len(lines) - 1) if "failed" in lines[at + 1] and lines[at : at + 2] == lines[at - 2 : at]]
-    return "\n".join(line for at, line in enumerate(lines) if at not in again and at - 1 not in again)
+    again = {at for at in range(2, len(lines)) if lines[at] == lines[at - 2] and any("failed" in line for line in lines[at - 1 : at + 1])}
+    return "\n".join(line for at, line in enumerate(lines) if at not in again)
 
 
 @unittest.skipIf(program() is None, "there is no zk_shell: rt ci builds it")

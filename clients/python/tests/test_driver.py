@@ -166,14 +166,15 @@ class DialTest(PartnerCase):
     def test_a_server_that_trickles_an_answer_is_left(self) -> None:
         def serve(peer: Peer) -> None:
             peer.admit()
-            peer.take()
+            while (asked := peer.take()).kind == PING:  # a busy machine asks later than a ping is due
+                peer.send(reply(asked))
             peer.trickle(struct.pack(">i", 1000) + bytes(996), 0.2)
 
         client = self.client(self.raw_server(serve).host, 3.0)
         began = time.monotonic()
         with self.raises(ConnectionLoss, -4):
             client.set("/a", b"x")
-        self.assertTrue(1.999 < time.monotonic() - began < WAIT)
+        self.assertTrue(1.5 < time.monotonic() - began < WAIT)  # on a busy machine the step that sends it began before
 
     def test_a_server_that_answers_no_ping_is_left(self) -> None:
         def serve(peer: Peer) -> None:

@@ -269,7 +269,7 @@ class GrowingTest(unittest.TestCase):
         self.assertTrue(self.frames().endswith(read(1, "/t", True).frame + list_of(2, "/t")))
 
     def test_reads_of_a_large_tree_leave_room_for_calls(self) -> None:
-        """A tree has 960 reads on their way. Beside them 64 calls have room; what is asked after those waits, raw calls too."""
+        """A tree has 960 reads on their way. Beside them 64 calls have room; what is asked after those, raw calls too, waits until all else is read."""
         self.planted(2000)
         self.come(data(1), listed(2, *(f"n{number:03}" for number in range(512))))
         self.assertTrue(self.frames().endswith(list_of(962, "/t/n447")))
@@ -280,10 +280,13 @@ class GrowingTest(unittest.TestCase):
         self.engine.ask(300, records.sync("/"), synced)
         self.engine.take_handed(300)
         self.assertEqual(self.frames(), b"".join(read(963 + number, "/other").frame for number in range(64)))
-        self.come(data(3))
-        self.assertEqual(self.frames(), read(1027, "/other").frame)
-        self.come(data(4))
-        self.assertEqual(struct.unpack(">ii", self.frames()[4:12]), (1028, library.SYNC))
+        for number in range(64):
+            self.come(data(3 + number))
+            self.assertEqual(self.frames(), list_of(1027 + number, f"/t/n{448 + number}"))
+        self.come(data(67))
+        self.assertEqual(self.frames(), read(1091, "/other").frame)
+        self.come(data(68))
+        self.assertEqual(struct.unpack(">ii", self.frames()[4:12]), (1092, library.SYNC))
 
 
 if __name__ == "__main__":

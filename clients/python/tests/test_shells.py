@@ -207,7 +207,8 @@ class ShellsTest(unittest.TestCase):
         for words in LINES:
             zk, python = self.run_zk("127.0.0.1:1", words), self.run_python("127.0.0.1:1", words)
             self.assertEqual((zk[:2], zk[2].partition("\n")[0]), (python[:2], python[2].partition("\n")[0]), words)
-        for words in ([], ["--json", "get", "/a"]):  # in words of their own
+        none: list[str] = []
+        for words in (none, ["--json", "get", "/a"]):  # in words of their own
             self.assertEqual(*((run("", words)[0], run("", words)[2][:7]) for run in (self.run_zk, self.run_python)))
 
     def test_output_that_fails(self) -> None:

@@ -33,14 +33,8 @@ from dirwolleu.kazoo._checks import Acls, check, check_acls, check_flags, check_
 from dirwolleu.kazoo._session import PASSWORD_LENGTH, Identity, Session, Told
 from dirwolleu.kazoo._transaction import TransactionRequest
 from dirwolleu.kazoo.exceptions import (
-    AuthFailedError,
-    ConfigurationError,
-    ConnectionClosedError,
-    ConnectionLoss,
-    KazooException,
-    SessionExpiredError,
-    error_of,
-)
+    AuthFailedError, ConfigurationError, ConnectionClosedError, ConnectionLoss, KazooException, SessionExpiredError, error_of,
+)  # fmt: skip
 from dirwolleu.kazoo.handlers.threading import AsyncResult, SequentialThreadingHandler
 from dirwolleu.kazoo.handlers.utils import create_tcp_connection
 from dirwolleu.kazoo.protocol.connection import _CONNECTION_DROP, _SESSION_EXPIRED, _end_elsewhere

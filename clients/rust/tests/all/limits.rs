@@ -78,11 +78,11 @@ fn a_request_is_as_long_as_it_may_be() {
     }
 }
 
-/// The first connection is cut, and on the second the session has expired.
+/// The first connection is cut once something was asked on it, and on the second the session has expired.
 fn expiring() -> Partner {
     let lengths = channel().0;
     Partner::start(move |number, mut line| match number {
-        0 => drop(line.admit(10_000)),
+        0 => drop((line.admit(10_000), line.frame())),
         1 => drop((line.frame(), line.send(&Record::expired()))),
         _ => serve(line, RAISED, &lengths),
     })

@@ -1,0 +1,22 @@
+-- Limits with these numbers are those that were made of them (`same_limits`), so the session is the one that `open` makes with those.
+use Rattle.std.proofs.Common.{rules, ◌∙◌, of_z, subst, sym, to_z, w32}
+use Rattle.std.specs.Prelude.{unsigned_abs}
+use Rattle.zk_frames.specs.declared.limits.FrameLimits.{FrameLimits}
+use Rattle.zk_frames.proofs.SameLimits.{same_limits}
+use Rattle.zk_turns.specs.Turns.{new_start}
+use Rattle.ffi_device.specs.Refused.{RefusesTimeout}
+use Rattle.ffi_device.specs.Steps.{within}
+use Rattle.ffi_c.specs.Held.{Makes}
+use Rattle.ffi_c.proofs.making.dw_session_open_with_limits.Goals as goal
+
+pub returns-in-Ok-clause-makes : goal.returns-in-Ok-clause-makes
+returns-in-Ok-clause-makes c limits comes goes =
+    let MadeWithin : FrameLimits → Type 0 = λ limits. Makes (RefusesTimeout c.args.timeout_ms)
+    (within limits (new_start (unsigned_abs c.args.timeout_ms))) (to_z w32 (of_z w32 c.hold.result)) c.hold.new.handle.slot.held in
+    let made : MadeWithin c.in-Some.limits = search rules in
+    subst MadeWithin
+    (same_limits c.in-Some.limits limits (c.in-Some.ensures.1 ∙ sym comes) (c.in-Some.ensures.2 ∙ sym goes))
+    made
+
+pub returns-in-Ok-clause-refused : goal.returns-in-Ok-clause-refused
+returns-in-Ok-clause-refused c refused = absurd (refused c.in-Some.ensures.0)
