@@ -99,7 +99,8 @@ def _ask(chosen: argparse.Namespace, write: Write) -> None:
             path = error.path if chosen.command == "tree" and error.path else chosen.path
             raise faults.of_call(error, path, client.connected) from error
         except TimeoutError as error:
-            raise faults.unconnected(chosen.path, attempts.all()) from error
+            ends = faults.expired(chosen.path) if attempts.is_expired else faults.unconnected(chosen.path, attempts.all())
+            raise ends from error
     for line in printed:
         write(line)
     if ending is not None:

@@ -44,6 +44,7 @@ _ERRORS: dict[int, type[ZookeeperError]] = {
 def refusal_of(code: int, created: Optional[str] = None) -> ZookeeperError:
     """The error of a code that a server answered. It may be the parent for which a node can't be created."""
     error = error_of(code)
+    error.is_answer = True
     if created is not None and isinstance(error, (NoNodeError, NoChildrenForEphemeralsError)):
         error.path = parent(created)
     return error

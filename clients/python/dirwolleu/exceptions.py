@@ -49,6 +49,9 @@ class ZookeeperError(Exception):
     may_have_happened: bool = False
     """Whether a change that was asked for may have happened, or may still: to ask again might do it twice."""
 
+    is_answer: bool = False
+    """Whether a server answered the call with this code, where the client itself may find so too, as that the session has expired."""
+
     entry: Optional[bytes] = None
     """Of `Queue.get`, if an entry may have been taken out: its data."""
 

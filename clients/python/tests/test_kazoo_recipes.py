@@ -183,7 +183,8 @@ class RecipesTest(RecipesCase):
         barrier.create()
         self.assertFalse(self.other.Barrier("barrier").wait(0))
         waits = self.in_thread(self.other.Barrier("/barrier").wait)
-        self.assertEqual((waits, barrier.remove()), ([], True))
+        self.assertEqual(waits, [])
+        self.assertTrue(barrier.remove())
         within(lambda: waits == [True])
 
     def test_a_double_barrier(self) -> None:

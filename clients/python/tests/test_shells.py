@@ -19,7 +19,7 @@ import unittest
 from typing import Callable
 from unittest.mock import patch
 
-from support import CLIENTS, WAIT, Asked, Peer, RawServer, data_reply, notice, reply
+from support import CLIENTS, CLOSE_SESSION, WAIT, Asked, Peer, RawServer, data_reply, notice, reply
 
 from dirwolleu.__main__ import main
 from dirwolleu.shell.words import COMMANDS
@@ -57,6 +57,7 @@ READS: list[list[str]] = [
 ]  # fmt: skip
 LINES: list[list[str]] = [
     ["nonsense"], ["get", "/a", "--nope"], ["get", "/a", "x"], ["get"], ["get", "/a", "--wait"], ["watch", "--for", "0"], ["get", "/a", "--json=1"],
+    ["get", "/a", "--wait", "-1"], ["watch", "--for", "-1"], ["watch", "--for=-1"], ["delete", "/a", "--version=-1"], ["delete", "/a", "--version", "-1"],
     ["get", "/a", "--wai", "3"], ["create", "/a", "-x"], ["watch", "--data", "a"], ["watch", "--timeout", "0"], ["watch", "--most", "x"],
 ]  # fmt: skip
 """Command lines that are refused. Whatever reads them says more below the first line."""
@@ -202,6 +203,28 @@ class ShellsTest(unittest.TestCase):
             zk = self.run_zk(hosts, words)
             self.assertEqual(zk, self.run_python(hosts, words))
             self.assertIn("connected, but no session was accepted", zk[2])
+
+    def test_answers_that_tell_of_a_session(self) -> None:
+        """Codes that a server gives for what the client may find by itself too; and a server that accepts no session that it is asked for."""
+
+        def answer(code: int, peer: Peer) -> None:
+            peer.admit()
+            while (asked := peer.take()).kind != CLOSE_SESSION:
+                peer.send(reply(asked, code=code))
+
+        def refuse(peer: Peer) -> None:
+            peer.take_connect()
+            peer.refuse()
+
+        serves: list[Callable[[Peer], None]] = [*(functools.partial(answer, code) for code in (-4, -112, -118)), refuse]
+        for serve, status in zip(serves, (6, 6, 6, 8)):
+            ends = []
+            for run in (self.run_zk, self.run_python):
+                server = RawServer(serve)
+                self.addCleanup(server.stop)
+                ends.append(run(server.host, ["get", "/a", "--wait", "3"]))
+            self.assertEqual(ends[0], ends[1])
+            self.assertEqual(ends[0][0], status)
 
     def test_lines_that_ask_for_nothing(self) -> None:
         for words in LINES:

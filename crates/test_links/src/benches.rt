@@ -5,7 +5,7 @@ ghost use Rattle.zk_history.specs.HistoryView.{natural, with_change, with_transa
 ghost use Rattle.zk_nodes.specs.History.{Sets};
 ghost use Rattle.zk_nodes.specs.Path.{path_of};
 ghost use Rattle.zk_bench_dial.specs.Lines.{IsOver};
-ghost use Rattle.test_links.specs.inner.Tale.{told};
+ghost use Rattle.test_links.specs.inner.Tale.{begun, told};
 
 use anyhow::Result;
 use shell_watch::{NodeSide, Style, WatchEnd, WatchPlan};
@@ -48,14 +48,22 @@ fn set(alloc: Global, zxid: i64, time: i64, text: &str, history: &mut History<Gl
     Ok(())
 }
 
-/// The history: a node, and four transactions that set its data. It is the same whenever it is told.
-fn tell(alloc: Global) -> Result<History<Global>>
-    ensures { IfOk result (λ history. history ≡ told) }
+/// How the history begins: with a node.
+fn begin(alloc: Global) -> Result<History<Global>>
+    ensures { IfOk result (λ history. history ≡ begun) }
 {
     let mut history = History::new(alloc);
     let path = Path::new(alloc, "/config")?;
     let bytes = Vec::from_slice(alloc, b"one")?;
     history.node(path, Some(bytes), 1_000)?;
+    Ok(history)
+}
+
+/// The history: a node, and four transactions that set its data. It is the same whenever it is told.
+fn tell(alloc: Global) -> Result<History<Global>>
+    ensures { IfOk result (λ history. history ≡ told) }
+{
+    let mut history = begin(alloc)?;
     set(alloc, 5, 5_000, "two", &mut history)?;
     set(alloc, 6, 6_000, "three", &mut history)?;
     set(alloc, 7, 7_000, "four", &mut history)?;

@@ -103,6 +103,8 @@ class Attempts:
     def __init__(self) -> None:
         self._last: dict[str, str] = {}
         self._is_accepted = False
+        self.is_expired = False
+        """Whether a server has said that the session has expired, and none has accepted another since."""
 
     def note(self, said: Said) -> None:
         if said.kind == "dial":
@@ -110,6 +112,7 @@ class Attempts:
         elif said.kind == "failed" or said.kind in ("ended", "drop") and self._is_accepted:
             self._last[said.address] = said.reason
         self._is_accepted = said.kind == "connected"
+        self.is_expired = said.kind == "expired" or self.is_expired and not self._is_accepted
 
     def all(self) -> list[Dialled]:
         return [Dialled(address, reason) for address, reason in self._last.items()]

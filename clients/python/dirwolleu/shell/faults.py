@@ -111,9 +111,9 @@ def of_call(error: ZookeeperError, path: str, is_connected: bool) -> Ending:
         return _late(path, error.may_have_happened or is_connected)
     if isinstance(error, NotConnectedError):
         return _late(path, False)
-    if isinstance(error, ConnectionLoss):
+    if isinstance(error, ConnectionLoss) and not error.is_answer:
         return Ending(UNANSWERED, f"no answer: {path}: the connection was lost: the call may or may not have happened")
-    if isinstance(error, _UNANSWERED):
+    if isinstance(error, _UNANSWERED) and not error.is_answer:
         return Ending(UNANSWERED, f"no answer: {path}: {_CODES.get(error.code or 0, 'the session is closed or is being closed')}")
     own = _CLIENTS_OWN.get(type(error)) or (str(error) if error.code is None else None)
     if own is not None:
@@ -137,6 +137,11 @@ class Dialled(NamedTuple):
 
     address: str
     reason: str
+
+
+def expired(path: str) -> Ending:
+    """A server has said that the session has expired, before one was accepted."""
+    return Ending(UNANSWERED, f"no answer: {path}: the session has expired")
 
 
 def unconnected(path: str, dialled: list[Dialled]) -> Ending:

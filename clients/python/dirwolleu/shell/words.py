@@ -360,7 +360,8 @@ def read(name: str, words: Sequence[str]) -> argparse.Namespace:
     """What the words after a command's name say. Raises `Ending`, and `SystemExit` after it has printed help."""
     end = words.index("--") if "--" in words else len(words)
     chosen, rest = _parser_of(name).parse_known_args(words[:end])
-    strange = next((word for word in rest if word.startswith("-") and word != "-"), None)
+    below = (value for option, value in zip(words[:end], words[1:end]) if option.startswith("--") and re.match(r"-\d", value))
+    strange = next((word for word in [*below, *rest] if word.startswith("-") and word != "-"), None)
     if strange is not None:
         raise usage(f"unexpected argument '{strange}' found\n\nFor more information, try '--help'.")
     found = _place(name, [*rest, *words[end + 1 :]])
