@@ -305,6 +305,12 @@ class ShellsTest(unittest.TestCase):
     def test_a_watch_that_never_connects(self) -> None:
         self._never_connect("127.0.0.1:1", "failed")
 
+    def test_a_host_that_is_not_found(self) -> None:
+        """It is dialled, and told."""
+        for host in ("nowhere.invalid", "ex\u00e4.invalid:1"):
+            self._never_connect(host, f"dial {host}")
+            self.assertEqual(*(run(host, ["get", "/a", "--wait", "2"]) for run in (self.run_zk, self.run_python)))
+
     def test_a_watch_of_a_server_that_ends_the_connection(self) -> None:
         def serve() -> None:
             with contextlib.suppress(OSError):

@@ -9,6 +9,7 @@ from typing import Any, Callable, NamedTuple, Optional
 from dirwolleu.shell.faults import Dialled
 
 NO_SESSION = "connected, but no session was accepted"
+_NOT_FOUND = "host not found"
 
 _WORDS = {
     "connected, and it has not accepted the session": NO_SESSION,
@@ -79,11 +80,13 @@ class Connections(logging.Handler):
             return None
         unknown = [server for server in self._servers if server == address or server.startswith(f"{address}:")]
         if unknown and not re.search(r":\d+$", address):
-            return Dialled(unknown[0], "host not found")
+            return Dialled(unknown[0], _NOT_FOUND)
         return Dialled(self._address(address), _WORDS.get(why, why))
 
     def _failed(self, trouble: str) -> Said:
         dialled = self.failed(str(trouble))
+        if dialled is not None and dialled.reason == _NOT_FOUND:  # it was looked up to be dialled, and the logger names no dial then
+            self._tell(Said("dial", dialled.address))
         return Said("failed", *dialled) if dialled is not None else Said("failed", "", str(trouble))
 
     def _ended(self, place: object, why: str) -> Said:

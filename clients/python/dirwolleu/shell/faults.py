@@ -21,7 +21,7 @@ from dirwolleu.exceptions import (
     ZookeeperError,
 )
 from dirwolleu.security import AuthFailedError
-from dirwolleu.shell.printing import quoted
+from dirwolleu.shell.printing import quoted, word
 
 DONE, FAULT, USAGE, STREAM, NO_NODE, REFUSED = 0, 1, 2, 4, 5, 6
 UNCONNECTED, UNANSWERED, NEVER_CONNECTED, UNREAD, MORE, INTERRUPTED = 7, 8, 9, 10, 11, 130
@@ -146,4 +146,4 @@ def expired(path: str) -> Ending:
 
 def unconnected(path: str, dialled: list[Dialled]) -> Ending:
     lines = [f"not connected: {path}: no server has answered in time"]
-    return Ending(UNCONNECTED, "\n".join([*lines, *(f"{address}: {reason}" for address, reason in dialled)]))
+    return Ending(UNCONNECTED, "\n".join([*lines, *(f"{word(address)}: {reason}" for address, reason in dialled)]))
