@@ -437,20 +437,20 @@ def texts_of_rust(description: Part, key: str, comment: str) -> Iterator[str]:
 
 
 def advice_of_c(description: Part, _version: str) -> str:
-    """The advice of `session.h`, and its words of codes that the header does not name."""
+    """The advice of the session for C, and its words of codes that the header does not name."""
     lines = []
     for enum, comment in (("result", "about what a function answered"), ("outcome", "where there is no reply")):
         part = named(description, enum)
         advice = texts_in(part, "advice")
         lines += [f"/* What to do {comment}: the empty text where its words say it. */"]
-        lines += [f"static inline const char *dws_advice_of_{enum}(enum dw_{enum} {enum})", "{", f"    switch ({enum}) {{"]
+        lines += [f"static const char *dws_advice_of_{enum}(enum dw_{enum} {enum})", "{", f"    switch ({enum}) {{"]
         lines += [f'    case DW_{prefix_of(part)}{name}: return "{advice.get(name, "")}";' for name in part["numbers"]]
         lines += ["    }", f'    return "{advice["unknown"]}";', "}", ""]
     lines += ["/* Why a server refuses a call, by a code that the header does not name. NULL where there are no words either. */"]
-    lines += ["static inline const char *dws_words_of_other_code(int32_t code)", "{", "    switch (code) {"]
+    lines += ["static const char *dws_words_of_other_code(int32_t code)", "{", "    switch (code) {"]
     lines += [f'    case {number_of(description["other_codes"], name)}: return "{text}";' for name, text in texts_in(description["other_codes"], "words").items()]
     lines += ["    default: return NULL;", "    }", "}", "", "/* What to do where a server refuses a call. */"]
-    lines += ["static inline const char *dws_advice_of_code(int32_t code)", "{", "    switch (code) {"]
+    lines += ["static const char *dws_advice_of_code(int32_t code)", "{", "    switch (code) {"]
     lines += [f'    case {number}: return "{text}";' for number, text in codes_in(description, "advice", "header").items()]
     return "\n".join([*lines, '    default: return "";', "    }", "}"]) + "\n"
 
@@ -568,7 +568,7 @@ MADE_OF: MadeOf = (
     (HEADER, "", header_of),
     ("clients/rust/src/numbers.rs", "", numbers_of_rust),
     ("clients/rust/src/ffi.rs", "// {}", declarations_of_rust),
-    ("clients/c/session.h", "/* {} */", advice_of_c),
+    ("clients/c/src/words.c", "/* {} */", advice_of_c),
     ("clients/python/dirwolleu/_library.py", "# {}", tables_of_python),
     ("clients/python/dirwolleu/_requests.py", "# {}", errors_of_python),
     ("clients/python/dirwolleu/_engine.py", "# {}", events_of_python),

@@ -4,6 +4,10 @@
 #include "session.h"
 #include "measure.h"
 
+#include <stdio.h>
+#include <stdlib.h>
+#include <string.h>
+
 enum { MOST_NODES = 10000 };
 
 static dws_call calls[AT_ONCE];

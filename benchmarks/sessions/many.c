@@ -8,6 +8,9 @@
 #include "../../clients/c/session.h"
 #include "../real/measure.h"
 
+#include <stdio.h>
+#include <stdlib.h>
+#include <string.h>
 #include <sys/epoll.h>
 
 enum { MOST_EVENTS = 1024, MOST_DIALS = 100 /* at once: a server's queue of connections has room for 50 */, LONGEST_WAIT_MS = 300000 };

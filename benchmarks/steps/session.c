@@ -5,6 +5,12 @@
 #include "../../clients/c/session.h"
 #include "../frames.h"
 
+#include <netinet/in.h>
+#include <netinet/tcp.h>
+#include <stdio.h>
+#include <stdlib.h>
+#include <string.h>
+#include <sys/socket.h>
 #include <valgrind/callgrind.h>
 
 enum { STEPS = 500, MOST = 100000, TIMEOUT = 30000, DATA_CHANGED = 3, CONNECTED = 3 };

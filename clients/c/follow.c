@@ -11,6 +11,10 @@
 #include "session.h"
 #include "told.h"
 
+#include <inttypes.h>
+#include <stdio.h>
+#include <stdlib.h>
+
 static const char *path;
 
 static void show(dws_session *session, dws_subject *node)

@@ -7,6 +7,10 @@
 #include "told.h"
 #include "tls.h"
 
+#include <inttypes.h>
+#include <stdio.h>
+#include <stdlib.h>
+
 static void show(dws_session *session, dws_subject *node)
 {
     if (dws_is_good(node)) {

@@ -13,6 +13,9 @@
 #include "session.h"
 
 #include <arpa/inet.h>
+#include <errno.h>
+#include <limits.h>
+#include <sys/socket.h>
 #include <openssl/err.h>
 #include <openssl/ssl.h>
 #include <openssl/x509v3.h>

@@ -4,7 +4,12 @@
 
 #include "session.h"
 
+#include <errno.h>
 #include <signal.h>
+#include <stdio.h>
+#include <stdlib.h>
+#include <string.h>
+#include <unistd.h>
 
 /* Both ends of a pipe, through which a signal wakes poll. */
 static int wakes[2];

@@ -15,6 +15,10 @@
 #include "session.h"
 #include "told.h"
 
+#include <inttypes.h>
+#include <stdio.h>
+#include <stdlib.h>
+
 static void show(dws_session *session, dws_tree *tree)
 {
     char why[DWS_LONGEST_LINE];

@@ -4,6 +4,10 @@
 #define _POSIX_C_SOURCE 200809L
 #include "lock.h"
 
+#include <stdio.h>
+#include <stdlib.h>
+#include <string.h>
+
 static dws_lock lock;
 
 static void print_line(const char *text)

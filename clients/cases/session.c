@@ -4,6 +4,11 @@
 #include "requests.h"
 #include "lock.h"
 
+#include <inttypes.h>
+#include <stdio.h>
+#include <stdlib.h>
+#include <string.h>
+
 enum { MOST_WORDS = 40, MOST_ACLS = 8 };
 
 static dws_call call;

@@ -2,6 +2,12 @@
 #define _POSIX_C_SOURCE 200809L
 #include "session.h"
 
+#include <inttypes.h>
+#include <stdio.h>
+#include <stdlib.h>
+#include <string.h>
+#include <time.h>
+
 enum { MOST = 1000, TIMEOUT_MS = 10000 };
 
 struct member {

@@ -2,6 +2,10 @@
 #define _POSIX_C_SOURCE 200809L
 #include "lock.h"
 
+#include <inttypes.h>
+#include <stdio.h>
+#include <stdlib.h>
+
 static void fail(dws_session *session, dws_lock *lock)
 {
     char why[DWS_LONGEST_LINE];

@@ -2,6 +2,11 @@
 #define _POSIX_C_SOURCE 200809L
 #include "stats.h"
 
+#include <inttypes.h>
+#include <stdio.h>
+#include <stdlib.h>
+#include <time.h>
+
 static dws_subject config;
 static dws_stats stats;
 

@@ -2,6 +2,10 @@
 #define _POSIX_C_SOURCE 200809L
 #include "session.h"
 
+#include <inttypes.h>
+#include <stdio.h>
+#include <stdlib.h>
+
 static dws_subject host, port;
 
 static const char *text(const dws_subject *node)

@@ -2,6 +2,9 @@
 #define _POSIX_C_SOURCE 200809L
 #include "registration.h"
 
+#include <stdio.h>
+#include <stdlib.h>
+
 static void changed(dws_session *session, dws_registration *worker)
 {
     char why[DWS_LONGEST_LINE];

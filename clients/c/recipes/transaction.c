@@ -2,6 +2,9 @@
 #define _POSIX_C_SOURCE 200809L
 #include "requests.h"
 
+#include <stdio.h>
+#include <stdlib.h>
+
 int main(void)
 {
     static dws_request change;

@@ -3,6 +3,12 @@
 #define _POSIX_C_SOURCE 200809L
 #include "served.h"
 
+#include <inttypes.h>
+#include <stdio.h>
+#include <stdlib.h>
+#include <string.h>
+#include <unistd.h>
+
 enum { THROTTLED = -127 };
 
 static dws_call call;

@@ -4,6 +4,10 @@
 #define _POSIX_C_SOURCE 200809L
 #include "../session.h"
 
+#include <stdio.h>
+#include <stdlib.h>
+#include <string.h>
+
 int main(int argc, char **argv)
 {
     static dws_call call;

@@ -1,37 +1,13 @@
 /* Locks at a server that the test is itself, with places below /l. Each way out of a lock, where the connection ends at each request in turn: before the
  * server has done it, or with its answer; once, or at the next request too; or the session expires with it. Then another one takes the lock. And the
  * names of contenders, of one kind and of both. */
-#define _POSIX_C_SOURCE 200809L
-#include <stdbool.h>
-#include <stdlib.h>
-
-/* Requests for memory of the headers: the one of this number is refused, where it is not 0. */
-static long asked_for, refused_at;
-
-static inline bool is_refused(void)
-{
-    return refused_at != 0 && ++asked_for == refused_at;
-}
-
-static inline void *malloc_counted(size_t size)
-{
-    return is_refused() ? NULL : malloc(size);
-}
-
-static inline void *calloc_counted(size_t count, size_t size)
-{
-    return is_refused() ? NULL : calloc(count, size);
-}
-
-static inline void *realloc_counted(void *block, size_t size)
-{
-    return is_refused() ? NULL : realloc(block, size);
-}
-
-#define malloc malloc_counted
-#define calloc calloc_counted
-#define realloc realloc_counted
 #include "served.h"
+
+#include <stdio.h>
+#include <stdlib.h>
+#include <string.h>
+#include <sys/socket.h>
+#include <unistd.h>
 
 enum { MOST_NODES = 8, MOST_TRIES = 100 };
 

@@ -5,6 +5,14 @@
 #include "../requests.h"
 #include "expect.h"
 
+#include <inttypes.h>
+#include <netdb.h>
+#include <stdio.h>
+#include <stdlib.h>
+#include <string.h>
+#include <sys/socket.h>
+#include <unistd.h>
+
 static dws_session *session;
 static dws_request request;
 static char base[64], room[128];

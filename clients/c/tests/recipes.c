@@ -6,8 +6,13 @@
 #include "../election.h"
 #include "../registration.h"
 #include "../semaphore.h"
+#include "../src/internal.h"
 #include "../stats.h"
 #include "expect.h"
+
+#include <stdio.h>
+#include <stdlib.h>
+#include <string.h>
 
 enum { MOST_SESSIONS = 3, BOUND_MS = 60000 };
 

@@ -3,7 +3,11 @@
 #define _POSIX_C_SOURCE 200809L
 #include "served.h"
 
-#include "../requests.h"
+#include <stdio.h>
+#include <stdlib.h>
+#include <string.h>
+#include <unistd.h>
+
 
 /* The most bytes of frames after their lengths, where options name none and as these tests raise them; and of an answer besides its data. */
 enum { LONGEST_REQUEST = 1048575, LONGEST_ANSWER = 4194304, RAISED = 5000000, OF_HEADER = 8, OF_ANSWER = 16 + 4 + 68 };

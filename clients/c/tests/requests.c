@@ -1,30 +1,11 @@
 /* The requests of requests.h, at a server that the test is itself, over 127.0.0.1: it reads each request, and answers in pieces. With `quick` the
  * stream is cut at few places. Frames are spelled by zookeeper.jute. */
-#define _POSIX_C_SOURCE 200809L
-#include <stdint.h>
-#include <stdlib.h>
-
-/* What is freed is looked at, if the test watches it. */
-static struct {
-    const uint8_t *at;
-    size_t length, wiped;
-} watched;
-
-static inline void free_watched(void *block)
-{
-    if (block != NULL && block == watched.at) {
-        watched.wiped = 0;
-        while (watched.wiped < watched.length && watched.at[watched.wiped] == 0) {
-            watched.wiped++;
-        }
-    }
-    free(block);
-}
-
-#define free free_watched
 #include "served.h"
 
-#include "../requests.h"
+#include <stdio.h>
+#include <stdlib.h>
+#include <string.h>
+#include <unistd.h>
 
 enum { BIG = 1 << 20 };
 

@@ -4,6 +4,12 @@
 #include "refusing_heap.h"
 #include "served.h"
 
+#include <stdio.h>
+#include <stdlib.h>
+#include <string.h>
+#include <sys/socket.h>
+#include <unistd.h>
+
 
 enum { PATIENCE_MS = 50 };
 

@@ -1,15 +1,23 @@
 /* A session and a server that is the test itself, over 127.0.0.1: it reads each request, and answers in pieces. Frames are spelled by zookeeper.jute.
- * Time passes by clock.h, where nothing is under way and the session waits for a moment. */
+ * Time passes by stand_ins.h, where nothing is under way and the session waits for a moment. */
 #ifndef DIRWOLLEU_TESTS_SERVED_H
 #define DIRWOLLEU_TESTS_SERVED_H
 
-#include "clock.h"
-
-#include "../lock.h"
+#include "../src/places.h"
 #include "expect.h"
 #include "frames.h"
+#include "stand_ins.h"
 
+#include <errno.h>
+#include <fcntl.h>
+#include <netinet/in.h>
+#include <netinet/tcp.h>
 #include <stdarg.h>
+#include <stdio.h>
+#include <stdlib.h>
+#include <string.h>
+#include <sys/socket.h>
+#include <unistd.h>
 
 enum { SHORT_TURNS = 50, MOST_TURNS = 20000 };
 

@@ -28,8 +28,9 @@ class Short(Case):
         folder = pathlib.Path(OUT) / "short"
         folder.mkdir(exist_ok=True)
         compiler = shlex.split(os.environ.get("CC", "cc"))
-        flags = ["-std=c11", "-O0", f"-I{TOP}/include", f"-I{HERE.parent}", "-x", "c", "-", "-x", "none", f"{TOP}/clients/out/libdirwolleu.a"]
-        subprocess.run([*compiler, *flags, "-o", folder / name], input=text, text=True, check=True)
+        flags = ["-std=c11", "-O0", f"-I{TOP}/include", f"-I{HERE.parent}", "-x", "c", "-", "-x", "none"]
+        libraries = [f"{OUT}/libdirwolleu_session.a", f"{TOP}/clients/out/libdirwolleu.a"]
+        subprocess.run([*compiler, *flags, *libraries, "-o", folder / name], input=text, text=True, check=True)
         return str(folder / name)
 
     def test_no_server(self):

@@ -1,8 +1,9 @@
 /* Numbers and texts as zookeeper.jute spells them in a record, with the highest byte first: for requests.h alone. */
 #ifndef DIRWOLLEU_JUTE_H
+
 #define DIRWOLLEU_JUTE_H
 
-#include "session.h"
+#include "internal.h"
 
 #ifdef __cplusplus
 extern "C" {

@@ -1,0 +1,51 @@
+/* What an observer sees, and the events that a program hears of. */
+#include "internal.h"
+
+static void dws_observe(dws_session *s, const dws_observation *seen)
+{
+    if (s->options.observe != NULL) {
+        s->options.observe(s, seen, s->options.observer);
+    }
+}
+
+static void dws_observe_event(dws_session *s, enum dws_event event, const char *words)
+{
+    dws_observation seen;
+    memset(&seen, 0, sizeof seen);
+    seen.kind = DWS_SAW_EVENT;
+    seen.event = event;
+    seen.cause = s->cause;
+    seen.server = s->server;
+    seen.words = words;
+    s->cause = 0;
+    dws_observe(s, &seen);
+}
+
+void dws_observe_bytes(dws_session *s, enum dws_observed kind, size_t count)
+{
+    dws_observation seen;
+    memset(&seen, 0, sizeof seen);
+    seen.kind = kind;
+    seen.bytes = count;
+    dws_observe(s, &seen);
+}
+
+void dws_observe_answer(dws_session *s, const dws_call *call)
+{
+    dws_observation seen;
+    memset(&seen, 0, sizeof seen);
+    seen.kind = DWS_SAW_ANSWER;
+    seen.call = call;
+    seen.path = call->path != NULL ? dws_inner(s, call->path) : NULL;
+    seen.took_us = s->options.observe != NULL && call->asked_us != 0 ? dws_now_us() - call->asked_us : 0;
+    dws_observe(s, &seen);
+}
+
+void dws_tell(dws_session *s, enum dws_event event, const char *words)
+{
+    dws_observe_event(s, event, words);
+    if (s->options.told != NULL) {
+        dws_mark(s);
+        s->options.told(s, event, s->server, words);
+    }
+}
