@@ -99,6 +99,18 @@ struct dws_wire {
     short wants;                  /* what poll is to wait for, where a callback answers -1 with EAGAIN: POLLIN or POLLOUT; 0 is the usual one */
 };
 
+/* A step of a log-in by SASL, for `log_in` of the options: on each connection the first one has no challenge. */
+typedef struct dws_sasl {
+    const uint8_t *challenge; /* of the server; NULL at the first step of a connection */
+    size_t length;            /* of the challenge */
+    const uint8_t *token;     /* the step sets what is sent, and its length: it stays until the next step */
+    size_t token_length;
+    bool is_over;             /* the step sets it if nothing more is to be sent: the log-in is over */
+    const char *why;          /* why a step answers false, in words: constant */
+    void *state;              /* the steps' own: NULL at the first step of a connection */
+    void (*release)(void *state); /* called with the state when the log-in or the connection ends, if it is not NULL */
+} dws_sasl;
+
 /* How a session is opened. Zeros are the usual way. */
 typedef struct dws_options {
     int32_t timeout_ms;     /* of the session, as it is asked for: 1 to 2147483647; 0 is 10 seconds */
@@ -114,6 +126,10 @@ typedef struct dws_options {
     ssize_t (*read)(dws_wire *wire, void *room, size_t size, void *context);
     ssize_t (*write)(dws_wire *wire, const void *bytes, size_t size, void *context);
     void *context;          /* is passed to read and write; dws_context gives it */
+    /* Logs in by SASL on each connection, before anything else is asked over it. If it answers false, or the server refuses, the session is over as with
+     * credentials that a server does not take. NULL: there is no log-in. */
+    bool (*log_in)(dws_session *session, dws_sasl *step, void *context);
+    void *log_in_context;
     /* Is told what is observed, with `observer`. It looks, and neither asks nor ends anything. */
     void (*observe)(dws_session *session, const dws_observation *seen, void *observer);
     void *observer;

@@ -2,7 +2,7 @@
 #include "internal.h"
 
 /* Makes room for so much that is to be written. What has become too small is overwritten: there may be credentials in it. */
-static bool dws_reserve_unsent(struct dws_bytes *unsent, size_t wanted)
+bool dws_reserve_unsent(struct dws_bytes *unsent, size_t wanted)
 {
     struct dws_bytes grown = {NULL, 0, 0, false};
     if (wanted <= unsent->room) {

@@ -107,10 +107,8 @@ uint64_t dws_credentials_due(const dws_session *s)
 }
 
 /* The servers do not take the credentials of the session: it is over, and nothing of it stays. */
-static void dws_bar(dws_session *s, int32_t code)
+void dws_bar(dws_session *s, int32_t code, const char *words)
 {
-    char words[256];
-    dws_write_code(words, sizeof words, code, NULL);
     s->barred = code;
     dws_be_over(s);
     dws_finish_credentials(s, UINT64_MAX, code);
@@ -129,7 +127,9 @@ void dws_take_introduction(dws_session *s, size_t place, int32_t code)
     }
     dws_call *call = one != NULL ? one->call : NULL;
     if (code != 0) {
-        dws_bar(s, code);
+        char words[256];
+        dws_write_code(words, sizeof words, code, NULL);
+        dws_bar(s, code, words);
     } else if (call != NULL) {
         one->call = NULL;
         dws_finish(s, call, 0);

@@ -94,6 +94,15 @@ struct dws_errand {
     struct dws_errand *next;
 };
 
+/* The log-in by SASL on a connection. */
+struct dws_login {
+    dws_sasl step;
+    struct dws_bytes came, kept; /* a frame that is not whole, and what is kept back from the library */
+    bool is_begun, has_asked;    /* it is not over; the frame that asks for the session may be sent */
+    size_t left;                 /* bytes of those that are not sent yet which may be */
+    int32_t xid;
+};
+
 struct dws_session {
     dw_session machine;
     dws_options options;
@@ -106,6 +115,7 @@ struct dws_session {
     char dialled[DWS_LONGEST_HOST];    /* its name */
     char trouble[256];                 /* what became of the last attempt */
     dws_wire wire;
+    struct dws_login login;
     short read_wants, write_wants;     /* what poll is to wait for besides, to read and to write */
     bool is_dial_due, is_connecting, is_expired, is_closing, is_over, is_resumed;
     bool has_more, has_news;           /* bytes that poll does not tell of, and something that a program may wait for */
@@ -189,6 +199,7 @@ void dws_observe_answer(dws_session *s, const dws_call *call);
 void dws_tell(dws_session *s, enum dws_event event, const char *words);
 
 /* answers.c */
+bool dws_reserve_unsent(struct dws_bytes *unsent, size_t wanted);
 void dws_send_later(dws_session *s, size_t length);
 const char *dws_inner(const dws_session *s, const char *path);
 char *dws_outer(const dws_session *s, const char *path);
@@ -239,6 +250,14 @@ enum dw_result dws_keep_credentials(dws_session *s, const char *scheme, const ch
 void dws_introduce_new(dws_session *s);
 uint64_t dws_credentials_due(const dws_session *s);
 void dws_take_introduction(dws_session *s, size_t place, int32_t code);
+
+void dws_bar(dws_session *s, int32_t code, const char *words);
+
+/* login.c */
+void dws_begin_login(dws_session *s);
+void dws_end_login(dws_session *s);
+size_t dws_may_send(dws_session *s);
+bool dws_log_in(dws_session *s, const uint8_t *bytes, size_t length, struct dws_bytes *passed);
 
 /* hosts.c */
 bool dws_read_string(dws_session *s, const char *text, char *why, size_t size);

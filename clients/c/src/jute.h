@@ -1,6 +1,5 @@
-/* Numbers and texts as zookeeper.jute spells them in a record, with the highest byte first: for requests.h alone. */
+/* Numbers and texts as zookeeper.jute spells them in a record, with the highest byte first: for requests.c, lock.c and login.c. */
 #ifndef DIRWOLLEU_JUTE_H
-
 #define DIRWOLLEU_JUTE_H
 
 #include "internal.h"

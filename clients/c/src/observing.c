@@ -24,6 +24,9 @@ static void dws_observe_event(dws_session *s, enum dws_event event, const char *
 void dws_observe_bytes(dws_session *s, enum dws_observed kind, size_t count)
 {
     dws_observation seen;
+    if (s->options.observe == NULL) {
+        return;
+    }
     memset(&seen, 0, sizeof seen);
     seen.kind = kind;
     seen.bytes = count;
@@ -33,11 +36,14 @@ void dws_observe_bytes(dws_session *s, enum dws_observed kind, size_t count)
 void dws_observe_answer(dws_session *s, const dws_call *call)
 {
     dws_observation seen;
+    if (s->options.observe == NULL) {
+        return;
+    }
     memset(&seen, 0, sizeof seen);
     seen.kind = DWS_SAW_ANSWER;
     seen.call = call;
     seen.path = call->path != NULL ? dws_inner(s, call->path) : NULL;
-    seen.took_us = s->options.observe != NULL && call->asked_us != 0 ? dws_now_us() - call->asked_us : 0;
+    seen.took_us = call->asked_us != 0 ? dws_now_us() - call->asked_us : 0;
     dws_observe(s, &seen);
 }
 

@@ -70,6 +70,7 @@ void dws_hang_up(dws_session *s)
     if (s->wire.state != NULL && s->wire.release != NULL) {
         s->wire.release(s->wire.state);
     }
+    dws_end_login(s);
     close(s->wire.socket);
     s->wire.socket = -1;
     s->wire.state = NULL;

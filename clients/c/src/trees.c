@@ -392,7 +392,7 @@ static uint64_t dws_look_due(const dws_tree *tree)
 /* Looks at trees that are worth it, where a server has accepted the session, and shows what is to be told. */
 void dws_look_at_trees(dws_session *s)
 {
-    bool is_connected = dws_is_connected(s) && !s->is_closing;
+    bool is_connected = s->trees != NULL && dws_is_connected(s) && !s->is_closing;
     for (dws_tree *tree = s->trees; tree != NULL && is_connected && !s->is_over; tree = tree->next) {
         if (dws_look_due(tree) <= s->now_ms) {
             dws_look_at_tree(s, tree);
@@ -406,7 +406,7 @@ void dws_look_at_trees(dws_session *s)
 uint64_t dws_first_look(dws_session *s)
 {
     uint64_t first = UINT64_MAX;
-    bool is_connected = dws_is_connected(s) && !s->is_closing;
+    bool is_connected = s->trees != NULL && dws_is_connected(s) && !s->is_closing;
     for (dws_tree *tree = s->trees; tree != NULL && is_connected; tree = tree->next) {
         first = dws_least(first, dws_look_due(tree));
     }

@@ -76,7 +76,7 @@ int dws_wanted(dws_session *s, struct pollfd *polled)
         dws_work(s);
     }
     polled->fd = s->is_over ? -1 : s->wire.socket;
-    polled->events = (short)(POLLIN | (s->is_connecting ? POLLOUT : s->read_wants) | (s->unsent.length > 0 ? s->write_wants : 0));
+    polled->events = (short)(POLLIN | (s->is_connecting ? POLLOUT : s->read_wants) | (dws_may_send(s) > 0 ? s->write_wants : 0));
     polled->revents = 0;
     if (s->has_news || s->is_over || s->has_more || s->is_dial_due || s->must_follow || s->must_introduce || s->must_list
         || s->subjects[DWS_NAMED].first != NULL || s->subjects[DWS_CHANGED].first != NULL) {

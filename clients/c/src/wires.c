@@ -77,6 +77,7 @@ void dws_finish_connection(dws_session *s)
     s->is_connecting = false;
     s->write_wants = POLLOUT;
     snprintf(s->trouble, sizeof s->trouble, "connected, and it has not accepted the session");
+    dws_begin_login(s);
     dws_act(s, dw_session_opened(&s->machine, s->now_ms));
 }
 
@@ -130,6 +131,19 @@ static void dws_hear(dws_session *s, uint64_t came_ms, const uint8_t *bytes, siz
     }
 }
 
+/* Takes bytes that came: of a connection that logs in, those that are for the library. */
+static void dws_take_bytes_in(dws_session *s, uint64_t came_ms, const uint8_t *bytes, size_t length)
+{
+    struct dws_bytes passed;
+    dws_observe_bytes(s, DWS_SAW_BYTES_IN, length);
+    if (!s->login.is_begun) {
+        dws_hear(s, came_ms, bytes, length);
+    } else if (dws_log_in(s, bytes, length, &passed)) {
+        dws_hear(s, came_ms, passed.at, passed.length);
+        free(passed.at);
+    }
+}
+
 /* Takes what the connection has. */
 void dws_receive(dws_session *s)
 {
@@ -141,8 +155,7 @@ void dws_receive(dws_session *s)
         size = s->large != NULL ? (size_t)DWS_LARGE_PIECE : sizeof piece;
         ssize_t count = dws_read(s, room, size);
         if (count > 0) {
-            dws_observe_bytes(s, DWS_SAW_BYTES_IN, (size_t)count);
-            dws_hear(s, came_ms, room, (size_t)count);
+            dws_take_bytes_in(s, came_ms, room, (size_t)count);
             bool is_full = count == (ssize_t)size;
             s->has_more = s->options.read != NULL || is_full || s->sent.count > 0; /* else poll tells of more */
             s->large = is_full && s->large == NULL ? (uint8_t *)malloc(DWS_LARGE_PIECE) : s->large;
@@ -161,12 +174,14 @@ void dws_receive(dws_session *s)
 /* Writes as much as the connection takes. The rest waits for poll. */
 void dws_transmit(dws_session *s)
 {
-    if (s->unsent.length == 0 || s->is_connecting || s->wire.socket < 0) {
+    size_t may_send = s->is_connecting || s->wire.socket < 0 ? 0 : dws_may_send(s);
+    if (may_send == 0) {
         return;
     }
-    ssize_t count = dws_write(s, s->unsent.at, s->unsent.length);
+    ssize_t count = dws_write(s, s->unsent.at, may_send);
     if (count >= 0) {
         dws_observe_bytes(s, DWS_SAW_BYTES_OUT, (size_t)count);
+        s->login.left -= s->login.is_begun ? (size_t)count : 0;
         s->unsent.length -= (size_t)count;
         memmove(s->unsent.at, s->unsent.at + count, s->unsent.length);
         if (s->credentials != NULL) { /* they may be among it */
