@@ -6,6 +6,7 @@ use crate::hosts::{Addresses, Order};
 use crate::moment::Moment;
 use crate::outbox::{Outbox, Writer, Written};
 use crate::request::Request;
+use crate::sasl::LogInFault;
 use crate::signal::Signal;
 use crate::stats::{CallKind, Observer};
 use crate::stream::{self, Connection, Dial, Incoming, Server};
@@ -465,7 +466,14 @@ impl Keeper {
                     Ok(Heard::Bytes { is_late })
                 }
                 Err(fault) if stream::is_late(&fault) => Ok(Heard::Nothing),
-                Ok(_) | Err(_) => {
+                Ok(_) => {
+                    engine.end()?;
+                    Ok(Heard::End)
+                }
+                Err(fault) => {
+                    if let Some(fault) = LogInFault::of(&fault) {
+                        engine.hear_log_in_fail(fault);
+                    }
                     engine.end()?;
                     Ok(Heard::End)
                 }

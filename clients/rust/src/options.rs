@@ -10,6 +10,7 @@ use crate::local::LocalSession;
 use crate::machine::Limits;
 use crate::outbox::Writer;
 use crate::retry::Retry;
+use crate::sasl::{Begin, LogIn, LoggingIn};
 use crate::saved::SavedSession;
 use crate::session::Session;
 use crate::stats::{Observation, Observer};
@@ -114,6 +115,7 @@ pub struct SessionOptions {
     saved: Option<SavedSession>,
     credentials: Vec<Credential>,
     dial: Box<dyn Dial>,
+    log_in: Option<Begin>,
     observer: Option<Observer>,
     opens_within: Duration,
 }
@@ -134,6 +136,7 @@ impl SessionOptions {
             saved: None,
             credentials: Vec::new(),
             dial: Box::new(Tcp),
+            log_in: None,
             observer: None,
             opens_within: OPENS_WITHIN,
         }
@@ -192,6 +195,30 @@ impl SessionOptions {
     /// forgets its credentials. Credentials cross the network as they are: use TLS.
     pub fn auth(mut self, scheme: &str, credentials: &[u8]) -> SessionOptions {
         self.credentials.push(Credential::new(scheme, credentials));
+        self
+    }
+
+    /// Logs in by SASL on each connection, before anything else is asked over it: `begin` makes a [`LogIn`] for each. If a step fails, or the
+    /// server refuses, the session is over as [`auth`](SessionOptions::auth) says. Tokens cross the network as they are: use TLS.
+    ///
+    /// ```no_run
+    /// use dirwolleu::SessionOptions;
+    /// use std::time::Duration;
+    ///
+    /// # fn main() -> Result<(), Box<dyn std::error::Error>> {
+    /// let options = SessionOptions::new(Duration::from_secs(10)).log_in(|| {
+    ///     |challenge: Option<&[u8]>| Ok(challenge.is_none().then(|| b"\0app\0secret".to_vec()))
+    /// });
+    /// let session = options.open("127.0.0.1:2181")?;
+    /// # Ok(())
+    /// # }
+    /// ```
+    pub fn log_in<F, L>(mut self, mut begin: F) -> SessionOptions
+    where
+        F: FnMut() -> L + Send + 'static,
+        L: LogIn + 'static,
+    {
+        self.log_in = Some(Box::new(move || Box::new(begin())));
         self
     }
 
@@ -298,7 +325,16 @@ impl SessionOptions {
             credentials: self.credentials,
         })?;
         let shared = Shared::new(engine, writer, self.observer);
-        Ok(Keeper::new(shared, self.dial, self.order))
+        let (dial, longest) = (self.dial, self.limits.longest_answer);
+        let dial = match self.log_in {
+            Some(begin) => Box::new(LoggingIn {
+                dial,
+                begin,
+                longest,
+            }),
+            None => dial,
+        };
+        Ok(Keeper::new(shared, dial, self.order))
     }
 }
 

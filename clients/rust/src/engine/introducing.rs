@@ -5,6 +5,7 @@ use crate::credentials::Credential;
 use crate::error::ErrorKind;
 use crate::fault::{Code, Fault, NoReply};
 use crate::moment::Moment;
+use crate::sasl::LogInFault;
 use crate::stats::ConnectionEnd;
 use crate::told::{Event, Found};
 
@@ -49,6 +50,16 @@ impl Engine {
         }
         for ticket in self.credentials.accept(place) {
             self.calls.end(ticket, Ok(Found::default()));
+        }
+    }
+
+    /// The log-in by SASL on this connection has failed. A refusal ends the session.
+    pub(crate) fn hear_log_in_fail(&mut self, fault: &LogInFault) {
+        if let Some(address) = self.address {
+            self.note_attempt(format!("{address}: {fault}"));
+        }
+        if fault.is_refusal {
+            self.bar();
         }
     }
 

@@ -51,6 +51,7 @@ mod cuts;
 mod limits;
 mod lock_cuts;
 mod locks;
+mod logins;
 mod machines;
 mod messages;
 mod observed;
