@@ -1,14 +1,16 @@
 //! When a connection is asked for, at which address, and when an attempt is given up.
 
-ghost use Rattle.std.specs.Prelude.{◌≡◌, Bool, true, false, is_some, IfOk, OnOk, OnErr};
+ghost use Rattle.std.specs.Prelude.{◌≡◌, ◌≤◌, ◌+◌, Bool, true, false, is_some, length, IfOk, OnOk, OnErr};
 ghost use Rattle.std.specs.List.Sorted.{IsPermutation};
 ghost use Rattle.zk_dialler.specs.Backoffs.{connected_at, row_ended};
-ghost use Rattle.zk_dialler.specs.Chances.{state_after};
+ghost use Rattle.zk_dialler.specs.Chances.{next_state, state_after};
 ghost use Rattle.zk_dialler.specs.Dialling.{first_moment, is_due, is_open, Ends, Opens, DialsWell};
+ghost use Rattle.zk_dialler.specs.Moves.{moves_by, order_of, tries_kept};
 ghost use Rattle.zk_dialler.specs.Orders.{numbers, shuffled};
 
 use crate::backoff::Backoff;
 use crate::chance::Chance;
+use crate::moves::{are_kept_first, is_to_move};
 use crate::ring::Ring;
 use std::alloc::{AllocError, Allocator, Global};
 
@@ -41,6 +43,59 @@ pub struct Dialler<A: Allocator = Global> {
     ring: Ring<A>,
     backoff: Backoff,
     phase: Phase,
+}
+
+impl<A: Allocator + Copy> Dialler<A> {
+    /// Another list: its first addresses, as many as `kept`, were in the list before, and as many as `added`, after them, were not.
+    /// `is_listed` says whether it has the server of the connection, or else the one that was dialled last.
+    ///
+    /// The answer is whether the session moves, so that servers that were added get their share: the caller then ends a connection or an
+    /// attempt that is on. If its server is in both lists, the session moves by the chance by which the list has grown, and stays if it has
+    /// not; if its server has left, it moves. One that moves dials the new addresses first if the list has grown; else those of one group,
+    /// by a chance that levels the load. So do ZooKeeper's own clients.
+    ///
+    /// Nothing else changes here: the connection, the attempt and the row of failures are as they were. An error means that memory ran out,
+    /// and nothing has changed then.
+    pub fn change_addresses(
+        &mut self,
+        alloc: A,
+        kept: usize,
+        added: usize,
+        is_listed: bool,
+    ) -> Result<bool, AllocError>
+        ensures moves { IfOk result (λ moves. moves
+            ≡ moves_by (length self.old.ring.order.items) (kept + added) is_listed (next_state self.old.backoff.chance.state)) }
+        ensures leaves { IfOk result (λ moves. is_listed ≡ false → moves ≡ true) }
+        ensures stays { IfOk result (λ moves. is_listed ≡ true → kept + added ≤ length self.old.ring.order.items → moves ≡ false) }
+        ensures order { IfOk result (λ moves.
+            let shuffle = next_state self.old.backoff.chance.state in
+            let group = next_state (state_after (kept + added) shuffle) in
+            self.new.ring.order.items ≡ order_of moves (tries_kept (length self.old.ring.order.items) kept (kept + added) group) kept
+            (shuffled shuffle (kept + added) (numbers (kept + added)))) }
+        ensures each { OnOk result (IsPermutation (numbers (kept + added)) self.new.ring.order.items) }
+        ensures first { OnOk result (self.new.ring.next ≡ 0) }
+        ensures phase { OnOk result (self.new.phase ≡ self.old.phase) }
+        ensures backoff { OnOk result (self.new.backoff ≡ record self.old.backoff {
+          chance = record {
+            state = next_state (next_state (state_after (kept + added) (next_state self.old.backoff.chance.state)));
+          };
+        }) }
+        ensures same { OnErr result (self.new ≡ self.old) }
+    {
+        let Some(count) = kept.checked_add(added) else {
+            return Err(AllocError);
+        };
+        let before = self.ring.count();
+        let mut chance = self.backoff.chance;
+        chance.advance();
+        let moves = is_to_move(before, count, is_listed, chance);
+        let ring = Ring::new(alloc, count, &mut chance)?;
+        chance.advance();
+        let kept_first = are_kept_first(before, kept, count, &mut chance);
+        self.ring = ring.regrouped(alloc, moves, kept, kept_first)?;
+        self.backoff.chance = chance;
+        Ok(moves)
+    }
 }
 
 impl<A: Allocator> Dialler<A> {

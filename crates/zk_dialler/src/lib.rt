@@ -10,6 +10,7 @@
 mod backoff;
 mod chance;
 mod dialler;
+mod moves;
 mod pause;
 mod ring;
 

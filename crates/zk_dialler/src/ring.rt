@@ -1,8 +1,10 @@
 //! The places of the addresses, in a random order.
 
-ghost use Rattle.std.specs.Prelude.{◌≡◌, ◌+◌, length, is_some, not, IfSome, IfOk, IfErr, None, slice_index};
+ghost use Rattle.std.specs.Prelude.{◌≡◌, ◌+◌, ◌++◌, Bool, true, false, length, is_some, not, IfSome, IfOk, IfErr, OnOk, None, slice_index};
+ghost use Rattle.std.specs.List.{filter};
 ghost use Rattle.std.specs.List.Sorted.{IsPermutation};
 ghost use Rattle.zk_dialler.specs.Chances.{state_after};
+ghost use Rattle.zk_dialler.specs.Moves.{grouped, is_ahead, order_of};
 ghost use Rattle.zk_dialler.specs.Orders.{is_empty_list, numbers, shuffled, turn_at};
 
 use crate::chance::Chance;
@@ -40,6 +42,53 @@ fn shuffle(order: &mut [usize], chance: &mut Chance)
         let place = chance.below(left as u64) as usize;
         order.swap(left - 1, place);
         left -= 1;
+    }
+}
+
+/// Whether a place is in the group that is tried first.
+fn is_ahead(kept: usize, kept_first: bool, place: usize) -> bool
+    ensures { result ≡ is_ahead kept kept_first place }
+{
+    (place < kept) == kept_first
+}
+
+/// Adds those places that are in one of the groups.
+fn add_group<A: Allocator>(
+    kept: usize,
+    kept_first: bool,
+    places: &[usize],
+    order: &mut Vec<usize, A>,
+) -> Result<(), AllocError>
+    ensures { OnOk result (order.new.items ≡ order.old.items ++ filter (is_ahead kept kept_first) places.now) }
+{
+    for place in places {
+        if is_ahead(kept, kept_first, *place) {
+            order.push(*place)?;
+        }
+    }
+    Ok(())
+}
+
+impl<A: Allocator + Copy> Ring<A> {
+    /// The same for a session that moves or stays: if it moves, the places below `kept` come before the others, or after them.
+    pub(crate) fn regrouped(
+        self,
+        alloc: A,
+        moves: bool,
+        kept: usize,
+        kept_first: bool,
+    ) -> Result<Ring<A>, AllocError>
+        ensures order { IfOk result (λ ring. ring.order.items ≡ order_of moves kept_first kept self.order.items) }
+        ensures each { IfOk result (λ ring. IsPermutation self.order.items ring.order.items) }
+        ensures first { IfOk result (λ ring. self.next ≡ 0 → ring.next ≡ 0) }
+    {
+        if !moves {
+            return Ok(self);
+        }
+        let mut order = Vec::new(alloc);
+        add_group(kept, kept_first, self.order.as_slice(), &mut order)?;
+        add_group(kept, !kept_first, self.order.as_slice(), &mut order)?;
+        Ok(Ring { order, next: 0 })
     }
 }
 

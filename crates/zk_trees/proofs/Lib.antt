@@ -4,7 +4,9 @@ mod Finding
 mod Going
 mod Indexing
 pub mod Growing
+mod Noting
 mod Resting
+mod Searching
 mod Shifting
 mod Tended
 mod Tending

@@ -11,6 +11,7 @@ use Rattle.zk_trees.specs.Trees.{AreWanted, Wants}
 use Rattle.zk_trees.specs.Tending.{is_none, lacks_nothing, tells, Bed, Footing, Grows, IsBounded, IsWhole, Joins, LetsAllGo, NotesBound}
 use Rattle.zk_trees.specs.Tending.{NotesBoundWhere, PlantsBed, TakesAllOn, TakesOn, TakesOnWhere, TellsWhole, TendsOneWhere, TendsTree}
 use Rattle.zk_trees.specs.declared.tree.Trees.{Trees}
+use Rattle.zk_trees.proofs.Going.{none_gone}
 use Rattle.zk_trees.specs.Tending.{due_after, TendsEach, TendsWhere}
 use Rattle.zk_trees.specs.Tending.{bed_of, footing_in, seed_of, trees_told, LeavesAll, LeavesIt, LetsGo, TreeTold}
 use Rattle.zk_trees.specs.inner.Tending.{footing_of}
@@ -209,6 +210,14 @@ ok_lets {A} (Ok x) bed new members tickets are all leaves =
     (subst (λ ms. FoldsTo (λ at ticket after. LeavesIt ticket at after) (record bed { members = ms }) tickets last) are
     (bed_leaves tickets (record bed { members = members }) new leaves))
 ok_lets (Err e) bed new members tickets are all leaves = tt
+
+pub lets_none : {A : Type 0} (bed : Bed A) (tickets : List ℕ) → tickets ≡ trees.tickets_gone bed.footing.view bed.members
+    → length tickets ≡ 0 → LetsAllGo bed bed
+lets_none {A} bed [] all none =
+    subst (λ ts. FoldsTo (λ at ticket after. LeavesIt ticket at after)
+    (record bed { members = filter (trees.stays bed.footing.view) bed.members }) ts bed) all
+    (ap (λ ms. record bed { members = ms }) (none_gone bed.footing.view bed.members (ap length (sym all))))
+lets_none bed (ticket ∷ tickets) all none = absurd (omega (arith, none))
 
 -- A ledger begins with what the trees have.
 pub begun_footing : {A : Type 0} (trees : Trees A) (follower : Follower A) (ledger : Ledger A)

@@ -4,10 +4,12 @@ ghost use Rattle.std.specs.Prelude.{◌≡◌, ◌&&◌, not};
 ghost use Rattle.zk_trees.specs.Trees.{wants_of};
 ghost use Rattle.zk_trees.specs.Tending.{is_none, is_same, lacks_nothing};
 
-use crate::index::{Index, index_of};
+use crate::index::{Index, add_member, index_for, is_settled};
 use crate::leaving::{drop_gone, tickets_gone, tickets_of};
+use crate::member::member_of;
+use crate::order::tickets_rise;
 use crate::subject::{NodeSide, copy_of};
-use crate::tree::{Tree, TreeNews, member_of};
+use crate::tree::{Tree, TreeNews};
 use crate::wanting::{Wanted, wanted_at};
 use std::alloc::{AllocError, Allocator};
 use zk_client::{Path, Side};
@@ -48,7 +50,7 @@ impl<A: Allocator + Copy> Ledger<A> {
     ghost use Rattle.zk_follow.specs.declared.subject.Subject.{Subject};
     ghost use Rattle.zk_trees.specs.declared.member.Member.{Member};
     ghost use Rattle.zk_trees.specs.Trees.{aim_of, aims_of};
-    ghost use Rattle.zk_trees.specs.inner.Trees.{IsIndexOf};
+    ghost use Rattle.zk_trees.specs.inner.Trees.{IsIndexIfMade};
     ghost use Rattle.zk_trees.specs.Tending.{bed_of, tells, tree_told, trees_told, IsBounded, IsWhole, LetsGo, TakesOn};
     ghost use Rattle.zk_trees.specs.inner.Tending.{footing_of};
     ghost use Rattle.zk_trees.specs.Tending.{Grows, Joins, LetsAllGo, NotesBound, PlantsBed, TakesAllOn, TakesItOn, TellsWhole};
@@ -162,29 +164,31 @@ impl<A: Allocator + Copy> Ledger<A> {
         ensures client { follower.new.client ≡ follower.old.client }
     {
         let one = member_of(self.alloc, ticket, subject, is_found)?;
+        let rise = tickets_rise(tree.members.as_slice(), tree.tickets_rise, &one);
         tree.members.push(one)?;
+        tree.tickets_rise = rise;
         self.follow(follower, tree.ticket, ticket, subject)
     }
 
-    /// Follows a side of a node that was found, where it is not settled. The index is one of the tree's members.
+    /// Follows a side of a node that was found, where it is not settled. The index is one of the tree's members, if it was made.
     fn take_on(
         &mut self,
         follower: &mut Follower<A>,
         subject: &NodeSide<A>,
-        index: &mut Index<A>,
+        index: &mut Option<Index<A>>,
         tree: &mut Tree<A>,
     ) -> Result<(), AllocError>
-        requires { IsIndexOf index.old tree.old.members.items }
+        requires { IsIndexIfMade index.old tree.old.members.items }
         ensures takes { OnOk result (TakesItOn (aim_of subject.now)
             (bed_of (footing_of follower.old self.old) tree.old) (bed_of (footing_of follower.new self.new) tree.new)) }
-        ensures index { OnOk result (IsIndexOf index.new tree.new.members.items) }
+        ensures index { OnOk result (IsIndexIfMade index.new tree.new.members.items) }
         ensures client { follower.new.client ≡ follower.old.client }
     {
-        if index.is_settled(follower.client(), subject) {
+        if is_settled(index, tree.members.as_slice(), follower.client(), subject) {
             return Ok(());
         }
         let ticket = self.take()?;
-        index.add(subject)?;
+        add_member(index, subject)?;
         self.join(follower, ticket, subject, true, tree)
     }
 
@@ -193,10 +197,10 @@ impl<A: Allocator + Copy> Ledger<A> {
         &mut self,
         follower: &mut Follower<A>,
         subjects: &[NodeSide<A>],
-        index: &mut Index<A>,
+        index: &mut Option<Index<A>>,
         tree: &mut Tree<A>,
     ) -> Result<(), AllocError>
-        requires { IsIndexOf index.old tree.old.members.items }
+        requires { IsIndexIfMade index.old tree.old.members.items }
         ensures takes { OnOk result (TakesAllOn (aims_of subjects.now)
             (bed_of (footing_of follower.old self.old) tree.old) (bed_of (footing_of follower.new self.new) tree.new)) }
         ensures client { follower.new.client ≡ follower.old.client }
@@ -207,7 +211,7 @@ impl<A: Allocator + Copy> Ledger<A> {
         Ok(())
     }
 
-    /// Takes on each of these, in order. Members are found by an index, which is made of them where something is wanted.
+    /// Takes on each of these, in order. Members are found by an index of them, if many are wanted.
     fn take_all_on(
         &mut self,
         follower: &mut Follower<A>,
@@ -221,7 +225,7 @@ impl<A: Allocator + Copy> Ledger<A> {
         if is_none(subjects) {
             return Ok(());
         }
-        let mut index = index_of(self.alloc, tree.members.as_slice())?;
+        let mut index = index_for(self.alloc, tree.members.as_slice(), subjects.len())?;
         self.take_each_on(follower, subjects, &mut index, tree)
     }
 
@@ -270,6 +274,9 @@ impl<A: Allocator + Copy> Ledger<A> {
         ensures client { follower.new.client ≡ follower.old.client }
     {
         let tickets = tickets_gone(self.alloc, follower.client(), tree.members.as_slice())?;
+        if tickets.is_empty() {
+            return Ok(());
+        }
         drop_gone(follower.client(), &mut tree.members);
         self.leave_all(follower, tree.ticket, tickets.as_slice())
     }

@@ -12,6 +12,7 @@ mod index;
 mod leaving;
 mod ledger;
 mod member;
+mod order;
 mod subject;
 mod tree;
 mod trees;

@@ -2,10 +2,12 @@
 
 ghost use Rattle.std.specs.Prelude.{◌≡◌, ◌==◌, map, nat_eq};
 ghost use Rattle.std.specs.List.{list_any, starts_with};
-ghost use Rattle.zk_trees.specs.Tending.{due_after, has_ticket, is_any_behind, noted_report, noted_shown, sides_in};
+ghost use Rattle.zk_trees.specs.Tending.{bed_of, due_after, found, is_any_behind, left, noted_report, noted_shown, seed_of, sides_in};
+ghost use Rattle.zk_trees.specs.Tending.{Footing};
 
 use crate::ledger::Ledger;
-use crate::member::Member;
+use crate::order::has_ticket;
+use crate::subject::copy_of;
 use crate::tree::{Tree, TreeNews, Trees};
 use std::alloc::{AllocError, Allocator};
 use zk_client::Path;
@@ -39,13 +41,6 @@ fn is_any_behind<A: Allocator>(trees: &[Tree<A>]) -> bool
     trees.iter().any(|tree| tree.is_behind)
 }
 
-/// Whether one of these members has this ticket.
-fn has_ticket<A: Allocator>(members: &[Member<A, ()>], ticket: u64) -> bool
-    ensures { result ≡ has_ticket ticket members.now }
-{
-    members.iter().any(|one| one.ticket == ticket)
-}
-
 /// Whether a text begins with another.
 fn begins_with(text: &str, beginning: &str) -> bool
     ensures { result ≡ starts_with nat_eq text.now beginning.now }
@@ -57,7 +52,7 @@ fn begins_with(text: &str, beginning: &str) -> bool
 fn note_shown<A: Allocator>(tree: &mut Tree<A>, ticket: u64)
     ensures { tree.new ≡ noted_shown ticket tree.old }
 {
-    if !tree.is_behind && has_ticket(tree.members.as_slice(), ticket) {
+    if !tree.is_behind && has_ticket(tree.members.as_slice(), tree.tickets_rise, ticket) {
         tree.is_behind = true;
     }
 }
@@ -89,17 +84,57 @@ fn note_each_report<A: Allocator>(trees: &mut [Tree<A>], path: &str)
     }
 }
 
+/// Takes the first tree of this ticket out, where there is one.
+fn take_out<A: Allocator>(trees: &mut Vec<Tree<A>, A>, ticket: u64) -> Option<Tree<A>>
+    ensures found { result ≡ found ticket trees.old.items }
+    ensures left { trees.new.items ≡ left ticket trees.old.items }
+{
+    for index in 0..trees.len() {
+        let is_it = trees[index].ticket == ticket;
+        if is_it {
+            return Some(trees.remove(index));
+        }
+    }
+    None
+}
+
+impl<A: Allocator + Copy> Tree<A> {
+    ghost use Rattle.std.specs.Prelude.{◌≡◌, false, IfOk};
+
+    /// A tree of nothing yet. An error means that memory ran out.
+    pub(crate) fn new(
+        alloc: A,
+        ticket: u64,
+        root: &Path<A>,
+        most: u64,
+    ) -> Result<Tree<A>, AllocError>
+        ensures seed { IfOk result (λ tree. (footing : Footing A) → bed_of footing tree ≡ seed_of footing ticket root.now most) }
+        ensures rests { IfOk result (λ tree. tree.is_behind ≡ false) }
+    {
+        let root = copy_of(alloc, root)?;
+        Ok(Tree {
+            ticket,
+            root,
+            most,
+            is_bounded: false,
+            is_behind: false,
+            members: Vec::new(alloc),
+            tickets_rise: true,
+        })
+    }
+}
+
 impl<A: Allocator + Copy> Trees<A> {
-    ghost use Rattle.std.specs.Prelude.{◌≡◌, ◌<◌, ◌^◌, [], ℕ, false, map, true, None, IfOk, IfSome, OnOk};
+    ghost use Rattle.std.specs.Prelude.{◌≡◌, ◌<◌, [], ℕ, false, map, true, None, IfOk, IfSome, OnOk};
     ghost use Rattle.zk_trees.specs.Tending.{are_at_rest, due_after, footing_in, noted_report, noted_shown};
     ghost use Rattle.zk_trees.specs.inner.Tending.{footing_of};
-    ghost use Rattle.zk_trees.specs.Tending.{Plants, Tends, TendsEach, Uproots, UprootsSo, found, left, shifted_by, trees_told};
+    ghost use Rattle.zk_trees.specs.Tending.{Plants, Tends, TendsEach, Uproots, UprootsSo, shifted_by, trees_told};
 
     /// Whether trees rest at this moment.
     fn are_at_rest(&self, now: u64) -> bool
         ensures { result ≡ are_at_rest now self.now }
     {
-        !is_any_behind(self.all.as_slice()) || now < self.due
+        !self.is_behind || now < self.due
     }
 
     /// Tends each tree.
@@ -114,9 +149,10 @@ impl<A: Allocator + Copy> Trees<A> {
         ensures due { OnOk result (self.new.due ≡ due_after now self.new.all.items) }
         ensures client { follower.new.client ≡ follower.old.client }
     {
-        ledger.tend_each(follower, self.all.as_mut_slice())?;
+        let tended = ledger.tend_each(follower, self.all.as_mut_slice());
+        self.is_behind = is_any_behind(self.all.as_slice());
         self.due = due_after(now, self.all.as_slice());
-        Ok(())
+        tended
     }
 
     /// Tends each tree that may be another one since it was tended last, where they are due: what is gone is let go, and what good names
@@ -179,7 +215,9 @@ impl<A: Allocator + Copy> Trees<A> {
             (λ all. follower.new.subjects.items ≡ shifted_by (trees_told all.items) follower.old.subjects.items) }
         ensures client { follower.new.client ≡ follower.old.client }
     {
-        let Some(tree) = self.take_out(ticket) else {
+        let taken = take_out(&mut self.all, ticket);
+        self.is_behind = is_any_behind(self.all.as_slice());
+        let Some(tree) = taken else {
             return Ok(Vec::new(self.alloc));
         };
         let mut ledger = Ledger::begin(self.alloc, self.next);
@@ -196,6 +234,7 @@ impl<A: Allocator + Copy> Trees<A> {
         ensures due { self.new.due ≡ self.old.due }
     {
         note_each_shown(self.all.as_mut_slice(), ticket);
+        self.is_behind = is_any_behind(self.all.as_slice());
     }
 
     /// Notes that this path is reported.
@@ -205,6 +244,7 @@ impl<A: Allocator + Copy> Trees<A> {
         ensures due { self.new.due ≡ self.old.due }
     {
         note_each_report(self.all.as_mut_slice(), path);
+        self.is_behind = is_any_behind(self.all.as_slice());
     }
 
     /// The first moment at which trees are to be tended. It may be past, and there is none where all rest.
@@ -213,7 +253,7 @@ impl<A: Allocator + Copy> Trees<A> {
         ensures due { IfSome result (λ first. are_at_rest first self.now ≡ false) }
         ensures never { result ≡ None → (moment : ℕ) → are_at_rest moment self.now ≡ true }
     {
-        if is_any_behind(self.all.as_slice()) {
+        if self.is_behind {
             return Some(self.due);
         }
         None

@@ -1,9 +1,9 @@
--- Where nothing is wanted nothing is taken on (`none_taken`); else `index_of` makes the index that `take_each_on` requires.
+-- Where nothing is wanted nothing is taken on (`none_taken`); else `index_for` makes the index that `take_each_on` requires.
 use Rattle.std.proofs.Common.{List, subst, sym, ◌∙◌}
 use Rattle.std.specs.Prelude.{⊤}
 use Rattle.zk_trees.specs.Tending.{bed_of}
 use Rattle.zk_trees.specs.inner.Tending.{footing_of}
-use Rattle.zk_trees.specs.inner.Trees.{IsIndexOf}
+use Rattle.zk_trees.specs.inner.Trees.{IsIndexIfMade}
 use Rattle.zk_trees.specs.declared.member.Member.{Member}
 use Rattle.zk_trees.proofs.Tending.{none_taken}
 use Rattle.zk_trees.proofs.ledger.Ledger.take_all_on.Goals as goal
@@ -15,4 +15,4 @@ returns-then-is_none-clause-takes g c =
 
 pub take_each_on-requires : goal.take_each_on-requires
 take_each_on-requires g c =
-    subst (λ (l : List (Member g.row.A.Denot ⊤)). IsIndexOf c.in_ok-index.index l) c.as_slice.ensures.value c.in_ok-index.ensures
+    subst (λ (l : List (Member g.row.A.Denot ⊤)). IsIndexIfMade c.in_ok-index.index l) c.as_slice.ensures.value c.in_ok-index.ensures

@@ -1,10 +1,8 @@
--- What an index of the members says is what the members say. So a settled subject leaves all as it is (`settled`); any other joins
--- (`ok_taken`), and is in the index that has it added (`indexed_push`).
-use Rattle.std.proofs.Common.{◌≡◌, ◌∙◌, ap, sym}
-use Rattle.std.specs.Prelude.{◌||◌}
+-- A settled subject leaves all as it is (`settled`); any other joins (`ok_taken`), and is in the index that has it added.
+use Rattle.std.proofs.Common.{◌≡◌, ◌∙◌, List, ap, sym}
+use Rattle.std.specs.Prelude.{⊤}
 use Rattle.zk_client.specs.Clients.{view_of}
-use Rattle.zk_follow.specs.Following.{is_kept, says_none}
-use Rattle.zk_trees.proofs.Indexing.{indexed_push}
+use Rattle.zk_trees.specs.declared.member.Member.{Member}
 use Rattle.zk_trees.proofs.Tending.{ok_so, ok_taken, settled}
 use Rattle.zk_trees.specs.Tending.{bed_of}
 use Rattle.zk_trees.specs.inner.Tending.{footing_of}
@@ -17,8 +15,8 @@ returns-then-is_settled-clause-takes g c =
     let view = view_of c.args.follower.now.client in
     let aim = aim_of c.args.subject.now in
     let is : c.is_settled.result ≡ is_settled view aim members =
-    c.is_settled.ensures ∙ ap (λ b. b || is_kept says_none ((view_of c.client.result.now).cache.nodes aim.1)) (c.requires aim)
-    ∙ ap (λ v. is_settled v aim members) c.client.ensures in
+    c.is_settled.ensures ∙ ap (λ v. is_settled v aim c.as_slice.result.now) c.client.ensures
+    ∙ ap (λ (ms : List (Member g.row.A.Denot ⊤)). is_settled view aim ms) c.as_slice.ensures.value in
     settled (is_settled view aim members) aim (bed_of (footing_of c.args.follower.now c.args.self.now) c.args.tree.now)
     (sym is ∙ c.if-is_settled.true)
 
@@ -28,8 +26,8 @@ returns-clause-takes g c =
     let view = view_of c.args.follower.now.client in
     let aim = aim_of c.args.subject.now in
     let is : c.is_settled.result ≡ is_settled view aim members =
-    c.is_settled.ensures ∙ ap (λ b. b || is_kept says_none ((view_of c.client.result.now).cache.nodes aim.1)) (c.requires aim)
-    ∙ ap (λ v. is_settled v aim members) c.client.ensures in
+    c.is_settled.ensures ∙ ap (λ v. is_settled v aim c.as_slice.result.now) c.client.ensures
+    ∙ ap (λ (ms : List (Member g.row.A.Denot ⊤)). is_settled view aim ms) c.as_slice.ensures.value in
     ok_taken c.join.result (is_settled view aim members) aim (bed_of (footing_of c.args.follower.now c.args.self.now) c.args.tree.now)
     (bed_of (footing_of c.join.new.follower c.join.new.self) c.join.new.tree) c.in_ok-ticket.ticket
     (footing_of c.args.follower.now c.take.new.self) (sym is ∙ c.if-is_settled.false) c.in_ok-ticket.ensures.ticket
@@ -37,5 +35,5 @@ returns-clause-takes g c =
 
 pub returns-clause-index : goal.returns-clause-index
 returns-clause-index g c =
-    ok_so c.join.result (λ one. indexed_push c.args.index.now c.add.new.self c.args.tree.now.members.items c.join.new.tree.members.items
-    c.args.subject.now one.0 one.1 one.2 c.in_ok-add.ensures c.requires) c.join.ensures.member
+    ok_so c.join.result (λ one. c.in_ok-add_member.ensures c.args.tree.now.members.items c.join.new.tree.members.items one.0 one.1 one.2
+    c.requires) c.join.ensures.member
