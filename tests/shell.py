@@ -6,7 +6,7 @@ import os
 import subprocess
 from pathlib import Path
 from subprocess import PIPE
-from typing import Any, Callable, Sequence
+from typing import Any, Callable, Mapping, Sequence
 
 TOP = Path(__file__).resolve().parents[1]
 PLACES = (TOP / "prebuilt" / "x86_64-linux" / "zk_shell", TOP / "crates" / "zk_shell" / "out" / "zk_shell")
@@ -20,12 +20,19 @@ def program() -> str | None:
     return named or next((str(place) for place in PLACES if place.is_file()), None)
 
 
-def outcome(words: Sequence[str | bytes], given: bytes | int = b"", before: Callable[[], None] | None = None, out: int = PIPE) -> str:
+def outcome(
+    words: Sequence[str | bytes],
+    given: bytes | int = b"",
+    before: Callable[[], None] | None = None,
+    out: int = PIPE,
+    beside: Mapping[str, str] | None = None,
+) -> str:
     """Runs a command line over this standard input, bytes or a file, and answers `PRINTED|TOLD|STATUS`, of which nothing is printed that goes to
-    a file. `before` is called in the process."""
+    a file. `before` is called in the process, whose environment has the variables of `beside` too."""
     command = program()
     if command is None:
         raise FileNotFoundError(f"there is no {PLACES[0]}: build zk_shell, or name it by DIRWOLLEU_ZK_SHELL")
     source: dict[str, Any] = {"stdin": given} if isinstance(given, int) else {"input": given}
+    source["env"] = {**os.environ, **(beside or {})}
     done = subprocess.run([command, *words], stdout=out, stderr=PIPE, timeout=BOUND, preexec_fn=before, **source)
     return f"{(done.stdout or b'').decode()}|{done.stderr.decode()}|{done.returncode}"

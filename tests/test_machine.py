@@ -5,9 +5,13 @@ Steps have the names of include/dirwolleu.h. The wanted lines follow from the he
 
 from __future__ import annotations
 
+import os
 import struct
+import subprocess
+import tempfile
 import unittest
 from ctypes import byref, c_int64, create_string_buffer
+from pathlib import Path
 from typing import Any, Callable
 
 from machine import (
@@ -20,10 +24,14 @@ from machine import (
     text_line,
     word_of,
 )
-from tables import Row, bytes_of, cases_of
+from outside import COMPILER, lacks_compiler
+from shell import TOP
+from tables import HERE, Row, bytes_of, cases_of
 
 from dirwolleu import _library as declared  # machine has put it on the path
+from dirwolleu.testing import _library as bench
 
+ARCHIVE = Path(os.environ.get("DIRWOLLEU_ARCHIVE", TOP / "prebuilt/x86_64-linux/libffi_c.a"))
 TIMEOUT_MS = 9_000
 APART_MS = 100
 """From one step to the next where rows have no moment: no ping is due in the session."""
@@ -263,8 +271,39 @@ class SpelledPlay(SessionPlay):
         return lines
 
 
+class ServerPlay:
+    """A server in memory. Each step is answered by what is sent then."""
+
+    CHANGES = {"made": bench.MADE, "written": bench.WRITTEN}
+
+    def __init__(self) -> None:
+        self._server, self._now = Server(), 0
+
+    def play(self, words: list[str]) -> list[str]:
+        self._step(*words)
+        said = self._server.say()
+        return [said.hex()] if said else []
+
+    def _step(self, name: str, *rest: str) -> None:
+        server = self._server
+        if name in self.CHANGES:
+            data = bytes.fromhex(rest[1].strip("'"))
+            server.change(self._now, self.CHANGES[name], rest[0], data, *map(int, rest[2:]))
+        elif name == "send":
+            payload = bytes.fromhex(rest[0])
+            for piece in (struct.pack(">i", len(payload)), payload):
+                server.hear(piece)
+                server.process(self._now)
+        elif name == "now":
+            self._now = int(rest[0])
+        elif name == "expire":
+            server.expire(True)
+        else:
+            getattr(server, name)(*map(int, rest))
+
+
 class MachineTest(unittest.TestCase):
-    def _rows(self, table: str, rows: list[Row], play: KeptPlay | SessionPlay, beside: str = "") -> None:
+    def _rows(self, table: str, rows: list[Row], play: KeptPlay | SessionPlay | ServerPlay, beside: str = "") -> None:
         for row in rows:
             self.assertEqual(row.wanted, play.play(row.words), f"{table}:{row.line}: {' '.join(row.words)}{beside}")
 
@@ -278,9 +317,50 @@ class MachineTest(unittest.TestCase):
         for case in cases_of("machine/sessions.txt"):
             self._rows("machine/sessions.txt", case.rows, ServedPlay())
 
+    def test_servers(self) -> None:
+        for case in cases_of("machine/served.txt"):
+            self._rows("machine/served.txt", case.rows, ServerPlay())
+
     def test_requests_that_callers_spell(self) -> None:
         for case in cases_of("machine/raw_requests.txt"):
             self._rows("machine/raw_requests.txt", case.rows, SpelledPlay())
+
+
+class CountsTest(unittest.TestCase):
+    """How often steps request memory: counts.c over the static library, whose heap is the test's."""
+
+    @unittest.skipIf(lacks_compiler(), "there is no C compiler")
+    def test_a_notice_costs_its_report(self) -> None:
+        sources = [HERE / "counts.c", TOP / "clients/c/tests/refusing_heap.c", ARCHIVE]
+        with tempfile.TemporaryDirectory() as folder:
+            flags = ["-std=c11", "-Wall", "-Wextra", "-Wpedantic", "-Werror", f"-I{TOP}/include", f"-I{TOP}/clients/c"]
+            subprocess.run([*COMPILER, *flags, *map(str, sources), "-o", f"{folder}/counts"], check=True)
+            subprocess.run([f"{folder}/counts"], check=True)
+
+
+class SpelledTest(unittest.TestCase):
+    """The server in memory ends the connection at a request that it does not read, and sends nothing."""
+
+    NUMBERS = (6, 7, 9, 14, 15, 19, 21, 22, 103, 104, 107)
+    """The type of each operation that only a caller spells."""
+
+    def test_a_server_in_memory_ends_at_a_spelled_call(self) -> None:
+        for number in self.NUMBERS:
+            with self.subTest(number=number):
+                session, server = Handle(), Server()
+                server.connect(1)
+                session.call("open", TIMEOUT_MS, 1, 1)
+                for step in ("moment", "opened"):
+                    self.assertEqual(session.call(step, 0), declared.OK)
+                frames = self._frames(session)
+                server.answer(frames)
+                self.assertEqual(session.call("bytes", 0, server.say()), declared.OK)
+                self.assertEqual(session.call("raw", 0, 1, NO_LIMIT, number, b"\0\0\0\1/"), declared.OK)
+                server.answer(self._frames(session))
+                self.assertEqual((b"", False), (server.say(), server.is_open))
+
+    def _frames(self, session: Handle) -> bytes:
+        return b"".join(session.text()[1] for output in session.outputs() if output.kind == declared.SEND)
 
 
 class PiecesTest(unittest.TestCase):

@@ -271,10 +271,10 @@ class ShellTest(unittest.TestCase):
             script, printed = ((TOP / f"examples/{name}.{part}").read_bytes() for part in ("script", "printed"))
             self.assertEqual(f"{printed.decode()}||0", outcome([name], script), name)
 
-    def test_the_live_example_is_the_last_case_of_test_scripts(self) -> None:
-        for part, kind in (("stdin", "script"), ("stdout", "printed")):
-            played = (TOP / "crates/test_scripts" / part).read_text(encoding="utf-8").partition("\n== served: zk_shell live\n")[2]
-            self.assertEqual(played, (TOP / f"examples/live.{kind}").read_text(encoding="utf-8"), part)
+    def test_the_live_example(self) -> None:
+        script, printed = ((TOP / f"examples/live.{part}").read_bytes() for part in ("script", "printed"))
+        with world() as served:
+            self.assertEqual(f"{printed.decode()}||0", outcome(["live", f"127.0.0.1:{served.port}"], script))
 
     def test_what_fails_is_told(self) -> None:
         unread, full = os.open(HERE, os.O_RDONLY), os.open("/dev/full", os.O_WRONLY)

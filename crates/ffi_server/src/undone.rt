@@ -7,7 +7,7 @@ use std::alloc::AllocError;
 
 /// Why a server in memory does not do what it is asked. Nothing happened then, except what is said of `Memory` where it may be told. What
 /// the tree does not admit has the number by which a server tells a client.
-#[derive(Clone, Copy, Debug, PartialEq, Eq)]
+#[derive(Clone, Copy)]
 pub enum Undone {
     /// There is nothing to do.
     Nothing,

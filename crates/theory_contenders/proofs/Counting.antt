@@ -12,8 +12,9 @@ use Rattle.zk_nodes.specs.History.{IsLegal, AreLegal, AllLegal, AreRising, up_to
 use Rattle.zk_nodes.proofs.PathTexts.{path_eq-true, path_eq-refl}
 use Rattle.zk_conclusions.specs.Numbers.{Kind, is_one}
 use Rattle.theory_contenders.specs.Sequences.{counter_after, counter_after_all, IsInSequence, AreInSequence, AllInSequence}
-use Rattle.theory_contenders.specs.Sequences.{SequencesRise}
-use Rattle.theory_contenders.proofs.Digits.{value, numbered_so, no_greater}
+use Rattle.theory_contenders.specs.Sequences.{SequencesRise, MadeInSequence, NamesInSequenceRise, alone}
+use Rattle.zk_conclusions.proofs.Numbered.{own_is_one}
+use Rattle.theory_contenders.proofs.Digits.{value, numbered_so, no_greater, no_greater_by_prefix}
 use Rattle.theory_contenders.proofs.Coming.{Makes, Comes, comes}
 
 -- ---- a directory stays while something is below it
@@ -189,10 +190,13 @@ module _ (dir : NodePath) (kind : Kind) where
 is_there : (o : Option Node) (node : Node) → o ≡ Some node → is_some o ≡ true
 is_there o node e = ap is_some e
 
-pub sequences_rise : SequencesRise
-sequences_rise h dir kind is made zxid one other node its e f p q before =
+-- of two nodes of the kind that are there at once, the one whose number is not greater was not made later
+pub in_order_of_numbers : (h : History) (dir : NodePath) (kind : Kind) → IsHistory h → MadeInSequence h dir kind
+    → (zxid : ℕ) (one other : Name) (node its : Node) → tree_at h zxid (one ∷ dir) ≡ Some node → tree_at h zxid (other ∷ dir) ≡ Some its
+    → is_one kind one ≡ true → is_one kind other ≡ true → value one ≤ value other → node.czxid ≤ its.czxid
+in_order_of_numbers h dir kind is made zxid one other node its e f p q le =
     let good = good_up_to dir kind zxid 0 h.transactions h.first made.counter is.rising is.legal made.made first in
-    good.2.ordered one other node its e f p q (no_greater kind one other p q before)
+    good.2.ordered one other node its e f p q le
   where
     zero_at : (name : Name) (old : Node) → h.first (name ∷ dir) ≡ Some old → old.czxid ≡ 0
     zero_at name old k = (is.zeros (name ∷ dir) old k).0
@@ -209,3 +213,16 @@ sequences_rise h dir kind is made zxid one other node its e f p q before =
       by = λ name old k. let a = zero_at name old k in omega (arith, a);
       parent = λ name old k. is.parents name dir (is_there (h.first (name ∷ dir)) old k);
     }
+
+pub sequences_rise : SequencesRise
+sequences_rise h dir kind is made zxid one other node its e f p q before =
+    in_order_of_numbers h dir kind is made zxid one other node its e f p q (no_greater kind one other p q before)
+
+pub names_in_sequence_rise : NamesInSequenceRise
+names_in_sequence_rise h dir prefix is made only zxid one other node its e f p q before =
+    let mine = only zxid one (is_there (tree_at h zxid (one ∷ dir)) node e) p in
+    let theirs = only zxid other (is_there (tree_at h zxid (other ∷ dir)) its f) q in
+    let a : is_one (alone prefix) one ≡ true = own_is_one (alone prefix) one mine.1 in
+    let b : is_one (alone prefix) other ≡ true = own_is_one (alone prefix) other theirs.1 in
+    in_order_of_numbers h dir (alone prefix) is made zxid one other node its e f a b
+    (no_greater_by_prefix (alone prefix) prefix one other a b p q mine.0 theirs.0 before)

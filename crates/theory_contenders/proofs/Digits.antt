@@ -1,13 +1,14 @@
 -- Ten digits are ordered as their numbers are: where the first different digit is smaller, what is read is, whatever follows.
 use Rattle.std.proofs.Common.{ℕ, zero, suc, ◌≡◌, ◌<◌, ◌≤◌, ◌+◌, ◌-◌, ◌*◌, ◌/◌, ◌%◌, Bool, true, false, ◌&&◌, not, List, [], ◌∷◌}
-use Rattle.std.proofs.Common.{◌++◌, refl, sym, ap}
+use Rattle.std.proofs.Common.{◌++◌, refl, sym, ap, ap₂}
+use Rattle.std.proofs.lemmas.Cmp.{nat_cmp_total}
 use Rattle.std.proofs.Common.{◌∙◌, subst, arith, length, drop, length-append, length-drop, nat_le, nat_lt}
 use Rattle.std.proofs.lemmas.Bool.{and_parts}
 use Rattle.std.proofs.lemmas.Bool.Decides.{nat_tests}
 use Rattle.std.proofs.Math.Seq.{drop-append_seam}
 use Rattle.std.specs.List.{list_all, list_any, ends_with}
 use Rattle.std.specs.Prelude.{nat_eq}
-use Rattle.std.specs.Ordering.{MatchOrdering, is_lt, nat_cmp, ordering_then}
+use Rattle.std.specs.Ordering.{MatchOrdering, is_lt, nat_cmp, ordering_reverse, ordering_then}
 use Rattle.std.specs.declared.cmp.Ordering.{Ordering}
 use Rattle.std.specs.declared.cmp.Ordering.TheVariants.{Less, Equal, Greater}
 use Rattle.std.proofs.lemmas.Map.Lookups.{exact_unsigned}
@@ -15,6 +16,8 @@ use Rattle.std.proofs.Math.Nat.{div-add-mod'}
 use Rattle.std.specs.Cmp.{ranks}
 use Rattle.zk_nodes.specs.Path.{Name}
 use Rattle.zk_nodes.specs.Names.{name_cmp}
+use Rattle.zk_conclusions.specs.Holders.{HasPrefix}
+use Rattle.zk_conclusions.specs.Holders as in_bytes
 use Rattle.zk_conclusions.specs.Numbers.{Kind, is_digit, number_of, front_of, is_numbered, by_number, is_before, is_one}
 use Rattle.theory_contenders.specs.Sequences.{digits, HasNumber}
 
@@ -119,6 +122,42 @@ no_greater kind one other p q before =
     let its = ten kind other q in
     not_greater 0 (number_of one) (number_of other) mine.0 its.0 (mine.1 ∙ sym its.1) (λ g. (
     let k : is_before one other ≡ false = ap (λ (o : Ordering). by_number o (is_lt (name_cmp one other))) g in absurd cc))
+
+-- ---- names with one prefix
+
+self_equal : (x : ℕ) → nat_cmp x x ≡ Equal
+self_equal x = go (nat_cmp x x) refl (nat_cmp_total.antisymm x x)
+  where
+    go : (o : Ordering) → nat_cmp x x ≡ o → nat_cmp x x ≡ ordering_reverse (nat_cmp x x) → nat_cmp x x ≡ Equal
+    go Less e back = let k : Less ≡ ordering_reverse Less = sym e ∙ (back ∙ ap ordering_reverse e) in absurd cc
+    go Equal e back = e
+    go Greater e back = let k : Greater ≡ ordering_reverse Greater = sym e ∙ (back ∙ ap ordering_reverse e) in absurd cc
+
+same_front : (front one other : Name) → name_cmp (front ++ one) (front ++ other) ≡ name_cmp one other
+same_front [] one other = refl
+same_front (x ∷ xs) one other =
+    ap (λ (o : Ordering). ordering_then o (name_cmp (xs ++ one) (xs ++ other))) (self_equal x) ∙ same_front xs one other
+
+-- the number of a name that is the prefix and ten bytes
+number_behind : (prefix rest name : Name) → name ≡ prefix ++ rest → length name ≡ length prefix + 10 → number_of name ≡ rest
+number_behind prefix rest name e long =
+    let front : length name - 10 ≡ length prefix = omega (arith, long) in
+    ap (λ (n : ℕ). drop n name) front ∙ (ap (λ (m : Name). drop (length prefix) m) e ∙ drop-append_seam prefix rest)
+
+-- Of two such names, the one that is before the other in the order of bytes has no greater number.
+pub no_greater_by_prefix : (kind : Kind) (prefix one other : Name) → is_one kind one ≡ true → is_one kind other ≡ true
+    → (mine : HasPrefix prefix one) → (its : HasPrefix prefix other) → length one ≡ length prefix + 10 → length other ≡ length prefix + 10
+    → in_bytes.is_before one other ≡ true → value one ≤ value other
+no_greater_by_prefix kind prefix one other p q mine its long as_long before =
+    let digits_mine = ten kind one p in
+    let digits_its = ten kind other q in
+    not_greater 0 (number_of one) (number_of other) digits_mine.0 digits_its.0 (digits_mine.1 ∙ sym digits_its.1) (λ g. (
+        let a : number_of one ≡ mine.0 = number_behind prefix mine.0 one mine.1 long in
+        let b : number_of other ≡ its.0 = number_behind prefix its.0 other its.1 as_long in
+        let behind : name_cmp mine.0 its.0 ≡ Greater = sym (ap₂ name_cmp a b) ∙ g in
+        let whole : name_cmp one other ≡ Greater = ap₂ name_cmp mine.1 its.1 ∙ (same_front prefix mine.0 its.0 ∙ behind) in
+        let k : in_bytes.is_before one other ≡ false = ap is_lt whole in
+        absurd cc))
 
 -- ---- what a sequential create writes is read again
 

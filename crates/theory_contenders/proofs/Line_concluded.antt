@@ -12,7 +12,7 @@ use Rattle.zk_cache.specs.Kept.{Full}
 use Rattle.theory_local.specs.LocalServed.{ServedAt}
 use Rattle.theory_local.proofs.Following.{served_fewer}
 use Rattle.zk_conclusions.specs.Seen.{Is, IsEither, IsServedAt}
-use Rattle.zk_conclusions.specs.Holders.{IsFirstOf, ShowsHolder, is_before}
+use Rattle.zk_conclusions.specs.Holders.{IsFirstOf, NamesRise, ShowsHolder, is_before}
 use Rattle.zk_conclusions.specs.Standings.{IsShownStanding, NumbersRise}
 use Rattle.zk_conclusions.proofs.Sets.{set_among}
 use Rattle.theory_contenders.specs.Programs.{Moment, Place, SaysSo, IsMoment}
@@ -20,14 +20,17 @@ use Rattle.theory_contenders.specs.Line_example.{lock, lock_text, marker, first_
 use Rattle.theory_contenders.specs.Line_example.{of_three, of_two, of_first, of_second, all_three, last_two}
 use Rattle.theory_contenders.specs.Line_example.{first_last, first_place, second_held, second_place}
 use Rattle.theory_messages.specs.Meeting_example.{new_client}
-use Rattle.theory_contenders.proofs.Counting.{sequences_rise}
+use Rattle.theory_contenders.proofs.Counting.{sequences_rise, names_in_sequence_rise}
 use Rattle.theory_contenders.proofs.Having.{lists_all}
-use Rattle.theory_contenders.proofs.Line_history.{line_history, line_sequence, no_note}
+use Rattle.theory_contenders.proofs.Line_history.{line_history, line_sequence, alone_sequence, only_numbered, no_note}
 use Rattle.theory_contenders.proofs.Line_shown.{first_holding, second_holding, last_says, second_says}
 use Rattle.theory_contenders.proofs.Line_shown.{last_kept, second_kept, last_names, second_names, last_session, second_session, token_for}
 
 pub numbers_rise_there : NumbersRise two_places lock places
 numbers_rise_there = sequences_rise two_places lock places line_history line_sequence
+
+pub names_rise_there : NamesRise two_places lock marker
+names_rise_there = names_in_sequence_rise two_places lock marker line_history alone_sequence only_numbered
 
 -- a moment's claim, as a client that is shown to stand first
 shown : (moment : Moment) (place : Place) (one : IsMoment new_client lock_text places moment)

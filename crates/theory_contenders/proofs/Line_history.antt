@@ -1,15 +1,16 @@
 -- The history of the two places: it is one, its names come from sequential creates, and what is there was made by one of its creates.
 use Rattle.std.proofs.Common.{◌≡◌, ◌≤◌, ◌&&◌, ℕ, ℤ, pos, Bool, true, false, List, [], ◌∷◌, refl, sym, ap, subst, arith, inl, inr, ◌⊎◌, ◌∙◌}
-use Rattle.std.proofs.Common.{Option, Some, None}
+use Rattle.std.proofs.Common.{Option, Some, None, length, ◌+◌}
 use Rattle.std.specs.Prelude.{is_some, bytes_eq, take}
 use Rattle.zk_turns.specs.Meaning.{Among}
 use Rattle.zk_nodes.specs.Path.{Name}
 use Rattle.zk_nodes.specs.History.{Node, Creates, Transaction, IsHistory, tree_at, after}
 use Rattle.theory_messages.proofs.Shown.{is_history}
-use Rattle.zk_conclusions.specs.Holders.{HasPrefix, NamesRise, is_before}
+use Rattle.zk_conclusions.specs.Holders.{HasPrefix}
+use Rattle.zk_conclusions.specs.Numbers.{Kind, is_numbered, is_one}
 use Rattle.zk_conclusions.specs.Standings.{ListsAll}
 use Rattle.zk_conclusions.specs.Tags.{AreMadeBy}
-use Rattle.theory_contenders.specs.Sequences.{MadeInSequence}
+use Rattle.theory_contenders.specs.Sequences.{MadeInSequence, AreNumberedOnly, alone}
 use Rattle.theory_contenders.specs.Line_example.{lock, marker, first_name, note_name, second_name, places, all_three}
 use Rattle.theory_contenders.specs.Line_example.{two_places, made_again}
 use Rattle.theory_contenders.proofs.Coming.{IsMadeBy, WasThere, from_transactions}
@@ -41,8 +42,9 @@ line_history = record {
   );
 }
 
-pub line_sequence : MadeInSequence two_places lock places
-line_sequence = record {
+-- of each kind of which the note is none
+sequence_of : (kind : Kind) → is_one kind note_name ≡ false → MadeInSequence two_places lock kind
+sequence_of kind none = record {
   counter = 0;
   first = λ name there one. absurd cc;
   made = (
@@ -50,12 +52,18 @@ line_sequence = record {
     (
       (λ below one. record { small = omega arith; asked = marker; made = refl }, tt),
       (
-        (λ below one. absurd cc, tt),
+        (λ below one. let k : true ≡ false = sym one ∙ none in absurd cc, tt),
         ((λ below one. record { small = omega arith; asked = marker; made = refl }, tt), ((tt, tt), ((tt, tt), tt))),
       ),
     ),
   );
 }
+
+pub line_sequence : MadeInSequence two_places lock places
+line_sequence = sequence_of places refl
+
+pub alone_sequence : MadeInSequence two_places lock (alone marker)
+alone_sequence = sequence_of (alone marker) refl
 
 nothing_left : (child : Name) → after (take 3 made_again.transactions) made_again.first (child ∷ lock) ≡ None
 nothing_left child = go (bytes_eq child first_name) refl
@@ -174,21 +182,22 @@ second_byte (byte ∷ next ∷ bytes) = next
 pub no_note : (name : Name) → name ≡ note_name → HasPrefix marker name → ⊥
 no_note name e has = let k : 111 ≡ 45 = sym (ap second_byte e) ∙ ap second_byte has.1 in absurd (omega (arith, k))
 
-pub line_names_rise : NamesRise two_places lock marker
-line_names_rise zxid one other node its e f p q before = go (what_is_there zxid one node e) (what_is_there zxid other its f)
+pub only_numbered : AreNumberedOnly two_places lock marker
+only_numbered zxid name there has = go (tree_at two_places zxid (name ∷ lock)) refl there
   where
-    wrong : (a b : Name) → one ≡ a → other ≡ b → is_before a b ≡ true
-    wrong a b same equal =
-        subst (λ (n : Name). is_before a n ≡ true) equal (subst (λ (n : Name). is_before n other ≡ true) same before)
+    is_so : (own : Name) → name ≡ own → (length own ≡ 12) × (is_numbered marker own ≡ true)
+        → (length name ≡ length marker + 10) × (is_numbered marker name ≡ true)
+    is_so own same so = subst (λ (n : Name). (length n ≡ 12) × (is_numbered marker n ≡ true)) (sym same) so
 
-    go : IsThere one node → IsThere other its → node.czxid ≤ its.czxid
-    go (inl a) (inl b) = let x = a.1 in let y = b.1 in omega (arith, x, y)
-    go (inl a) (inr (inl b)) = absurd (no_note other b.0 q)
-    go (inl a) (inr (inr b)) = let x = a.1 in let y = b.1 in omega (arith, x, y)
-    go (inr (inl a)) b = absurd (no_note one a.0 p)
-    go (inr (inr a)) (inl b) = let k = wrong second_name first_name a.0 b.0 in absurd cc
-    go (inr (inr a)) (inr (inl b)) = absurd (no_note other b.0 q)
-    go (inr (inr a)) (inr (inr b)) = let x = a.1 in let y = b.1 in omega (arith, x, y)
+    of_it : (node : Node) → IsThere name node → (length name ≡ length marker + 10) × (is_numbered marker name ≡ true)
+    of_it node (inl a) = is_so first_name a.0 (refl, refl)
+    of_it node (inr (inl a)) = absurd (no_note name a.0 has)
+    of_it node (inr (inr a)) = is_so second_name a.0 (refl, refl)
+
+    go : (found : Option Node) → tree_at two_places zxid (name ∷ lock) ≡ found → is_some found ≡ true
+        → (length name ≡ length marker + 10) × (is_numbered marker name ≡ true)
+    go None e s = absurd cc
+    go (Some node) e s = of_it node (what_is_there zxid name node e)
 
 pub made_by_first : AreMadeBy two_places lock marker (pos 7) 6
 made_by_first zxid name node e tagged owner = go (what_is_there zxid name node e)

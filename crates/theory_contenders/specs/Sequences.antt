@@ -1,8 +1,9 @@
 -- Names that sequential creates make, and what follows of their order.
-use Rattle.std.specs.Prelude.{ℕ, zero, suc, ◌≡◌, ◌<◌, ◌≤◌, ◌+◌, ◌/◌, ◌%◌, true, if◌then◌else◌, List, [], ◌∷◌, ◌++◌, is_some, ⊤}
+use Rattle.std.specs.Prelude.{ℕ, zero, suc, ◌≡◌, ◌<◌, ◌≤◌, ◌+◌, ◌/◌, ◌%◌, true, if◌then◌else◌, List, [], ◌∷◌, ◌++◌, length, is_some, ⊤}
 use Rattle.zk_nodes.specs.Path.{Name, NodePath, path_eq}
-use Rattle.zk_nodes.specs.History.{Change, Creates, Transaction, History, IsHistory}
-use Rattle.zk_conclusions.specs.Numbers.{Kind, is_one}
+use Rattle.zk_nodes.specs.History.{Change, Creates, Transaction, History, IsHistory, tree_at}
+use Rattle.zk_conclusions.specs.Holders.{HasPrefix, NamesRise}
+use Rattle.zk_conclusions.specs.Numbers.{Kind, is_numbered, is_one}
 use Rattle.zk_conclusions.specs.Standings.{NumbersRise}
 
 -- this many digits at the end of a number, with zeros before it where it has fewer
@@ -58,3 +59,19 @@ pub record MadeInSequence (h : History) (dir : NodePath) (kind : Kind) : Type 0 
 -- Then numbers rise with creation.
 abbrev pub SequencesRise : Type 0
 SequencesRise = (h : History) (dir : NodePath) (kind : Kind) → IsHistory h → MadeInSequence h dir kind → NumbersRise h dir kind
+
+-- ---- by prefix
+
+-- the kind of the names with one marker, without rivals
+abbrev pub alone : Name → Kind
+alone marker = record { own = marker; against = [] }
+
+-- Each name below dir that begins with the prefix is the prefix and a number.
+abbrev pub AreNumberedOnly : History → NodePath → (prefix : Name) → Type 0
+AreNumberedOnly h dir prefix = (zxid : ℕ) (name : Name) → is_some (tree_at h zxid (name ∷ dir)) ≡ true → HasPrefix prefix name
+    → (length name ≡ length prefix + 10) × (is_numbered prefix name ≡ true)
+
+-- Then names rise with creation too, in the order of bytes.
+abbrev pub NamesInSequenceRise : Type 0
+NamesInSequenceRise = (h : History) (dir : NodePath) (prefix : Name) → IsHistory h → MadeInSequence h dir (alone prefix)
+    → AreNumberedOnly h dir prefix → NamesRise h dir prefix

@@ -10,7 +10,7 @@ ghost use Rattle.zk_conclusions.specs.Holders.{NamesRise, ShowsHolder};
 ghost use Rattle.zk_conclusions.specs.Seen.{IsEither, IsServedAt};
 ghost use Rattle.zk_conclusions.specs.Standings.{IsShownStanding, ListsAll, NumbersRise};
 ghost use Rattle.zk_conclusions.specs.Tags.{AreMadeBy};
-ghost use Rattle.theory_contenders.specs.Sequences.{MadeInSequence, SequencesRise};
+ghost use Rattle.theory_contenders.specs.Sequences.{AreNumberedOnly, MadeInSequence, NamesInSequenceRise, SequencesRise, alone};
 ghost use Rattle.theory_contenders.specs.Programs.{AreRivals, IsHolding};
 ghost use Rattle.theory_contenders.specs.Programs.{EarlierAreShutOut, HoldersHaveIt, LaterTokensRise, OneHasIt};
 ghost use Rattle.theory_contenders.specs.Line_example.{all_three, first_last, first_place, first_run, first_since, lock, lock_text, marker};
@@ -18,9 +18,11 @@ ghost use Rattle.theory_contenders.specs.Line_example.{made_again, places, secon
 
 /// Numbers rise with creation (`NumbersRise`) where each name of the kind in the directory was made by a sequential create: it ends in the
 /// ten digits of the directory's counter, which each create below it raises, whatever its name, and a new directory begins at 0. So it is
-/// up to the number 2,147,483,647; the counter goes on below 0 from there.
+/// up to the number 2,147,483,647; the counter goes on below 0 from there (`numbers`). Where each name with a prefix is that and ten
+/// digits, names rise in the order of bytes too (`names`).
 pub fn numbers_rise()
-    ensures { SequencesRise }
+    ensures numbers { SequencesRise }
+    ensures names { NamesInSequenceRise }
 {}
 
 /// A program that goes by its look-ups has the token at each zxid from the one that its client had seen as a look-up said *held*, up to the
@@ -48,14 +50,17 @@ pub fn two_hold_in_turn()
 {}
 
 /// So the premises of the laws of `zk_conclusions` and `zk_fence` are met by two contenders in one history: names and numbers rise there
-/// (`history`, `sequence`, `names`, `numbers`), both show that they stand first, and that they hold (`stands`, `stands_later`; `holds`,
-/// `holds_later`), all names were listed while both places were there (`listed`), and each made its node by the zxid of its last create
-/// (`made`, `made_later`). Where the directory is deleted and made again, its names begin with 0 again (`again`, `from_zero`).
+/// (`history`, `sequence`, `numbers`; `alone`, `only`, `names`), both show that they stand first, and that they hold (`stands`,
+/// `stands_later`; `holds`, `holds_later`), all names were listed while both places were there (`listed`), and each made its node by
+/// the zxid of its last create (`made`, `made_later`). Where the directory is deleted and made again, its names begin with 0 again
+/// (`again`, `from_zero`).
 pub fn premises_are_met()
     ensures history { IsHistory two_places }
     ensures sequence { MadeInSequence two_places lock places }
     ensures numbers { NumbersRise two_places lock places }
     ensures names { NamesRise two_places lock marker }
+    ensures alone { MadeInSequence two_places lock (alone marker) }
+    ensures only { AreNumberedOnly two_places lock marker }
     ensures stands { IsShownStanding two_places first_last.view lock_text places first_place.path first_place.token }
     ensures stands_later { IsShownStanding two_places second_held.view lock_text places second_place.path second_place.token }
     ensures holds { IsServedAt (IsEither lock_text first_place.path) two_places first_last.view

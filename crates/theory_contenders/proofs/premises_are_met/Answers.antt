@@ -1,7 +1,8 @@
 -- The history is computed, and what both programs show is taken from their moments.
-use Rattle.theory_contenders.proofs.Line_history.{line_history, line_sequence, line_names_rise, all_listed, made_by_first, made_by_second}
-use Rattle.theory_contenders.proofs.Line_history.{again_history, again_sequence}
-use Rattle.theory_contenders.proofs.Line_concluded.{first_stands, second_stands_first, first_holds, second_holds, numbers_rise_there}
+use Rattle.theory_contenders.proofs.Line_history.{line_history, line_sequence, alone_sequence, only_numbered, all_listed}
+use Rattle.theory_contenders.proofs.Line_history.{made_by_first, made_by_second, again_history, again_sequence}
+use Rattle.theory_contenders.proofs.Line_concluded.{first_stands, second_stands_first, first_holds, second_holds}
+use Rattle.theory_contenders.proofs.Line_concluded.{numbers_rise_there, names_rise_there}
 use Rattle.theory_contenders.proofs.premises_are_met.Goals as goal
 
 pub returns-clause-history : goal.returns-clause-history
@@ -14,7 +15,13 @@ pub returns-clause-numbers : goal.returns-clause-numbers
 returns-clause-numbers c = numbers_rise_there
 
 pub returns-clause-names : goal.returns-clause-names
-returns-clause-names c = line_names_rise
+returns-clause-names c = names_rise_there
+
+pub returns-clause-alone : goal.returns-clause-alone
+returns-clause-alone c = alone_sequence
+
+pub returns-clause-only : goal.returns-clause-only
+returns-clause-only c = only_numbered
 
 pub returns-clause-stands : goal.returns-clause-stands
 returns-clause-stands c = first_stands

@@ -1,1 +1,0 @@
--- The contracts of `refusing` cite definitions of `Logic` alone: there is none here.
