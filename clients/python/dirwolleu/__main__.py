@@ -7,10 +7,11 @@ import contextlib
 import os
 import re
 import sys
+import threading
 from collections.abc import Sequence
 from typing import Any, Callable, Optional, Union
 
-from dirwolleu.exceptions import ZookeeperError
+from dirwolleu.exceptions import ConnectionClosedError, ZookeeperError
 from dirwolleu.shell import faults
 from dirwolleu.shell.connections import Attempts, Connections, Said
 from dirwolleu.shell.faults import Ending
@@ -19,8 +20,12 @@ from dirwolleu.shell.words import COMMANDS, general_help, read, read_file
 
 Write = Callable[[Union[str, bytes]], None]
 
-LONGEST_TIMEOUT = 30.0
-"""The longest timeout of a session that asks for one node, in seconds."""
+LONGEST_TIMEOUT = 10.0
+"""The longest timeout of a session that asks for one node, in seconds. It is no longer than the command waits: so a server that is
+silent is left while there is time for another one."""
+
+READS = ("get", "ls", "stat", "tree", "getacl", "sync")
+"""The commands that change nothing."""
 
 
 def _version() -> str:
@@ -78,6 +83,17 @@ def _watch(chosen: argparse.Namespace, write: Write) -> None:
     asyncio.run(watch())
 
 
+def _ending_of(error: Union[ZookeeperError, TimeoutError], chosen: argparse.Namespace, attempts: Attempts) -> Ending:
+    """How a command ends whose start, or whose call, has met this."""
+    is_read = chosen.command in READS
+    if attempts.is_expired and isinstance(error, (TimeoutError, ConnectionClosedError)):
+        return faults.expired(chosen.path)
+    if isinstance(error, ZookeeperError):
+        path = error.path if chosen.command == "tree" and error.path else chosen.path
+        return faults.of_call(error, path, is_read)
+    return faults.late(chosen.path, is_read, False) if attempts.was_accepted else faults.unconnected(chosen.path, attempts.all())
+
+
 def _ask(chosen: argparse.Namespace, write: Write) -> None:
     """Makes the calls of a command in a session of its own, and prints when all are answered."""
     from dirwolleu.client import Client
@@ -87,7 +103,13 @@ def _ask(chosen: argparse.Namespace, write: Write) -> None:
     client = Client(chosen.hosts, min(float(chosen.wait), LONGEST_TIMEOUT), **_settings(chosen))
     attempts, printed = Attempts(), list[Union[str, bytes]]()
     ending: Optional[Ending] = None
-    with Connections(chosen.hosts, attempts.note), contextlib.closing(client):
+
+    def note(said: Said) -> None:
+        attempts.note(said)
+        if said.kind == "expired":  # a command has one session
+            threading.Thread(target=client.stop, daemon=True).start()
+
+    with Connections(chosen.hosts, note), contextlib.closing(client):
         asking = Asking(client, chosen.wait)
         try:
             client.start(asking.left())
@@ -95,12 +117,8 @@ def _ask(chosen: argparse.Namespace, write: Write) -> None:
                 printed.extend(RUNS[chosen.command](asking, chosen))
         except Ending as early:
             ending = early
-        except ZookeeperError as error:
-            path = error.path if chosen.command == "tree" and error.path else chosen.path
-            raise faults.of_call(error, path, client.connected) from error
-        except TimeoutError as error:
-            ends = faults.expired(chosen.path) if attempts.is_expired else faults.unconnected(chosen.path, attempts.all())
-            raise ends from error
+        except (ZookeeperError, TimeoutError) as error:
+            raise _ending_of(error, chosen, attempts) from error
     for line in printed:
         write(line)
     if ending is not None:
@@ -142,7 +160,13 @@ def _read(words: Sequence[str]) -> Optional[argparse.Namespace]:
         print(_version())
         return None
     if first == "help":
-        first, others = others[0], ["--help"]
+        first, *others = others
+        if others:
+            raise faults.usage(f"unrecognized subcommand '{others[0]}'\n\nFor more information, try '--help'.")
+        others = ["--help"]
+    if first.startswith("-") and first not in ("-", "--"):
+        unexpected = first.partition("=")[0] if first.startswith("--") else first[:2]
+        raise faults.usage(f"unexpected argument '{unexpected}' found\n\nFor more information, try '--help'.")
     if first not in COMMANDS:
         raise faults.usage(f"unrecognized subcommand '{first}'\n\nFor more information, try '--help'.")
     return read(first, others)

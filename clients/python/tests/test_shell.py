@@ -126,15 +126,17 @@ class ShellTest(PartnerCase):
             (dirwolleu.NoAuthError(), 6, "refused: /a: the ACL does not admit it (-102)"),
             (dirwolleu.TooLargeError(), 6, "refused: /a: the payload has more than 1,048,575 bytes"),
             (dirwolleu.ConnectionLoss(), 8, "no answer: /a: the connection was lost: the call may or may not have happened"),
-            (dirwolleu.SessionExpiredError(), 8, "no answer: /a: the session is over"),
+            (dirwolleu.SessionExpiredError(), 8, "no answer: /a: the session has expired"),
             (dirwolleu.CallTimeoutError(), 8, "no answer: /a: its time is over, and it was not sent"),
             (dirwolleu.NotConnectedError(), 8, "no answer: /a: its time is over, and it was not sent"),
-            (dirwolleu.AuthFailedError(), 6, "refused: /a: the server does not take these credentials (-115)"),
+            (dirwolleu.AuthFailedError(), 6, "refused: /a: the server refuses it (-115)"),
         ):
             ending = of_call(error, "/a", False)
             self.assertEqual((ending.status, ending.told), (status, told), error)
-        late = of_call(dirwolleu.CallTimeoutError(), "/a", True)
-        self.assertEqual((late.status, late.told), (8, "no answer: /a: its time is over, and it may or may not have happened"))
+        late = dirwolleu.CallTimeoutError()
+        self.assertEqual(of_call(late, "/a", True).told, "no answer: /a: its time is over")
+        late.may_have_happened = True
+        self.assertEqual(of_call(late, "/a", False).told, "no answer: /a: its time is over, and it may or may not have happened")
 
     def test_access_control(self) -> None:
         partner = self.partner()

@@ -16,10 +16,11 @@ import subprocess
 import sys
 import threading
 import unittest
-from typing import Callable
+from concurrent.futures import ThreadPoolExecutor
+from typing import Callable, Optional
 from unittest.mock import patch
 
-from support import CLIENTS, CLOSE_SESSION, WAIT, Asked, Peer, RawServer, data_reply, notice, reply
+from support import CLIENTS, CLOSE_SESSION, STAT, WAIT, Asked, Peer, RawServer, data_reply, notice, reply
 
 from dirwolleu.__main__ import main
 from dirwolleu.shell.words import COMMANDS
@@ -37,7 +38,7 @@ CHANGES: list[list[str]] = [
     ["create", "/a/marked", "hex:1", "--json"], ["create", "/a/s-", "x", "--sequential"], ["create", "/a/é z", "a\tb\nc"],
     ["create", "/a/esc", "--hex", "1b5b326a"], ["create", "/a/-1", "--", "-x"], ["create", "/", "x"], ["create", "/a", "x"],
     ["create", "/x/y", "z"], ["create", "/a/none"], ["create", "/a/none", "x", "--null"], ["create", "/a/none", "zz", "--hex"],
-    ["create", "/a/none", "--hex", "abc"], ["create", "/a/none", "--from", "/none"], ["create", "/a/none", "x", "--from", "/none"],
+    ["create", "/a/none", "--hex", "abc"], ["create", "/a/hexed", "", "--hex"], ["create", "/a/none", "--from", "/none"], ["create", "/a/none", "x", "--from", "/none"],
     ["set", "/a", "y", "--version", "0"], ["set", "/a", "z", "--version", "0"], ["set", "/a/null", "w", "--version", "x"],
     ["set", "/none", "w"], ["set", "/a/bytes", "--hex", "\\e"], ["set", "/a/bytes", "--hex", "\\0"], ["set", "/a/bytes"],
     ["set", "/a", "caf\udce9 'x'"], ["create", "/\udcff", "x"], ["create", "/a/\u202ex", "\u2067y"], ["create", "/a/\u200e", "\u2028z", "--json"],
@@ -58,6 +59,9 @@ READS: list[list[str]] = [
 LINES: list[list[str]] = [
     ["nonsense"], ["get", "/a", "--nope"], ["get", "/a", "x"], ["get"], ["get", "/a", "--wait"], ["watch", "--for", "0"], ["get", "/a", "--json=1"],
     ["get", "/a", "--wait", "-1"], ["watch", "--for", "-1"], ["watch", "--for=-1"], ["delete", "/a", "--version=-1"], ["delete", "/a", "--version", "-1"],
+    *(["get", "/a", *words] for words in (["--json", "--json"], ["--wait", "1", "--wait=1"], ["--wait", "1.5"], ["--wait", "01"], ["--wait="], ["--help=1"],
+                                          ["--nope=1"], ["-xy"], ["---"], ["--version", "-1"])),
+    *(["set", "/a", *words] for words in (["--from", "a", "--from", "b"], ["--null", "x"], ["0", "--hex"], ["x", "--version", "-1", "--nope"])),
     ["get", "/a", "--wai", "3"], ["create", "/a", "-x"], ["watch", "--data", "a"], ["watch", "--timeout", "0"], ["watch", "--most", "x"],
 ]  # fmt: skip
 """Command lines that are refused. Whatever reads them says more below the first line."""
@@ -91,6 +95,83 @@ def masked(text: str) -> str:
     """Without the moments, which differ between two servers."""
     return re.sub(r'\b(ctime"?[ :]|mtime"?[ :])\d+', r"\1T", text)
 
+
+NO_HOSTS = ("a..b:1", ".a:1", ".:1", "a" * 64 + ":1", "x." + "a" * 64, ".".join(["a" * 63] * 3 + ["a" * 62]), "a b:1", " a:1", "a:1 ", "a\tb:1", "*:1", "a'b:1",
+            "a:01", "a:0", "a:65536", "a:", ":1", "", "a,", "[]:1", "[a:1", "a]:1", "a[b:1", "a]b", "::1", "[::1]x", "[::1]:", "[[::1]]:1", "a:1:2",
+            "ex\u00e4.invalid:1", "\u202ea:1", "a\u3002b:1", "a:\u0661")  # fmt: skip
+"""Words that are no servers: both refuse them, and dial none."""
+HOSTS = ("a.invalid:1", ".".join(["a" * 63] * 3 + ["a" * 61]), "a" * 63 + ".invalid.", "a_-b.invalid:65535", "[no.invalid]:1", "no.invalid:1,no.invalid:2")
+"""Those that are, and that nobody has."""
+
+
+def closes(peer: Peer) -> None: ...
+
+
+def says(message: bytes, peer: Peer) -> None:
+    """A server that answers the first request so, and then ends the connection."""
+    peer.take_connect()
+    peer.send_bytes(message)
+    peer.finish()
+
+
+def refuses(peer: Peer) -> None:
+    peer.take_connect()
+    peer.refuse()
+    peer.finish()
+
+
+def is_silent(timeout_ms: Optional[int], peer: Peer) -> None:
+    """A server that accepts the session, by this timeout or the one that is asked for, and answers no call."""
+    peer.admit(timeout_ms)
+    while True:
+        peer.take()
+
+
+def cuts(peer: Peer) -> None:
+    """A server that ends the connection at each call."""
+    peer.admit()
+    peer.take()
+
+
+def answers(answer: Callable[[Asked], bytes], peer: Peer) -> None:
+    """A server that answers each call so, and ends the session when it is asked to."""
+    peer.admit()
+    while (asked := peer.take()).kind != CLOSE_SESSION:
+        peer.send(answer(asked))
+    peer.send(reply(asked))
+    peer.finish()
+
+
+def listing(names: list[bytes], asked: Asked) -> bytes:
+    """The names below /a, and none below another node."""
+    found = names if asked.body[4:6] == b"/a" and asked.body[:4] == b"\0\0\0\2" else []
+    return reply(asked, struct.pack(">i", len(found)) + b"".join(struct.pack(">i", len(name)) + name for name in found) + STAT)
+
+
+Serve = Callable[[Peer], None]
+UNACCEPTED = "not connected: /a: no server has answered in time\nHOST: connected, but no session was accepted\n"
+LATE = "no answer: /a: its time is over"
+LOST = "no answer: /a: the connection was lost: the call may or may not have happened\n"
+EXPIRED = "no answer: /a: the session has expired\n"
+GET, SET, LS, TREE = ["get", "/a"], ["set", "/a", "x"], ["ls", "/a"], ["tree", "/a"]
+CODES = {-4: "the server has lost its connection", -6: "the server does not know the request", -8: "the path, the flags or the data are refused",
+         -102: "the ACL does not admit it", -103: "the node has another version", -108: "the parent is ephemeral", -110: "the node is there",
+         -111: "the node has children", -112: "the session is over", -114: "the open ACL is refused", -115: "the server refuses it",
+         -118: "the session was taken up over another connection", -999: "the server refuses it", 1: "the server refuses it"}  # fmt: skip
+NAMES = [b"b", b" ", b"\\", "\u00e9".encode(), b"a\tb", "\u202ex".encode(), b"b"]
+ENDS: list[tuple[Serve, list[str], int, str, str]] = [
+    *((serve, words, 7, "", UNACCEPTED) for serve in (closes, functools.partial(says, b"\xff" * 4), functools.partial(says, b"\0\0\0\x25\0")) for words in (GET, SET)),
+    *((refuses, words, 8, "", EXPIRED) for words in (GET, SET, TREE)),
+    *((functools.partial(is_silent, 30_000), words, 8, "", f"{LATE}\n") for words in (GET, LS, TREE, ["stat", "/a"])),
+    *((functools.partial(is_silent, 30_000), words, 8, "", f"{LATE}, and it may or may not have happened\n") for words in (SET, ["create", "/a", ""], ["delete", "/a"])),
+    (functools.partial(is_silent, None), GET, 8, "", f"{LATE}\n"), (functools.partial(is_silent, None), SET, 8, "", LOST),
+    (cuts, GET, 8, "", f"{LATE}\n"), (cuts, SET, 8, "", LOST),
+    *((functools.partial(answers, functools.partial(reply, code=code)), words, 6, "", f"refused: /a: {why} ({code})\n")
+      for code, why in CODES.items() for words in (GET, SET)),
+    *((functools.partial(answers, functools.partial(reply, code=-101)), words, 5, "", "no node: /a\n") for words in (GET, SET, TREE)),
+    (functools.partial(answers, functools.partial(listing, NAMES)), LS, 0, " \n\\\na\\x09b\nb\n\u00e9\n\\xe2\\x80\\xaex\n", ""),
+]  # fmt: skip
+"""What a server does, a command, and its end in both: the status, the output, and what is said."""
 
 FORMS: list[list[str]] = [[], ["--text"], ["--json"]]
 
@@ -226,10 +307,74 @@ class ShellsTest(unittest.TestCase):
             self.assertEqual(ends[0], ends[1])
             self.assertEqual(ends[0][0], status)
 
+    def ends_of(self, serve: Serve, words: list[str]) -> list[tuple[int, str, str]]:
+        """How both end, each with a server of its own, side by side."""
+        servers = [RawServer(serve), RawServer(serve)]
+        for server in servers:
+            self.addCleanup(server.stop)
+        with ThreadPoolExecutor(1) as pool:
+            zk = pool.submit(self.run_zk, servers[0].host, words)
+            ends = self.run_python(servers[1].host, words), zk.result()
+        return [(status, out.replace(server.host, "HOST"), said.replace(server.host, "HOST")) for (status, out, said), server in zip(reversed(ends), servers)]
+
+    def test_ends(self) -> None:
+        for serve, words, *due in ENDS:
+            with self.subTest(serve=serve, words=words):
+                zk, python = self.ends_of(serve, [*words, "--wait", "3"])
+                self.assertEqual(zk, python)
+                self.assertEqual(list(zk), due)
+
+    def test_names_that_no_path_has(self) -> None:
+        """A tree below which is one is refused; a list has it; and a name that comes twice is one."""
+        for name in (b"", b".", b"..", b"b/c", b"a\tb", "\uffff".encode(), b"n" * 4094):
+            serve: Serve = functools.partial(answers, functools.partial(listing, [b"b", name, b"b"]))
+            self.assertEqual(*self.ends_of(serve, [*LS, "--json"]))
+            for words in (TREE, [*TREE, "--json"], [*TREE, "--depth", "0"]):
+                zk, python = self.ends_of(serve, words)
+                self.assertEqual(zk, python, name)
+                said = "" if "--depth" in words else "refused: /a: a node below it has a name that no path has\n"
+                self.assertEqual((zk[0], zk[2]), (6 if said else 0, said))
+
+    def test_trees_that_are_not_listed_to_their_end(self) -> None:
+        """What is at the greatest depth, and what comes after the last that is printed, is not asked for."""
+
+        def answer(asked: Asked) -> bytes:
+            return listing([b"b", b"c"], asked) if b"/b" not in asked.body else reply(asked, code=-102)
+
+        serve: Serve = functools.partial(answers, answer)
+        for words, status in ((["--depth", "1"], 0), (["--most", "1"], 11), ([], 6)):
+            zk, python = self.ends_of(serve, [*TREE, *words])
+            self.assertEqual(zk, python)
+            self.assertEqual(zk[0], status)
+
+    def test_a_server_that_is_silent_leaves_time_for_another(self) -> None:
+        def serve(peer: Peer) -> None:
+            peer.take_connect()
+            peer.take()
+
+        silent = RawServer(serve)
+        self.addCleanup(silent.stop)
+        with Server() as server:
+            server.create("/a", b"one")
+            for _ in range(2):
+                for run in (self.run_zk, self.run_python):
+                    self.assertEqual(run(f"{silent.host},{server.hosts}", ["get", "/a", "--wait", "6"]), (0, "one\n", ""))
+
+    def test_hosts(self) -> None:
+        """A host whose name cannot be one is refused, and none is dialled; any other is."""
+        for host in (*NO_HOSTS, *(f"{host},127.0.0.1:1" for host in NO_HOSTS), *HOSTS):
+            zk, python = (run("", ["get", host, "/a", "--wait", "1"]) for run in (self.run_zk, self.run_python))
+            lines, others = (sorted(said.splitlines()) for _, _, said in (zk, python))  # the servers are dialled in an order by chance
+            self.assertEqual((zk[:2], lines), (python[:2], others), host)
+            self.assertEqual(zk[0], 7 if host in HOSTS else 2)
+            self.assertIn("host not found" if host in HOSTS else " is no server: HOST:PORT", zk[2])
+
     def test_lines_that_ask_for_nothing(self) -> None:
         for words in LINES:
             zk, python = self.run_zk("127.0.0.1:1", words), self.run_python("127.0.0.1:1", words)
             self.assertEqual((zk[:2], zk[2].partition("\n")[0]), (python[:2], python[2].partition("\n")[0]), words)
+        for words in (["-x"], ["--nope"], ["help", "get", "x"], ["help", "nope"], ["-"], ["g"]):
+            self.assertEqual(*((run("", words)[0], run("", words)[2].partition("\n")[0]) for run in (self.run_zk, self.run_python)))
         none: list[str] = []
         for words in (none, ["--json", "get", "/a"]):  # in words of their own
             self.assertEqual(*((run("", words)[0], run("", words)[2][:7]) for run in (self.run_zk, self.run_python)))
@@ -302,14 +447,31 @@ class ShellsTest(unittest.TestCase):
         self.assertEqual(lines[0], lines[1])
         self.assertEqual(lines[0][-3:], ["state Closed", "/ data none last 0", "/none names none last 0"])
 
+    def test_a_watch_whose_end_the_server_does_not_answer(self) -> None:
+        """That a read is refused then, since the session is being closed, is not printed. An end of the connection is."""
+
+        def serve(is_left: bool, peer: Peer) -> None:
+            peer.admit()
+            while (asked := peer.take()).kind != CLOSE_SESSION or is_left:
+                if asked.kind != CLOSE_SESSION:
+                    peer.send(reply(asked, code=-102))
+
+        for is_left, last in ((True, "/a refused code -102 the ACL does not admit it"), (False, "state Idle")):
+            for seconds in ("2", "10", "40"):
+                zk, python = self.ends_of(functools.partial(serve, is_left), ["watch", "--data", "/a", "--for", seconds])
+                lines = [[plain(line) for line in out.splitlines()] for _, out, _ in (zk, python)]
+                if all("refused" in str(those) for those in lines):
+                    break
+            self.assertEqual(*lines)
+            self.assertEqual(lines[0][-1], last)
+
     def test_a_watch_that_never_connects(self) -> None:
         self._never_connect("127.0.0.1:1", "failed")
 
     def test_a_host_that_is_not_found(self) -> None:
         """It is dialled, and told."""
-        for host in ("nowhere.invalid", "ex\u00e4.invalid:1"):
-            self._never_connect(host, f"dial {host}")
-            self.assertEqual(*(run(host, ["get", "/a", "--wait", "2"]) for run in (self.run_zk, self.run_python)))
+        self._never_connect("nowhere.invalid", "dial nowhere.invalid")
+        self.assertEqual(*(run("nowhere.invalid", ["get", "/a", "--wait", "2"]) for run in (self.run_zk, self.run_python)))
 
     def test_a_watch_of_a_server_that_ends_the_connection(self) -> None:
         def serve() -> None:

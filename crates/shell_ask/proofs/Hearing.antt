@@ -1,5 +1,5 @@
 -- What is heard of a driver, one thing after the other: it is the answer, the limit, or another thing after which the asking goes on.
-use Rattle.std.proofs.Common.{◌≡◌, ℕ, Bool, Option, Some, None, is_some, refl, subst}
+use Rattle.std.proofs.Common.{◌≡◌, ℕ, Bool, Option, Some, None, refl, subst}
 use Rattle.zk_client.specs.Views.{outcome_view}
 use Rattle.zk_client.specs.declared.output.Outcome.{Outcome}
 use Rattle.zk_agent.specs.Telling.{action_view}
@@ -8,7 +8,7 @@ use Rattle.zk_agent.specs.declared.action.Action.TheVariants as action
 use Rattle.zk_driver.specs.Driving.{course_of, Course, Goes}
 use Rattle.zk_driver.specs.declared.engine.Engine.{Engine}
 use Rattle.zk_driver.proofs.Going.{after}
-use Rattle.shell_ask.specs.Asking.{Answered, Coming, Hears, Late, Tells, answers, ends, goes_on, passes}
+use Rattle.shell_ask.specs.Asking.{Answered, Coming, Hears, Late, Tells, answers, ends, goes_on, is_accepted, passes}
 
 -- the action that is passed on is told
 tells_it : {A S : Type 0} (old : Course A) (engine : Engine A S) (passed : Option (Action A)) (one : Action A)
@@ -27,7 +27,7 @@ answered ticket until old engine passed outcome goes is =
 -- that its limit has come
 pub late : {A S : Type 0} (ticket until : ℕ) (old : Course A) (engine : Engine A S) (passed : Option (Action A)) (was_sent : Bool)
     → Goes old (course_of engine passed) → passed ≡ Some (action.TimedOut ticket was_sent)
-    → Hears ticket until (course_of engine None) old (Late was_sent (is_some engine.agent.heard_at))
+    → Hears ticket until (course_of engine None) old (Late was_sent (is_accepted (course_of engine None)))
 late ticket until old engine passed was_sent goes is =
     ends old was_sent (tells_it old engine passed (action.TimedOut ticket was_sent) goes is)
 

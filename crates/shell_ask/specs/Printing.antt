@@ -13,6 +13,7 @@ use Rattle.zk_nodes.specs.declared.stat.Stat.{Stat}
 use Rattle.zk_records.specs.Codes.{code_of}
 use Rattle.zk_records.specs.declared.code.Code.{Code}
 use Rattle.zk_records.specs.declared.code.Code.TheVariants as code
+use Rattle.zk_conversation.specs.Calls.{Call, Exists, GetData, GetChildren}
 use Rattle.zk_conversation.specs.Results.{Result, NoNode, Refused, Found, Read, Listing, Made, Brought}
 use Rattle.zk_turns.specs.Turns.{Outcome, Replied, TooManyWatches, TooLarge, TooManyPending}
 use Rattle.zk_client.specs.FaultText.{outcome_words}
@@ -196,19 +197,29 @@ is_refused TooLarge = true
 is_refused TooManyPending = true
 is_refused _ = false
 
+-- whether a call changes nothing, whatever comes of it
+abbrev pub is_read : Call → Bool
+is_read (Exists path watch) = true
+is_read (GetData path watch) = true
+is_read (GetChildren path watch) = true
+is_read _ = false
+
 -- what a call met whose time is over, and why
-abbrev pub late_told : (was_sent was_heard : Bool) → List ℕ × List ℕ
-late_told was_sent false = (codes "not connected: ", codes "no server has answered in time")
-late_told true true = (codes "no answer: ", codes "its time is over, and it may or may not have happened")
-late_told false true = (codes "no answer: ", codes "its time is over, and it was not sent")
+abbrev pub late_told : (is_read was_sent was_accepted : Bool) → List ℕ × List ℕ
+late_told is_read was_sent false = (codes "not connected: ", codes "no server has answered in time")
+late_told true was_sent true = (codes "no answer: ", codes "its time is over")
+late_told false true true = (codes "no answer: ", codes "its time is over, and it may or may not have happened")
+late_told false false true = (codes "no answer: ", codes "its time is over, and it was not sent")
 
 abbrev pub outcome_told : (name : Text) → Outcome → List ℕ
 outcome_told name (Replied zxid result) = result_told name result
 outcome_told name outcome = fault_line (if is_refused outcome then codes "refused: " else codes "no answer: ") name (outcome_words outcome)
 
-abbrev pub told : (name : Text) → Coming → List ℕ
-told name (Answered outcome) = outcome_told name outcome
-told name (Late was_sent was_heard) = fault_line (late_told was_sent was_heard).0 name (late_told was_sent was_heard).1
+-- what is told of a call, which may be a read
+abbrev pub told : (is_read : Bool) → (name : Text) → Coming → List ℕ
+told is_read name (Answered outcome) = outcome_told name outcome
+told is_read name (Late was_sent was_accepted) =
+    fault_line (late_told is_read was_sent was_accepted).0 name (late_told is_read was_sent was_accepted).1
 
 -- ---- how it ends
 

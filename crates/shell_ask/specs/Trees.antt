@@ -1,5 +1,5 @@
 -- What is printed of a tree: which answers, in which order, make which lines.
-use Rattle.std.specs.Prelude.{◌≡◌, ◌≢◌, ◌≤◌, ◌<◌, ◌⊎◌, ◌+◌, ◌-◌, ◌^◌, ℕ, suc, false, if◌then◌else◌, nat_lt, List, [], ◌∷◌, ◌++◌, length}
+use Rattle.std.specs.Prelude.{◌≡◌, ◌≢◌, ◌≤◌, ◌<◌, ◌⊎◌, ◌+◌, ◌-◌, ◌^◌, ℕ, suc, true, false, if◌then◌else◌, nat_lt, List, [], ◌∷◌, ◌++◌, length}
 use Rattle.std.specs.Prelude.{map, min, Contains, None, codes}
 use Rattle.std.specs.Fmt.{decimal}
 use Rattle.std.specs.FinSet as set
@@ -221,7 +221,7 @@ most_words most = decimal most ++ codes " nodes are printed, and there are more"
 abbrev pub ending_told : (name : Text) (most : ℕ) → Ending → List ℕ
 ending_told root most Whole = []
 ending_told root most Full = fault_line (codes "cut off: ") root (most_words most)
-ending_told root most (Stopped name coming) = told name coming
+ending_told root most (Stopped name coming) = told true name coming
 ending_told root most (Misnamed name) = fault_line (codes "refused: ") name (codes "a node below it has a name that no path has")
 
 abbrev pub ending_end : Ending → CallEnd

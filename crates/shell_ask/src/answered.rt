@@ -1,6 +1,6 @@
 //! A session for one call.
 
-ghost use Rattle.std.specs.Prelude.{None, IfOk, IfSome, OnOk};
+ghost use Rattle.std.specs.Prelude.{◌<ℤ◌, pos, None, IfOk, IfSome, OnOk};
 ghost use Rattle.zk_conversation.specs.Views.{call_view};
 ghost use Rattle.zk_driver.specs.Driving.{course_of};
 ghost use Rattle.zk_driver.specs.Flowing.{flow_of, Runs};
@@ -13,8 +13,8 @@ use zk_client::{Call, State};
 use zk_driver::{Driver, Stop};
 use zk_link::{Clock, Dial};
 
-/// The timeout that a session asks for, in milliseconds.
-pub(crate) const TIMEOUT_MS: i32 = 10_000;
+/// The longest timeout that a session asks for, in milliseconds.
+const LONGEST_TIMEOUT_MS: u64 = 10_000;
 
 /// How long to wait for the end of a session, in milliseconds.
 const CLOSE_MS: u64 = 1_000;
@@ -24,6 +24,14 @@ const CLOSE: u64 = 0;
 
 /// The ticket of the first call.
 pub(crate) const CALL: u64 = 1;
+
+/// The timeout that a session asks for whose calls wait this many milliseconds. It is no longer than they wait: so a server that is silent
+/// is left while there is time for another one.
+pub(crate) fn timeout_for(wait_ms: u64) -> i32
+    ensures { pos 0 <ℤ result }
+{
+    (wait_ms.min(LONGEST_TIMEOUT_MS) as i32).max(1)
+}
 
 /// Ends the session of a driver, where it is connected, and waits for that a second at most. Whether it ended so is told to nobody.
 pub(crate) fn close<A: Allocator + Copy, D: Dial + Drop, C: Clock + Drop>(
@@ -67,7 +75,8 @@ pub(crate) fn come<A: Allocator + Copy, D: Dial + Drop, C: Clock + Drop>(
 ) -> Option<Came<A>>
     ensures { IfSome result (λ came. ComesOf A D.Stream.far (call_view call) (came_view came)) }
 {
-    let Ok(mut driver) = Driver::begin(alloc, TIMEOUT_MS, dial, clock, addresses) else {
+    let timeout_ms = timeout_for(wait_ms);
+    let Ok(mut driver) = Driver::begin(alloc, timeout_ms, dial, clock, addresses) else {
         return None;
     };
     let until = driver.now().saturating_add(wait_ms);

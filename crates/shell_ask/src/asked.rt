@@ -5,14 +5,14 @@ ghost use Rattle.std.specs.Io.KnownBytes.{Appends};
 ghost use Rattle.zk_conversation.specs.Views.{call_view};
 ghost use Rattle.shell_ask.specs.inner.Asking.{came_view};
 ghost use Rattle.shell_ask.specs.Asking.{ComesOf, Coming};
-ghost use Rattle.shell_ask.specs.Printing.{end_of, told, IsToldEnd, Prints};
+ghost use Rattle.shell_ask.specs.Printing.{end_of, is_read, told, IsToldEnd, Prints};
 
 use crate::answered::come;
 use crate::came::Came;
 use crate::end::CallEnd;
 use crate::plan::{CallPlan, Form};
 use crate::result::printed;
-use crate::told::{end_of, told};
+use crate::told::{end_of, is_read, told};
 use std::alloc::Allocator;
 use std::io::Write;
 use zk_link::{Clock, Dial};
@@ -47,30 +47,32 @@ fn print<A: Allocator + Copy, O: Write>(
     }
 }
 
-/// Tells what came of a call that ends so, and is not done.
+/// Tells what came of a call that ends so, and is not done. It may be a read.
 fn print_end<A: Allocator + Copy, E: Write>(
     alloc: A,
+    is_read: bool,
     name: &str,
     came: &Came<A>,
     end: CallEnd,
     errors: &mut E,
 ) -> CallEnd
     ensures told { IsToldEnd result
-        → (result ≡ end) × Appends (E.contents errors.old) (E.contents errors.new) (told name.now (came_view came.now)) }
+        → (result ≡ end) × Appends (E.contents errors.old) (E.contents errors.new) (told is_read name.now (came_view came.now)) }
     ensures memory { result ≡ CallEnd.Memory → IsToldEnd end → errors.new ≡ errors.old }
     ensures only { (result ≡ end) ⊎ (result ≡ CallEnd.Memory) ⊎ (result ≡ CallEnd.Stream) }
 {
-    match told(alloc, name, came) {
+    match told(alloc, is_read, name, came) {
         Ok(text) => write(errors, text.as_bytes(), end),
         Err(_) => CallEnd::Memory,
     }
 }
 
-/// Prints what came of a call, or tells why it is not done.
+/// Prints what came of a call, or tells why it is not done. It may be a read.
 fn finish<A: Allocator + Copy, O: Write, E: Write>(
     alloc: A,
     form: Form,
     chroot: &str,
+    is_read: bool,
     name: &str,
     came: &Came<A>,
     out: &mut O,
@@ -80,12 +82,12 @@ fn finish<A: Allocator + Copy, O: Write, E: Write>(
         → (text : List ℕ) × (end_of (came_view came.now) ≡ CallEnd.Done) × Prints form chroot.now (came_view came.now) text
         × Appends (O.contents out.old) (O.contents out.new) text × (errors.new ≡ errors.old) }
     ensures told { IsToldEnd result → (result ≡ end_of (came_view came.now))
-        × Appends (E.contents errors.old) (E.contents errors.new) (told name.now (came_view came.now)) × (out.new ≡ out.old) }
+        × Appends (E.contents errors.old) (E.contents errors.new) (told is_read name.now (came_view came.now)) × (out.new ≡ out.old) }
     ensures memory { result ≡ CallEnd.Memory → (out.new ≡ out.old) × (errors.new ≡ errors.old) }
 {
     match end_of(came) {
         CallEnd::Done => print(alloc, form, chroot, came, out),
-        end => print_end(alloc, name, came, end, errors),
+        end => print_end(alloc, is_read, name, came, end, errors),
     }
 }
 
@@ -109,7 +111,8 @@ pub fn ask<A: Allocator + Copy, D: Dial + Drop, C: Clock + Drop, O: Write, E: Wr
     // It is not done, or may not be, and this is told.
     ensures told { IsToldEnd result
         → (coming : Coming) × ComesOf A D.Stream.far (call_view plan.entry.call) coming × (result ≡ end_of coming)
-        × Appends (E.contents errors.old) (E.contents errors.new) (told plan.entry.name.now coming) × (out.new ≡ out.old) }
+        × Appends (E.contents errors.old) (E.contents errors.new) (told (is_read (call_view plan.entry.call)) plan.entry.name.now coming)
+        × (out.new ≡ out.old) }
     ensures memory { result ≡ CallEnd.Memory → (out.new ≡ out.old) × (errors.new ≡ errors.old) }
 {
     let CallPlan {
@@ -120,10 +123,11 @@ pub fn ask<A: Allocator + Copy, D: Dial + Drop, C: Clock + Drop, O: Write, E: Wr
         form,
         wait_ms,
     } = plan;
+    let is_read = is_read(&call);
     let Some(came) = come(alloc, dial, clock, addresses, call, wait_ms) else {
         return CallEnd::Memory;
     };
-    let end = finish(alloc, form, chroot, name, &came, out, errors);
+    let end = finish(alloc, form, chroot, is_read, name, &came, out, errors);
     drop(came);
     end
 }

@@ -3,11 +3,12 @@
 ghost use Rattle.std.specs.Prelude.{◌≡◌, ◌∷◌, [], IfOk, OnOk, None, Some};
 ghost use Rattle.std.specs.Option.{is_some};
 ghost use Rattle.zk_conversation.specs.Views.{call_view};
+ghost use Rattle.zk_client.specs.Clients.{view_of};
 ghost use Rattle.zk_agent.specs.declared.input.AgentInput.TheVariants as happens;
 ghost use Rattle.zk_driver.specs.Driving.{course_of, Course, Hands};
 ghost use Rattle.zk_driver.specs.Flowing.{flow_of, Runs};
 ghost use Rattle.shell_ask.specs.inner.Asking.{came_view};
-ghost use Rattle.shell_ask.specs.Asking.{Hears};
+ghost use Rattle.shell_ask.specs.Asking.{has_session, Hears};
 
 use std::alloc::Allocator;
 use zk_client::{Call, Outcome};
@@ -19,8 +20,17 @@ use zk_link::{Clock, Dial};
 pub(crate) enum Came<A: Allocator> {
     /// It was answered so.
     Answered(Outcome<A>),
-    /// Its time was over: whether it may have been sent, and whether a server was heard by then.
-    Late { was_sent: bool, was_heard: bool },
+    /// Its time was over: whether it may have been sent, and whether a server had accepted the session by then.
+    Late { was_sent: bool, was_accepted: bool },
+}
+
+/// Whether a server has accepted the session of a driver.
+fn is_accepted<A: Allocator + Copy, D: Dial + Drop, C: Clock + Drop>(
+    driver: &Driver<'_, A, D, C>,
+) -> bool
+    ensures { result ≡ has_session (view_of driver.now.engine.agent.asker.follower.client) }
+{
+    driver.client().saved().session != 0
 }
 
 /// Goes on with a driver until a call is answered, or this moment, which is its limit, has come.
@@ -50,18 +60,18 @@ pub(crate) fn wait_for_answer<A: Allocator + Copy, D: Dial + Drop, C: Clock + Dr
                     was_sent,
                 },
             ) if its == ticket => {
-                let was_heard = driver.heard_at().is_some();
+                let was_accepted = is_accepted(driver);
                 return Ok(Came::Late {
                     was_sent,
-                    was_heard,
+                    was_accepted,
                 });
             }
             Some(_) => {}
             None => {
-                let was_heard = driver.heard_at().is_some();
+                let was_accepted = is_accepted(driver);
                 return Ok(Came::Late {
                     was_sent: true,
-                    was_heard,
+                    was_accepted,
                 });
             }
         }

@@ -9,7 +9,7 @@ pub enum CallEnd {
     NoNode,
     /// It was refused: it is not done.
     Refused,
-    /// No server has answered: it is not done.
+    /// No server has accepted a session: it is not done.
     Unconnected,
     /// There is no answer to it: it may or may not be done.
     Unanswered,

@@ -2,17 +2,17 @@
 
 ghost use Rattle.std.specs.Prelude.{◌≡◌, ◌++◌, IfOk, OnOk, string_bytes};
 ghost use Rattle.zk_records.specs.Codes.{code_number};
-ghost use Rattle.zk_conversation.specs.Views.{code_result};
+ghost use Rattle.zk_conversation.specs.Views.{call_view, code_result};
 ghost use Rattle.zk_client.specs.Views.{outcome_view};
 ghost use Rattle.shell_ask.specs.inner.Asking.{came_view};
-ghost use Rattle.shell_ask.specs.Printing.{code_words, end_of, fault_line, is_refused, late_told, outcome_end, outcome_told, refusal_words};
-ghost use Rattle.shell_ask.specs.Printing.{result_told, told};
+ghost use Rattle.shell_ask.specs.Printing.{code_words, end_of, fault_line, is_read, is_refused, late_told, outcome_end, outcome_told};
+ghost use Rattle.shell_ask.specs.Printing.{refusal_words, result_told, told};
 
 use crate::came::Came;
 use crate::end::CallEnd;
 use script_words::values::push_value;
 use std::alloc::{AllocError, Allocator};
-use zk_client::{CallResult, Code, Outcome};
+use zk_client::{Call, CallResult, Code, Outcome};
 
 /// What a code of a server means.
 fn code_words(code: Code) -> &'static str
@@ -113,35 +113,47 @@ fn outcome_told<A: Allocator + Copy>(
     }
 }
 
-/// What a call met whose time is over, and why.
-fn late_words(was_sent: bool, was_heard: bool) -> (&'static str, &'static str)
-    ensures { (result.0.now, result.1.now) ≡ late_told was_sent was_heard }
+/// Whether a call changes nothing, whatever comes of it.
+pub(crate) fn is_read<A: Allocator>(call: &Call<A>) -> bool
+    ensures { result ≡ is_read (call_view call.now) }
 {
-    match (was_sent, was_heard) {
-        (_, false) => ("not connected: ", "no server has answered in time"),
-        (true, true) => (
+    matches!(
+        call,
+        Call::Exists { .. } | Call::GetData { .. } | Call::GetChildren { .. }
+    )
+}
+
+/// What a call met whose time is over, and why. A read changes nothing, whether it was sent or not.
+fn late_words(is_read: bool, was_sent: bool, was_accepted: bool) -> (&'static str, &'static str)
+    ensures { (result.0.now, result.1.now) ≡ late_told is_read was_sent was_accepted }
+{
+    match (is_read, was_sent, was_accepted) {
+        (_, _, false) => ("not connected: ", "no server has answered in time"),
+        (true, _, true) => ("no answer: ", "its time is over"),
+        (false, true, true) => (
             "no answer: ",
             "its time is over, and it may or may not have happened",
         ),
-        (false, true) => ("no answer: ", "its time is over, and it was not sent"),
+        (false, false, true) => ("no answer: ", "its time is over, and it was not sent"),
     }
 }
 
-/// What is told of what came of a call.
+/// What is told of what came of a call, which may be a read.
 pub(crate) fn told<A: Allocator + Copy>(
     alloc: A,
+    is_read: bool,
     name: &str,
     came: &Came<A>,
 ) -> Result<String<A>, AllocError>
-    ensures { IfOk result (λ text. string_bytes text ≡ told name.now (came_view came.now)) }
+    ensures { IfOk result (λ text. string_bytes text ≡ told is_read name.now (came_view came.now)) }
 {
     match came {
         Came::Answered(outcome) => outcome_told(alloc, name, outcome),
         Came::Late {
             was_sent,
-            was_heard,
+            was_accepted,
         } => {
-            let (what, why) = late_words(*was_sent, *was_heard);
+            let (what, why) = late_words(is_read, *was_sent, *was_accepted);
             fault_line(alloc, what, name, why)
         }
     }
@@ -175,11 +187,11 @@ pub(crate) fn end_of<A: Allocator>(came: &Came<A>) -> CallEnd
     match came {
         Came::Answered(outcome) => outcome_end(outcome),
         Came::Late {
-            was_heard: true,
+            was_accepted: true,
             ..
         } => CallEnd::Unanswered,
         Came::Late {
-            was_heard: false,
+            was_accepted: false,
             ..
         } => CallEnd::Unconnected,
     }

@@ -10,7 +10,7 @@ ghost use Rattle.shell_ask.specs.inner.Trees.{ending_view, waiting_view};
 ghost use Rattle.shell_ask.specs.Trees.{Full, Tours, WalksFrom, Whole};
 ghost use Rattle.shell_ask.specs.inner.Trees.{IsUndone};
 
-use crate::answered::{TIMEOUT_MS, close};
+use crate::answered::{close, timeout_for};
 use crate::asked::write;
 use crate::end::CallEnd;
 use crate::plan::TreePlan;
@@ -83,7 +83,8 @@ fn make_tour<A: Allocator + Copy, D: Dial + Drop, C: Clock + Drop>(
     ensures tours { IfSome result (λ tour. Tours A D.Stream.far (scope_of plan.now) (ending_view tour.ending) tour.printed.items) }
     ensures undone { IfSome result (λ tour. IsUndone (ending_view tour.ending)) }
 {
-    let Ok(mut driver) = Driver::begin(alloc, TIMEOUT_MS, dial, clock, plan.addresses) else {
+    let timeout_ms = timeout_for(plan.wait_ms);
+    let Ok(mut driver) = Driver::begin(alloc, timeout_ms, dial, clock, plan.addresses) else {
         return None;
     };
     let until = driver.now().saturating_add(plan.wait_ms);

@@ -76,7 +76,7 @@ pub(crate) fn ending_told<A: Allocator + Copy>(
     match ending {
         Ending::Whole => Ok(String::new(alloc)),
         Ending::Full => full_told(alloc, name, most),
-        Ending::Stopped(at, came) => told(alloc, at.as_str(), came),
+        Ending::Stopped(at, came) => told(alloc, true, at.as_str(), came),
         Ending::Misnamed(at) => {
             let why = "a node below it has a name that no path has";
             fault_line(alloc, "refused: ", at.as_str(), why)

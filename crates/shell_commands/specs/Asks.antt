@@ -11,14 +11,14 @@ use Rattle.zk_conversation.specs.Calls.{Call, Exists, GetData, GetChildren, SetD
 use Rattle.shell_ask.specs.declared.end.CallEnd.{CallEnd}
 use Rattle.shell_ask.specs.declared.end.CallEnd.TheVariants as ends
 use Rattle.shell_ask.specs.Asking.{Coming, ComesOf}
-use Rattle.shell_ask.specs.Printing.{end_of, told, Prints}
+use Rattle.shell_ask.specs.Printing.{end_of, is_read, told, Prints}
 use Rattle.zk_limits.specs.declared.limits.TheConstants.{LONGEST_PATH}
 use Rattle.zk_nodes.specs.PathFault.{fault_of as path_fault}
 use Rattle.script_words.specs.Numbers.{natural_of}
 use Rattle.script_words.specs.Reads.{data_at}
 use Rattle.script_words.specs.declared.script_fault.ScriptFault.{ScriptFault}
 use Rattle.zk_link.specs.Hosts.{parted}
-use Rattle.script_live.specs.Addresses.{is_server}
+use Rattle.shell_commands.specs.Hosts.{is_named_server}
 use Rattle.shell_commands.specs.declared.status.Status.{Status}
 use Rattle.shell_commands.specs.declared.status.Status.TheVariants as status
 use Rattle.shell_commands.specs.declared.verb.Verb.{Verb}
@@ -121,7 +121,7 @@ is_root (b ∷ bytes) = not (is_some (path_fault (b ∷ bytes)))
 -- The word has addresses with commas between them, and a chroot after them where there is one.
 abbrev pub IsServers : (addresses : List Text) → (chroot : Text) → (word : Text) → Type 0
 IsServers addresses chroot word =
-    (addresses ≡ slice_split (λ b. b == 44) (cut_at_slash word).0) × (list_all is_server addresses ≡ true)
+    (addresses ≡ slice_split (λ b. b == 44) (cut_at_slash word).0) × (list_all is_named_server addresses ≡ true)
     × (chroot ≡ chroot_text (cut_at_slash word).1) × (is_root chroot ≡ true)
 
 -- They are what was given.
@@ -244,4 +244,4 @@ pub record TellsWhy (A : Type 0) (far : FarEnd) (call : Call) (name : Text) (sta
   pub coming : Coming
   pub comes : ComesOf A far call coming
   pub ends : status ≡ status_of (end_of coming)
-  pub tells : text ≡ told name coming
+  pub tells : text ≡ told (is_read call) name coming

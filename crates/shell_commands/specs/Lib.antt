@@ -1,4 +1,5 @@
 -- What each command line asks for, and what it writes: by `clap`'s definition of its words, and by what files and scripts give.
+pub mod Hosts
 pub mod Asks
 pub mod Files
 pub mod Print

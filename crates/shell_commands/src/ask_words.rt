@@ -4,17 +4,17 @@ ghost use Rattle.std.specs.Prelude.{◌≡◌, ◌==◌, true, false, List, None
 ghost use Rattle.std.specs.List.{list_all, slice_split};
 ghost use Rattle.std.specs.Option.{option_and_then};
 ghost use Rattle.clap.specs.Words.{Text, first_of, found_of, rows_of};
-ghost use Rattle.script_live.specs.Addresses.{is_server};
 ghost use Rattle.shell_commands.specs.Asks.{AreServers, absolute, chroot_text, cut_at_slash, data_form, flag, form_for, form_or_json};
 ghost use Rattle.shell_commands.specs.Asks.{is_root};
+ghost use Rattle.shell_commands.specs.Hosts.{is_named_server};
 ghost use Rattle.shell_commands.specs.inner.CommandLine.{TellsIf};
 ghost use Rattle.shell_commands.specs.CommandLine.{is_below, wait_at};
 
+use crate::host_name::is_named_server;
 use crate::line_fault::{LineFault, no_command, no_server, no_wait};
 use crate::verb::Verb;
 use crate::watch_words::{count_of, path_of};
 use clap::ArgMatches;
-use script_live::address::is_server;
 use shell_ask::Form;
 use std::alloc::{AllocError, Global};
 use zk_nodes::Path;
@@ -66,17 +66,17 @@ fn between_commas<'a>(alloc: Global, text: &'a str) -> Result<Vec<&'a str>, Allo
 
 /// The first word that is no server.
 fn stranger<'a>(words: &[&'a str]) -> Option<&'a str>
-    ensures { result ≡ find (λ w. not (is_server w.now)) words.now }
+    ensures { result ≡ find (λ w. not (is_named_server w.now)) words.now }
 {
-    let word = words.iter().find(|word| !is_server(word))?;
+    let word = words.iter().find(|word| !is_named_server(word))?;
     Some(*word)
 }
 
 /// The servers of a list.
 fn hosts_of<'a>(alloc: Global, hosts: &'a str) -> Result<Vec<&'a str>, LineFault>
     ensures ok { IfOk result (λ addresses. map (λ a. a.now) addresses.items ≡ slice_split (λ b. b == 44) hosts.now) }
-    ensures accepted { OnOk result (list_all is_server (slice_split (λ b. b == 44) hosts.now) ≡ true) }
-    ensures err { IfErr result (TellsIf (list_all is_server (slice_split (λ b. b == 44) hosts.now) ≡ false)) }
+    ensures accepted { OnOk result (list_all is_named_server (slice_split (λ b. b == 44) hosts.now) ≡ true) }
+    ensures err { IfErr result (TellsIf (list_all is_named_server (slice_split (λ b. b == 44) hosts.now) ≡ false)) }
 {
     let addresses = between_commas(alloc, hosts)?;
     match stranger(addresses.as_slice()) {

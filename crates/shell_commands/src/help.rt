@@ -108,7 +108,7 @@ Printed, each line at once, with the seconds since the watch began before it:
   PATH names N NAME.. PZXID MARK last ZXID
   PATH names none last ZXID     What is kept of the names below it
   PATH refused code N WORDS     A read was refused, and is tried again a second later; told once for each
-                                reason. K3, K5 or K6 in place of code N: no server was asked
+                                reason. K5 or K6 in place of code N: no server was asked
   bound N a tree has more nodes: no more of it are watched
                                 N is that of --most
   halt                          Memory ran out in the client
@@ -193,6 +193,7 @@ What is not done is told on standard error, with PATH:
   not connected: /a: no server has answered in time
   127.0.0.1:2181: connection refused  And so for each address that was dialled: what came of it last
   no answer: /a: its time is over, and it may or may not have happened
+                                      Of get, ls, stat and tree: its time is over
   cut off: /a: 10000 nodes are printed, and there are more
                                       Of tree, where there are more than --most says
   unread: FILE: there is no such file      Or it may not be read, a read failed, or it is too long

@@ -14,6 +14,7 @@ mod fields;
 pub mod files;
 mod frame;
 mod help;
+mod host_name;
 pub mod kind;
 pub mod line_fault;
 pub mod plays;

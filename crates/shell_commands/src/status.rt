@@ -17,7 +17,7 @@ pub enum Status {
     NoNode = 5,
     /// The call was refused, which was told.
     Refused = 6,
-    /// No server has answered, which was told.
+    /// No server has accepted a session, which was told.
     Unconnected = 7,
     /// There is no answer to the call, which was told: it may or may not be done.
     Unanswered = 8,

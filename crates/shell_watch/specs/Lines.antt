@@ -271,9 +271,13 @@ has_ticket ticket watched = list_any (λ one. one.ticket == ticket) watched
 abbrev pub refusal_words : Text → Refusal → List ℕ
 refusal_words path why = text_word (Some path) ++ why_text why
 
--- of a subject that is watched
+-- Whether it is printed that a read was refused: of a subject that is watched, unless the watch itself is ending the session.
+abbrev pub shows_refusal : {A : Type 0} → (ticket : ℕ) → List (Watched A) → Refusal → Bool
+shows_refusal ticket watched SessionClosed = false
+shows_refusal ticket watched why = has_ticket ticket watched
+
 abbrev pub refused_words : {A : Type 0} → List (Watched A) → (ticket : ℕ) → Refusal → List ℕ
-refused_words watched ticket why = if has_ticket ticket watched then refusal_words (path_of watched ticket) why else []
+refused_words watched ticket why = if shows_refusal ticket watched why then refusal_words (path_of watched ticket) why else []
 
 -- the address, the session's number, and the timeout that was granted
 abbrev pub connected_words : (at : Text) → View → List ℕ
@@ -311,14 +315,14 @@ turn_words watched at view turn = []
 -- ---- what a driver tells, as JSON
 
 -- what a line tells of what the agent tells, and nothing where it is not printed
-abbrev pub refused_kind : {A : Type 0} → (ticket : ℕ) → List (Watched A) → List ℕ
-refused_kind ticket watched = if has_ticket ticket watched then codes "refused" else []
+abbrev pub refused_kind : {A : Type 0} → (ticket : ℕ) → List (Watched A) → Refusal → List ℕ
+refused_kind ticket watched why = if shows_refusal ticket watched why then codes "refused" else []
 
 abbrev pub action_kind : {A : Type 0} → List (Watched A) → Told → List ℕ
 action_kind watched (Says (Enters state)) = codes "state"
 action_kind watched (Says (Drop fault)) = codes "drop"
 action_kind watched Begins = codes "renewed"
-action_kind watched (Tells ticket (news.Refused why)) = refused_kind ticket watched
+action_kind watched (Tells ticket (news.Refused why)) = refused_kind ticket watched why
 action_kind watched told = []
 
 abbrev pub turn_kind : {A : Type 0} → List (Watched A) → Turn A → List ℕ

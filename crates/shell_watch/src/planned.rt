@@ -14,7 +14,7 @@ use zk_driver::Driver;
 use zk_link::{Clock, Dial};
 
 /// Watches the subjects of a plan, and prints to `out` what changes, until its time is over or a write fails. Then the session is ended,
-/// which is waited for, a third of the timeout at most.
+/// which is waited for: a third of the timeout at most, and 2 seconds.
 ///
 /// A driver follows each subject, and decides when it is read, which address is dialled, and when another session begins. A line tells each
 /// thing that it tells of the session, of its connections and of reads that are refused; and of a subject its path, what is kept of it now,

@@ -11,7 +11,7 @@ ghost use Rattle.shell_watch.specs.Lines.{turn_members, why_members};
 
 use crate::object::{begun, ended, put_count, put_number, put_text};
 use crate::shown::Watched;
-use crate::words::{code_words, has_ticket, path_of, reason_words};
+use crate::words::{code_words, path_of, reason_words, shows_refusal};
 use json::Writer;
 use script_replay::outputs::state_to_word;
 use script_words::values::push_value;
@@ -19,11 +19,11 @@ use std::alloc::{AllocError, Allocator};
 use zk_client::{Client, Fault, State};
 use zk_driver::{Action, Reason, Refusal, Turn};
 
-/// That a read was refused, where a subject has the ticket.
-fn refused_kind<A: Allocator>(watched: &[Watched<A>], ticket: u64) -> &'static str
-    ensures { result.now ≡ refused_kind ticket watched.now }
+/// That a read was refused, and nothing where it is not printed.
+fn refused_kind<A: Allocator>(watched: &[Watched<A>], ticket: u64, why: Refusal) -> &'static str
+    ensures { result.now ≡ refused_kind ticket watched.now why }
 {
-    if has_ticket(watched, ticket) {
+    if shows_refusal(watched, ticket, why) {
         "refused"
     } else {
         ""
@@ -38,7 +38,7 @@ fn action_kind<A: Allocator>(watched: &[Watched<A>], action: &Action<A>) -> &'st
         Action::State(_) => "state",
         Action::GivenUp(_) => "drop",
         Action::Renewed => "renewed",
-        Action::Refused { ticket, .. } => refused_kind(watched, *ticket),
+        Action::Refused { ticket, why } => refused_kind(watched, *ticket, *why),
         _ => "",
     }
 }

@@ -28,6 +28,9 @@ use zk_trees::{NodeSide, copy_of};
 /// The ticket of the call that ends the session. Those of subjects begin at 1.
 const CLOSE: u64 = 0;
 
+/// The longest that the end of the session is waited for, in milliseconds.
+const LONGEST_CLOSE_MS: u64 = 2_000;
+
 /// A driver, what was printed of the subjects, whether a server has accepted a session, when the watch began, how it is printed, and how
 /// its trees grow.
 #[derive(Drop)]
@@ -293,7 +296,7 @@ impl<'a, A: Allocator + Copy, D: Dial + Drop, C: Clock + Drop> Watcher<'a, A, D,
     }
 
     /// Asks for the end of the session, and no tree grows from then on. The answer is the moment until which it is waited for: a third of
-    /// the timeout.
+    /// the timeout, and 2 seconds at most.
     fn ask_close(&mut self) -> Result<u64, Stop>
         ensures { IfOk result (λ until.
             Does (stand_of D.Stream.remaining D.Stream.contents D.Stream.far D.Stream.state self.old.driver.engine self.old.watched.items
@@ -301,14 +304,14 @@ impl<'a, A: Allocator + Copy, D: Dial + Drop, C: Clock + Drop> Watcher<'a, A, D,
             (stand_of D.Stream.remaining D.Stream.contents D.Stream.far D.Stream.state
             self.new.driver.engine self.new.watched.items self.new.is_accepted self.new.style self.new.growth)) }
     {
-        let wait = u64::from(self.driver.client().timeout_ms() / 3);
+        let wait = u64::from(self.driver.client().timeout_ms() / 3).min(LONGEST_CLOSE_MS);
         let until = self.driver.now().saturating_add(wait);
         self.driver.ask(CLOSE, Call::Close, Some(until))?;
         self.growth.is_growing = false;
         Ok(until)
     }
 
-    /// Ends the session where the client is connected, and waits for that a third of the timeout at most.
+    /// Ends the session where the client is connected, and waits for that a third of the timeout at most, and 2 seconds.
     fn close<O: Write>(&mut self, out: &mut O) -> Result<(), Failure>
         ensures ok { OnOk result (WritesEnd
             (stand_of D.Stream.remaining D.Stream.contents D.Stream.far D.Stream.state self.old.driver.engine self.old.watched.items

@@ -7,7 +7,7 @@ ghost use Rattle.zk_client.specs.Clients.{view_of};
 ghost use Rattle.zk_client.specs.Views.{fault_view};
 ghost use Rattle.zk_agent.specs.Telling.{action_view};
 ghost use Rattle.shell_watch.specs.Lines.{action_words, code_words, connected_words, drop_text, path_of, reason_words, refusal_words};
-ghost use Rattle.shell_watch.specs.Lines.{has_ticket, refused_words, state_words, turn_line, turn_words, why_text};
+ghost use Rattle.shell_watch.specs.Lines.{has_ticket, refused_words, shows_refusal, state_words, turn_line, turn_words, why_text};
 ghost use Rattle.script_words.specs.Values.{spaced};
 
 use crate::plan::Style;
@@ -71,10 +71,20 @@ pub(crate) fn path_of<A: Allocator>(watched: &[Watched<A>], ticket: u64) -> &str
 }
 
 /// Whether a subject has a ticket.
-pub(crate) fn has_ticket<A: Allocator>(watched: &[Watched<A>], ticket: u64) -> bool
+fn has_ticket<A: Allocator>(watched: &[Watched<A>], ticket: u64) -> bool
     ensures { result ≡ has_ticket ticket watched.now }
 {
     watched.iter().any(|one| one.ticket == ticket)
+}
+
+/// Whether it is printed that a read was refused: where a subject has the ticket, unless the watch itself is ending the session.
+pub(crate) fn shows_refusal<A: Allocator>(watched: &[Watched<A>], ticket: u64, why: Refusal) -> bool
+    ensures { result ≡ shows_refusal ticket watched.now why }
+{
+    match why {
+        Refusal::SessionClosed => false,
+        _ => has_ticket(watched, ticket),
+    }
 }
 
 /// A name and the address.
@@ -179,7 +189,7 @@ fn refusal_words<A: Allocator + Copy>(
     Ok(text)
 }
 
-/// The same of the subject that has a ticket, and nothing where none has.
+/// The same of the subject that has a ticket, and nothing where it is not printed.
 fn refused_words<A: Allocator + Copy>(
     alloc: A,
     watched: &[Watched<A>],
@@ -188,7 +198,7 @@ fn refused_words<A: Allocator + Copy>(
 ) -> Result<String<A>, AllocError>
     ensures { IfOk result (λ text. string_bytes text ≡ refused_words watched.now ticket why) }
 {
-    if has_ticket(watched, ticket) {
+    if shows_refusal(watched, ticket, why) {
         return refusal_words(alloc, path_of(watched, ticket), why);
     }
     Ok(String::new(alloc))

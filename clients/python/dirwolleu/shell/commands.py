@@ -7,6 +7,7 @@ import time
 from collections.abc import Iterator
 from typing import Callable, Union
 
+from dirwolleu._paths import why_no_path
 from dirwolleu.client import Client
 from dirwolleu.exceptions import InvalidACLError, NoNodeError, ZookeeperError
 from dirwolleu.security import ACL, Id
@@ -52,8 +53,8 @@ def get(asking: Asking, chosen: argparse.Namespace) -> Printed:
 
 
 def _names(asking: Asking, path: str) -> list[str]:
-    """The names below a node, in the order of their bytes."""
-    return sorted(asking.client.get_children(path, timeout=asking.left()), key=lambda name: name.encode(errors="surrogateescape"))
+    """The names below a node, each once, in the order of their bytes."""
+    return sorted(set(asking.client.get_children(path, timeout=asking.left())), key=lambda name: name.encode(errors="surrogateescape"))
 
 
 def ls(asking: Asking, chosen: argparse.Namespace) -> Printed:
@@ -69,13 +70,30 @@ def stat(asking: Asking, chosen: argparse.Namespace) -> Printed:
     yield from [json_line(fields)] if chosen.json else [f"{name} {value}" for name, value in fields.items()]
 
 
+def _child(asking: Asking, path: str, name: str) -> str:
+    """The path of a node below another one. Raises `Ending` if no path has such a name."""
+    child = f"{path.rstrip('/')}/{name}"
+    if "/" in name or why_no_path(child) or why_no_path(f"{asking.client.chroot.rstrip('/')}{child}"):
+        raise Ending(REFUSED, f"refused: {path}: a node below it has a name that no path has")
+    return child
+
+
+def _below(asking: Asking, chosen: argparse.Namespace, depth: int, path: str) -> list[str]:
+    """The paths of the nodes below a node that are gone through. The nodes at the greatest depth are not listed, unless one is the root."""
+    is_gone_through = chosen.depth is None or depth < chosen.depth
+    names = _names(asking, path) if depth == 0 or is_gone_through else []
+    return [_child(asking, path, name) for name in names] if is_gone_through else []
+
+
 def _walk(asking: Asking, chosen: argparse.Namespace) -> Iterator[str]:
-    """The path of a node and of each one below it, each before those below it. One that is gone by then is left out."""
-    left = [(0, chosen.path)]
+    """The path of a node and of each one below it, each before those below it. One that is gone when it is listed is left out."""
+    left, count = [(0, chosen.path)], 0
     while left:
+        if count == chosen.most:
+            raise Ending(MORE, f"cut off: {chosen.path}: {chosen.most} nodes are printed, and there are more")
         depth, path = left.pop()
         try:
-            names = _names(asking, path)
+            below = _below(asking, chosen, depth, path)
         except NoNodeError:
             if depth == 0:
                 raise
@@ -84,17 +102,15 @@ def _walk(asking: Asking, chosen: argparse.Namespace) -> Iterator[str]:
             error.path = path
             raise
         yield path
-        if chosen.depth is None or depth < chosen.depth:
-            left += [(depth + 1, f"{path.rstrip('/')}/{name}") for name in reversed(names)]
+        count += 1
+        left += [(depth + 1, child) for child in reversed(below)]
 
 
 def tree(asking: Asking, chosen: argparse.Namespace) -> Printed:
     if chosen.text:
         yield from _whole_tree(asking, chosen)
         return
-    for count, path in enumerate(_walk(asking, chosen)):
-        if count == chosen.most:
-            raise Ending(MORE, f"cut off: {chosen.path}: {chosen.most} nodes are printed, and there are more")
+    for path in _walk(asking, chosen):
         yield json_line({"path": path}) if chosen.json else name_line(path)
 
 

@@ -6,20 +6,29 @@ import logging
 import re
 from typing import Any, Callable, NamedTuple, Optional
 
+from dirwolleu._hosts import Place, hosts_of
 from dirwolleu.shell.faults import Dialled
 
 NO_SESSION = "connected, but no session was accepted"
 _NOT_FOUND = "host not found"
+_OWN = "it was closed"
+"""The reason of an end that the client itself has made."""
 
 _WORDS = {
+    "broken pipe": "a write failed",
     "connected, and it has not accepted the session": NO_SESSION,
     "connection reset by peer": "connection reset",
     "connection timed out": "timed out",
+    "name or service not known": _NOT_FOUND,
     "network is unreachable": "network unreachable",
     "no connection in time": "timed out",
     "no route to host": "host unreachable",
     "the server has closed it": "end of stream",
 }
+
+
+def _reason(why: str) -> str:
+    return _WORDS.get(why[:1].lower() + why[1:], why)
 
 
 class Said(NamedTuple):
@@ -34,13 +43,23 @@ class Said(NamedTuple):
     timeout_ms: int = 0
     fault: str = ""
 
+    @property
+    def is_of_server(self) -> bool:
+        """Whether it is the server, and not the client, that has ended the session or the connection, or given cause to end it."""
+        return self.kind in ("closed", "drop") or self.kind == "ended" and self.reason != _OWN
+
 
 class Connections(logging.Handler):
     """Hears what the client's logger says, which names each connection and each session, and hands it on."""
 
     def __init__(self, hosts: str, tell: Callable[[Said], object]) -> None:
         super().__init__()
-        self._servers = hosts.partition("/")[0].split(",")
+        self._words, self._named = dict[str, str](), dict[str, list[str]]()
+        """A server as the words name it: by how the client names it, and all that have a name."""
+        for word in hosts.partition("/")[0].split(","):
+            name, port = hosts_of(word).servers[0]
+            self._words[str(Place(name, name, port))] = word
+            self._named.setdefault(name, []).append(word)
         self._tell = tell
         self._readers: dict[str, Callable[..., Said]] = {
             "dials %s": lambda place: Said("dial", self._address(str(place))),
@@ -71,17 +90,18 @@ class Connections(logging.Handler):
     def _address(self, place: str) -> str:
         """The server as the words name it: of a name that was looked up, without the address."""
         address = re.sub(r" \(.*\)$", "", place)
-        return next((server for server in self._servers if server in (address, address.removesuffix(":2181"))), address)
+        return self._words.get(address, address)
 
     def failed(self, trouble: str) -> Optional[Dialled]:
         """Which address it is whose last attempt has failed, and why."""
         address, colon, why = trouble.partition(": ")
         if not colon:
             return None
-        unknown = [server for server in self._servers if server == address or server.startswith(f"{address}:")]
-        if unknown and not re.search(r":\d+$", address):
-            return Dialled(unknown[0], _NOT_FOUND)
-        return Dialled(self._address(address), _WORDS.get(why, why))
+        unknown = self._named.get(address)
+        if unknown is not None:
+            unknown.append(unknown.pop(0))  # which of them it was is not said: they take turns
+            return Dialled(unknown[-1], _NOT_FOUND)
+        return Dialled(self._address(address), _reason(why))
 
     def _failed(self, trouble: str) -> Said:
         dialled = self.failed(str(trouble))
@@ -93,8 +113,7 @@ class Connections(logging.Handler):
         address, fault = self._address(str(place)), re.fullmatch(r"([A-Z]\d) (.*)", why)
         if fault is not None:
             return Said("drop", address, fault[2], fault=fault[1])
-        why = re.sub(r"^\[Errno \d+\] ", "", why)
-        return Said("ended", address, _WORDS.get(why[:1].lower() + why[1:], why))
+        return Said("ended", address, _reason(re.sub(r"^\[Errno \d+\] ", "", why)))
 
     def _connected(self, place: str, session: int, seconds: float) -> Said:
         return Said("connected", self._address(str(place)), "", session, round(1000 * seconds))
@@ -105,16 +124,17 @@ class Attempts:
 
     def __init__(self) -> None:
         self._last: dict[str, str] = {}
-        self._is_accepted = False
+        self._is_accepted = self.was_accepted = False
         self.is_expired = False
         """Whether a server has said that the session has expired, and none has accepted another since."""
 
     def note(self, said: Said) -> None:
-        if said.kind == "dial":
+        if said.kind == "connecting":
             self._last[said.address] = NO_SESSION
-        elif said.kind == "failed" or said.kind in ("ended", "drop") and self._is_accepted:
+        elif said.address and (said.kind == "failed" or said.kind in ("ended", "drop") and self._is_accepted):
             self._last[said.address] = said.reason
         self._is_accepted = said.kind == "connected"
+        self.was_accepted = self.was_accepted or self._is_accepted
         self.is_expired = said.kind == "expired" or self.is_expired and not self._is_accepted
 
     def all(self) -> list[Dialled]:

@@ -38,7 +38,6 @@ _CODES = {
     -111: "the node has children",
     -112: "the session is over",
     -114: "the open ACL is refused",
-    -115: "the server does not take these credentials",
     -118: "the session was taken up over another connection",
 }
 _PATHS = {
@@ -58,7 +57,7 @@ _NUMBERED = ("C2", "C3", "D2", "D3")
 """The faults of a connection whose values are the numbers of their words, in their order."""
 _UNREAD = {"is cut off": "J1", "is below -1": "J2", "is neither 0 nor 1": "J3", "is not UTF-8": "J4"}
 """Why a message does not read, by the end of its words."""
-_UNANSWERED = (ConnectionLoss, SessionExpiredError, SessionMovedError, ConnectionClosedError)
+_UNANSWERED = (ConnectionLoss, SessionMovedError, ConnectionClosedError)
 _CLIENTS_OWN = {
     TooManyWatchesError: "65,536 paths of the side are watched, pending reads counted",
     TooLargeError: "the payload has more than 1,048,575 bytes",
@@ -98,21 +97,22 @@ def unwritten(error: Exception) -> Ending:
     return Ending(STREAM, f"error: standard output: {why}")
 
 
-def _late(path: str, was_sent: bool) -> Ending:
-    why = "it may or may not have happened" if was_sent else "it was not sent"
-    return Ending(UNANSWERED, f"no answer: {path}: its time is over, and {why}")
+def late(path: str, is_read: bool, was_sent: bool) -> Ending:
+    """The time of a call is over. A read changes nothing, whether it was sent or not."""
+    why = "" if is_read else ", and it may or may not have happened" if was_sent else ", and it was not sent"
+    return Ending(UNANSWERED, f"no answer: {path}: its time is over{why}")
 
 
-def of_call(error: ZookeeperError, path: str, is_connected: bool) -> Ending:
-    """How a command ends whose call has met this. `is_connected` says whether the client has a server now."""
+def of_call(error: ZookeeperError, path: str, is_read: bool) -> Ending:
+    """How a command ends whose call has met this."""
     if isinstance(error, NoNodeError):
         return Ending(NO_NODE, f"no node: {path}")
-    if isinstance(error, CallTimeoutError):
-        return _late(path, error.may_have_happened or is_connected)
-    if isinstance(error, NotConnectedError):
-        return _late(path, False)
+    if isinstance(error, (CallTimeoutError, NotConnectedError)):
+        return late(path, is_read, error.may_have_happened)
     if isinstance(error, ConnectionLoss) and not error.is_answer:
         return Ending(UNANSWERED, f"no answer: {path}: the connection was lost: the call may or may not have happened")
+    if isinstance(error, SessionExpiredError) and not error.is_answer:
+        return expired(path)
     if isinstance(error, _UNANSWERED) and not error.is_answer:
         return Ending(UNANSWERED, f"no answer: {path}: {_CODES.get(error.code or 0, 'the session is closed or is being closed')}")
     own = _CLIENTS_OWN.get(type(error)) or (str(error) if error.code is None else None)
@@ -140,7 +140,7 @@ class Dialled(NamedTuple):
 
 
 def expired(path: str) -> Ending:
-    """A server has said that the session has expired, before one was accepted."""
+    """A server has said that the session has expired."""
     return Ending(UNANSWERED, f"no answer: {path}: the session has expired")
 
 

@@ -13,7 +13,7 @@ from dirwolleu import _library as library
 from dirwolleu import aio
 from dirwolleu._growing import Growing, Host, TreeNews
 from dirwolleu._session import Bounded, LetGo, TakenOn
-from dirwolleu.exceptions import TooLargeError, TooManyWatchesError, ZookeeperError
+from dirwolleu.exceptions import ConnectionClosedError, TooLargeError, TooManyWatchesError, ZookeeperError
 from dirwolleu.shell.connections import Connections, Said
 from dirwolleu.shell.faults import NEVER_CONNECTED, Ending, of_call, values_of
 from dirwolleu.shell.printing import data_fields, hex_word, json_line, quoted_data, stat_fields, word
@@ -127,7 +127,7 @@ class Watch:
         self._client, self._chosen, self._engine = client, chosen, client._engine
         self._began = time.monotonic()
         self.lines: asyncio.Queue[Union[str, BaseException]] = asyncio.Queue()
-        self.is_connected_once = self.is_ending = False
+        self.is_connected_once = self.is_ending = self._is_closed = False
         self._said = ""
         self._shown: dict[Side, Fields] = {}
         """What is watched, and what was printed last of it."""
@@ -147,8 +147,9 @@ class Watch:
     def hear(self, said: Said) -> None:
         """The client has said something of a connection."""
         before, self._said = self._said, said.kind
-        if self.is_ending and said.kind != "closed" or before == "expired" and said.kind == "ended":
+        if self.is_ending and (self._is_closed or not said.is_of_server) or before == "expired" and said.kind == "ended":
             return
+        self._is_closed = said.kind == "closed"
         if before == "connecting" and said.kind == "dial":  # the last server took too long
             self.tell(_state_line("Idle", said))
         self.is_connected_once = self.is_connected_once or said.kind == "connected"
@@ -157,6 +158,8 @@ class Watch:
 
     def look(self, *sides: Side) -> None:
         """Prints what is kept of each of these that is watched, unless all but the last seen zxid is as before."""
+        if self.is_ending and not self._is_closed and not self._engine.is_running:
+            return  # the client has let go of what it kept, and no server has ended the session
         for side in sides:
             line = side.look(self._client, self._chosen.text)
             kept = {**line.fields, "kind": line.kind, "last": 0}
@@ -190,7 +193,9 @@ class Watch:
         self.look(side)
 
     def refuse(self, side: Side, error: BaseException) -> None:
-        """A read is refused, and made again after a second. Each reason is printed once."""
+        """A read is refused, and made again after a second. Each reason is printed once, but that the watch itself ends the session."""
+        if isinstance(error, ConnectionClosedError):
+            return
         line = side.refused(error)
         if self._refused.get(side) != line:
             self._refused[side] = line
@@ -298,7 +303,7 @@ async def run(client: aio.Client, chosen: argparse.Namespace, write: Write) -> N
         try:
             await _print(watch, until, write)
         except ZookeeperError as error:
-            raise of_call(error, error.path or "/", client.connected) from error
+            raise of_call(error, error.path or "/", True) from error
         finally:
             watch.is_ending = True
             watching.cancel()

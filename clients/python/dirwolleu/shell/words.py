@@ -106,6 +106,10 @@ exit status: 1 a line of the script is refused, or it can't listen at the port;
 """
 
 
+_NAMES = "A-Za-z0-9_%.-"
+_SERVER = re.compile(rf"(?:\[([:{_NAMES}]+)\]|([{_NAMES}]+))(?::([1-9][0-9]{{0,4}}))?")
+
+
 class Option(NamedTuple):
     """An option: what its value is called, if it takes one, what help says of it, and how it is taken."""
 
@@ -202,7 +206,7 @@ class _Parser(argparse.ArgumentParser):
 
     def error(self, message: str) -> NoReturn:
         lacks = re.fullmatch(r"argument --([a-z]+): expected one argument", message)
-        too_much = re.fullmatch(r"argument (--[a-z]+): ignored explicit argument '(.*)'", message, re.S)
+        too_much = re.fullmatch(r"argument (?:-h/)?(--[a-z]+): ignored explicit argument '(.*)'", message, re.S)
         if lacks is not None:
             message = f"a value is required for '--{lacks[1]} <{OPTIONS[lacks[1]].value}>' but none was supplied"
         elif too_much is not None:
@@ -299,13 +303,23 @@ def _hosts_of_environment() -> str:
     return "DIRWOLLEU_HOSTS: not UTF-8" if re.search("[\ud800-\udfff]", hosts) else hosts
 
 
+def _check_server(server: str) -> None:
+    """Raises `ValueError` if this is no server: labels of 1 to 63 letters with dots between them, 253 letters in all, and a port."""
+    found = _SERVER.fullmatch(server)
+    if found is None or int(found[3] or 1) > 65_535:
+        raise ValueError(server)
+    name = found[1] or found[2]
+    *labels, last = name.split(".")
+    if len(name) > 253 or not all(labels) or max(map(len, [*labels, last])) > 63:  # the last one may be empty
+        raise ValueError(server)
+
+
 def _read_servers(chosen: argparse.Namespace, given: Optional[str]) -> None:
     chosen.hosts = _hosts_of_environment() if given is None else given
     hosts, slash, below = chosen.hosts.partition("/")
     for server in hosts.split(","):
         try:
-            if server.count(":") > 1 and not server.startswith("["):
-                raise ValueError
+            _check_server(server)
             hosts_of(server)
         except ValueError:
             raise usage(f"{quoted(server)} is no server: HOST:PORT, as zk1:2181 or [::1]:2181") from None
@@ -336,7 +350,7 @@ def _bytes_of(word: str) -> Optional[bytes]:
     if word in ("\\0", "\\e"):
         return None if word == "\\0" else b""
     try:
-        if word.isalnum() and word.isascii():
+        if not word or word.isalnum() and word.isascii():
             return bytes.fromhex(word)
     except ValueError:
         pass
@@ -356,14 +370,27 @@ def read_file(chosen: argparse.Namespace) -> None:
         raise Ending(UNREAD, f"unread: {chosen.file}: it has more than {LONGEST_FILE:,} bytes")
 
 
+def _check_once(name: str, words: Sequence[str]) -> None:
+    """Raises `Ending` if an option is used twice that may be used once."""
+    used = [word[2:].partition("=")[0] for word in words if word.startswith("--")]
+    for place, option in enumerate(used):
+        value, _, how = (OPTIONS_OF_WATCH.get(option) if name == "watch" else None) or OPTIONS[option]
+        if option in used[:place] and how.get("action") != "append":
+            shown = f"--{option} <{value}>" if value is not None else f"--{option}"
+            raise usage(f"the argument '{shown}' cannot be used multiple times\n\nFor more information, try '--help'.")
+
+
 def read(name: str, words: Sequence[str]) -> argparse.Namespace:
     """What the words after a command's name say. Raises `Ending`, and `SystemExit` after it has printed help."""
     end = words.index("--") if "--" in words else len(words)
     chosen, rest = _parser_of(name).parse_known_args(words[:end])
     below = (value for option, value in zip(words[:end], words[1:end]) if option.startswith("--") and re.match(r"-\d", value))
-    strange = next((word for word in [*below, *rest] if word.startswith("-") and word != "-"), None)
+    unexpected = {word for word in [*below, *rest] if word.startswith("-") and word != "-"}
+    strange = next((word for word in words[:end] if word in unexpected), None)
     if strange is not None:
+        strange = strange.partition("=")[0] if strange.startswith("--") else strange[:2]
         raise usage(f"unexpected argument '{strange}' found\n\nFor more information, try '--help'.")
+    _check_once(name, words[:end])
     found = _place(name, [*rest, *words[end + 1 :]])
     _read_numbers(chosen)
     _read_seed(chosen)

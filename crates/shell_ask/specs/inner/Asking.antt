@@ -6,4 +6,4 @@ use Rattle.shell_ask.specs.declared.came.Came.TheVariants as came
 
 abbrev pub came_view : {A : Type 0} → Came A → Coming
 came_view (came.Answered outcome) = Answered (outcome_view outcome)
-came_view (came.Late was_sent was_heard) = Late was_sent was_heard
+came_view (came.Late was_sent was_accepted) = Late was_sent was_accepted

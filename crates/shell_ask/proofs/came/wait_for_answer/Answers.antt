@@ -1,12 +1,12 @@
 -- By what the driver tells next: the answer (`answered`), the limit (`late`), nothing in time, or something else, after which more is heard
 -- (`later`). Its run is longer by one each time: `next_run`.
-use Rattle.std.proofs.Common.{rules, ◌≡◌, None, Some, true, is_some, refl}
+use Rattle.std.proofs.Common.{rules, ◌≡◌, None, Some, true, refl}
 use Rattle.zk_agent.specs.declared.action.Action.TheVariants as action
 use Rattle.zk_client.specs.Views.{outcome_view}
 use Rattle.zk_driver.specs.Driving.{course_of}
 use Rattle.zk_driver.specs.Flowing.{flow_of}
 use Rattle.zk_driver.proofs.Running.{next_run, runs_same}
-use Rattle.shell_ask.specs.Asking.{Answered, Late, passes}
+use Rattle.shell_ask.specs.Asking.{Answered, Late, is_accepted, passes}
 use Rattle.shell_ask.proofs.Hearing.{answered, late, later}
 use Rattle.shell_ask.proofs.came.wait_for_answer.Goals as goal
 
@@ -24,9 +24,8 @@ returns-in-Some-TimedOut-clause-hears g c =
     let new = course_of c.next.new.self.engine None in
     let same : c.in-Some-TimedOut.its ≡ c.args.ticket = search rules in
     let is : c.in_ok-its.field-0 ≡ Some (action.TimedOut c.args.ticket c.in-Some-TimedOut.was_sent) = search rules in
-    let heard : c.is_some-was_heard.result ≡ is_some c.next.new.self.engine.agent.heard_at = search rules in
-    rw heard
-    (c.loop.invariant.hears new (Late c.in-Some-TimedOut.was_sent (is_some c.next.new.self.engine.agent.heard_at))
+    rw c.is_accepted-was_accepted.ensures
+    (c.loop.invariant.hears new (Late c.in-Some-TimedOut.was_sent (is_accepted new))
     (late c.args.ticket c.args.until (course_of c.loop.driver.engine None) c.next.new.self.engine c.in_ok-its.field-0
     c.in-Some-TimedOut.was_sent c.in_ok-its.ensures.goes is))
 
@@ -36,8 +35,7 @@ returns-in-None-clause-hears g c =
     let new = course_of c.next.new.self.engine None in
     let goes = rw c.in-None.is at c.in_ok-its.ensures.goes in
     let come = rw c.in-None.is at c.in_ok-its.ensures.come in
-    let heard : c.is_some-was_heard-in-None.result ≡ is_some c.next.new.self.engine.agent.heard_at = search rules in
-    rw heard (c.loop.invariant.hears new (Late true (is_some c.next.new.self.engine.agent.heard_at)) (passes old goes come))
+    rw c.is_accepted-was_accepted-in-None.ensures (c.loop.invariant.hears new (Late true (is_accepted new)) (passes old goes come))
 
 pub loop-init : goal.loop-init
 loop-init g c =

@@ -1,6 +1,7 @@
 -- The tour begins with a new session and no connection, and walks as `walked` ensures, rewritten by what `now` and `saturating_add` ensure;
 -- a call at which it stops is not done (`undone`).
 use Rattle.std.proofs.Common.{ℕ, ap, subst, None}
+use Rattle.std.specs.Prelude.{unsigned_abs}
 use Rattle.zk_agent.specs.Telling.{told_by}
 use Rattle.zk_driver.specs.Flowing.{flow_of}
 use Rattle.zk_driver.specs.declared.engine.Engine.{Engine}
@@ -21,7 +22,7 @@ returns-in-Ok-tour-clause-tours g c =
     = subst (λ (e : Engine g.row.A.Denot g.row.D-Stream.Denot).
     WalksFrom (know e) until scope (ending_view tour.ending) tour.printed.items) c.now.ensures.engine c.in-Ok-tour.ensures in
     record {
-      timeout = 10000;
+      timeout = unsigned_abs c.timeout_for-timeout_ms.result;
       start = start;
       begins = c.in-Ok.ensures.client;
       parted = c.in-Ok.ensures.channel;

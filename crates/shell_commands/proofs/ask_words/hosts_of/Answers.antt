@@ -1,7 +1,7 @@
 -- All words between the commas are servers where none is a stranger (`each_is`), and not all are where one is (`one_is_not`).
 use Rattle.std.proofs.Common.{rules, ◌≡◌, Bool, true, false, refl, sym, ◌∙◌, ap, map}
 use Rattle.std.specs.List.{list_all}
-use Rattle.script_live.specs.Addresses.{is_server}
+use Rattle.shell_commands.specs.Hosts.{is_named_server}
 use Rattle.shell_commands.proofs.AddressLemmas.{each_is, one_is_not, tells}
 use Rattle.shell_commands.proofs.ask_words.hosts_of.Goals as goal
 
@@ -12,9 +12,9 @@ not_true false h = refl
 pub returns-in-Some-clause-err : goal.returns-in-Some-clause-err
 returns-in-Some-clause-err c =
     let words = c.in_ok-addresses.addresses.items in
-    let other = one_is_not is_server words c.in-Some.word (search rules) in
+    let other = one_is_not is_named_server words c.in-Some.word (search rules) in
     tells _ c.no_server.result c.no_server.ensures (rw (← c.in_ok-addresses.ensures) (not_true _ other))
 
 pub returns-clause-accepted : goal.returns-clause-accepted
 returns-clause-accepted c =
-    rw (← c.in_ok-addresses.ensures) (each_is is_server c.in_ok-addresses.addresses.items (search rules))
+    rw (← c.in_ok-addresses.ensures) (each_is is_named_server c.in_ok-addresses.addresses.items (search rules))

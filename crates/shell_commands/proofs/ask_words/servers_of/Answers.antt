@@ -5,14 +5,14 @@ use Rattle.std.specs.List.{list_all, slice_split}
 use Rattle.std.proofs.lemmas.Bool.{true≢false}
 use Rattle.clap.specs.Words.{Row, Text, first_of, found_of, rows_of}
 use Rattle.clap.proofs.WalkLemmas.{first_value-rows}
-use Rattle.script_live.specs.Addresses.{is_server}
+use Rattle.shell_commands.specs.Hosts.{is_named_server}
 use Rattle.shell_commands.specs.Asks.{AreServers, chroot_text, cut_at_slash, is_root}
 use Rattle.shell_commands.proofs.AddressLemmas.{tells, tells_on}
 use Rattle.shell_commands.proofs.ask_words.servers_of.Goals as goal
 
 -- what hosts come to
 abbrev hosts_are : Text → Bool
-hosts_are hosts = list_all is_server (slice_split (λ b. b == 44) hosts)
+hosts_are hosts = list_all is_named_server (slice_split (λ b. b == 44) hosts)
 
 -- a word whose hosts are no addresses gives no servers
 no_servers : (rows : List Row) (word : Text) (parts : Text × Text) → first_of (codes "SERVERS") rows ≡ Some word → parts ≡ cut_at_slash word
@@ -20,7 +20,7 @@ no_servers : (rows : List Row) (word : Text) (parts : Text × Text) → first_of
 no_servers rows word parts given cut refused addresses chroot are =
     let same : word ≡ are.word = ap (λ o. unwrap_or o []) (sym given ∙ are.given) in
     let halves : parts ≡ cut_at_slash are.word = cut ∙ ap cut_at_slash same in
-    true≢false (sym are.are.1 ∙ ap (list_all is_server) are.are.0 ∙ ap (λ (p : Text × Text). hosts_are p.0) (sym halves) ∙ refused)
+    true≢false (sym are.are.1 ∙ ap (list_all is_named_server) are.are.0 ∙ ap (λ (p : Text × Text). hosts_are p.0) (sym halves) ∙ refused)
 
 -- a word with a chroot that is no path gives no servers
 no_root : (rows : List Row) (word : Text) (parts : Text × Text) → first_of (codes "SERVERS") rows ≡ Some word → parts ≡ cut_at_slash word
@@ -67,7 +67,7 @@ returns-clause-ok c =
       given = some;
       are = (
         split ∙ ap (λ (p : Text × Text). slice_split (λ b. b == 44) p.0) c.parted.ensures,
-        ap (list_all is_server) split ∙ c.in_ok-addresses.ensures.accepted,
+        ap (list_all is_named_server) split ∙ c.in_ok-addresses.ensures.accepted,
         c.in_ok-chroot.ensures.ok ∙ ap (λ (p : Text × Text). chroot_text p.1) c.parted.ensures,
         ap is_root c.in_ok-chroot.ensures.ok ∙ c.in_ok-chroot.ensures.accepted,
       );
