@@ -364,7 +364,7 @@ class ShellsTest(unittest.TestCase):
         """A host whose name cannot be one is refused, and none is dialled; any other is."""
         for host in (*NO_HOSTS, *(f"{host},127.0.0.1:1" for host in NO_HOSTS), *HOSTS):
             zk, python = (run("", ["get", host, "/a", "--wait", "1"]) for run in (self.run_zk, self.run_python))
-            lines, others = (sorted(said.splitlines()) for _, _, said in (zk, python))  # the servers are dialled in an order by chance
+            lines, others = (sorted(said.splitlines()) for _, _, said in (zk, python))  # the servers are dialled in a random order
             self.assertEqual((zk[:2], lines), (python[:2], others), host)
             self.assertEqual(zk[0], 7 if host in HOSTS else 2)
             self.assertIn("host not found" if host in HOSTS else " is no server: HOST:PORT", zk[2])

@@ -1,6 +1,6 @@
 //! An agent with the actions of its last step.
 
-ghost use Rattle.std.specs.Prelude.{◌≡◌, ◌≢◌, ◌<◌, ◌<ℤ◌, ◌^◌, ℕ, pos, true, None, IfErr, IfOk, IfSome, OnOk, Ok, Err, unsigned_abs};
+ghost use Rattle.std.specs.Prelude.{◌≡◌, ◌≢◌, ◌<◌, ◌<ℤ◌, ◌^◌, ℕ, [], pos, true, None, IfErr, IfOk, IfSome, OnOk, Ok, Err, unsigned_abs};
 ghost use Rattle.zk_session.specs.declared.states.State.TheVariants.{Closed};
 ghost use Rattle.zk_turns.specs.Turns.{new_start};
 ghost use Rattle.zk_client.specs.Clients.{view_of};
@@ -118,10 +118,11 @@ impl Device {
     fn stop(&mut self) -> DeviceRefusal
         ensures halted { result ≡ refusals.Halted }
         ensures over { self.new.is_over ≡ true }
-        ensures said { self.new.said ≡ self.old.said }
+        ensures said { self.new.said.items ≡ [] }
         ensures number { self.new.revision.number ≡ raised self.old.revision.number }
         ensures agent { self.new.agent ≡ self.old.agent }
     {
+        self.said.clear();
         self.is_over = true;
         self.revision.raise();
         DeviceRefusal::Halted
@@ -137,17 +138,15 @@ impl Device {
         ensures stepped { OnOk result (Stepped now (happening input) self.old self.new) }
         ensures stopped { IfErr result (λ refusal. (refusal ≡ refusals.Halted) × Stopped self.old self.new) }
     {
-        self.said.clear();
         self.read = 0;
         if self.is_over {
             return Err(self.stop());
         }
         let is_bytes = is_bytes(&input);
-        let Ok(said) = self.agent.step(now, input) else {
+        let Ok(()) = self.agent.step_into(now, input, &mut self.said) else {
             return Err(self.stop());
         };
-        revise(&mut self.revision, is_bytes, said.as_slice());
-        self.said = said;
+        revise(&mut self.revision, is_bytes, self.said.as_slice());
         Ok(())
     }
 

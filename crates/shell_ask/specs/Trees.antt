@@ -1,5 +1,6 @@
 -- What is printed of a tree: which answers, in which order, make which lines.
-use Rattle.std.specs.Prelude.{◌≡◌, ◌≢◌, ◌≤◌, ◌<◌, ◌⊎◌, ◌+◌, ◌-◌, ◌^◌, ℕ, suc, true, false, if◌then◌else◌, nat_lt, List, [], ◌∷◌, ◌++◌, length}
+use Rattle.std.specs.Prelude.{◌≡◌, ◌≢◌, ◌≤◌, ◌<◌, ◌⊎◌, ◌+◌, ◌-◌, ◌^◌, ℕ, suc, true, false, if◌then◌else◌}
+use Rattle.std.specs.Prelude.{nat_lt, List, [], ◌∷◌, ◌++◌, length}
 use Rattle.std.specs.Prelude.{map, min, Contains, None, codes}
 use Rattle.std.specs.Fmt.{decimal}
 use Rattle.std.specs.FinSet as set

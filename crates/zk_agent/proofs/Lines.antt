@@ -21,7 +21,10 @@ use Rattle.zk_follow.proofs.Waiting.{Silent}
 use Rattle.zk_calls.specs.declared.entry.Entry.{Entry}
 use Rattle.zk_calls.specs.declared.entry.Ending.{Ending}
 use Rattle.zk_calls.specs.declared.entry.Ending.TheVariants.{Expired, Late, Lost, LostOf}
-use Rattle.zk_calls.specs.Lines.{after_answer, answered, ended, first_handed, first_where, goes_back, is_ended, left, next_call, waits_turn}
+use Rattle.zk_dialler.specs.Dialling.{has_come}
+use Rattle.zk_calls.specs.Lines.{has_come as come_of_calls}
+use Rattle.zk_calls.specs.Lines.{after_answer, answered, ended, first_handed, first_limit, first_where}
+use Rattle.zk_calls.specs.Lines.{goes_back, is_ended, left, next_call, waits_turn}
 use Rattle.zk_agent.specs.Calls.{hears, hears_all, IsInTime, IsPending, IsServed}
 use Rattle.zk_agent.specs.inner.Calls.{how_many_wait, IsAsked, IsDone}
 use Rattle.zk_agent.specs.Replies.{is_back}
@@ -37,6 +40,20 @@ asked_by entry = (entry.ticket, call_view entry.call)
 -- by whether the first waits for its turn
 abbrev next_by : {A : Type 0} → Bool → Entry A → List (Entry A) → Option (ℕ × Asked_call)
 next_by waits entry entries = option_map asked_by (cond waits (Some entry) (first_where waits_turn entries))
+
+-- ---- the first limit
+
+pub not_come : {A : Type 0} (now : ℕ) (first : Option ℕ) (come : Bool) (entries : List (Entry A))
+    → come ≡ has_come now first → not come ≡ true → first ≡ first_limit entries → come_of_calls now (first_limit entries) ≡ false
+not_come now first come entries is none at = ap (come_of_calls now) (sym at) ∙ same first ∙ sym is ∙ not_so come none
+  where
+    not_so : (b : Bool) → not b ≡ true → b ≡ false
+    not_so true e = sym e
+    not_so false e = refl
+
+    same : (moment : Option ℕ) → come_of_calls now moment ≡ has_come now moment
+    same None = refl
+    same (Some moment) = refl
 
 -- ---- what counts as handed over
 

@@ -109,6 +109,9 @@ pub(crate) fn push_trees<A: Allocator>(
 ) -> Result<(), AllocError>
     ensures { OnOk result (told_by actions.new.items ≡ told_by actions.old.items ++ map TellsTree (trees_told news.items)) }
 {
+    if news.as_slice().is_empty() {
+        return Ok(());
+    }
     let mut left = VecDeque::from_vec(news);
     while let Some(one) = left.pop_front() {
         push(actions, Action::Tree(one))?;

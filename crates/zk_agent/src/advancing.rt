@@ -16,18 +16,20 @@ use crate::action::{Action, push_news};
 use crate::calls::{end_calls, push_outputs};
 use crate::replies::{Heard, heard_in};
 use std::alloc::{AllocError, Allocator};
+use std::mem;
 use zk_calls::{Ending, Line};
 use zk_client::{Input, Output};
 use zk_follow::{Follower, FollowerStop};
 
-/// Tells what the client has said, and then what there is to tell of the subjects. The line hears the answers.
+/// Tells what the client has said, and then what there is to tell of the subjects. The line hears the answers. The room of the outputs is
+/// given back.
 fn report<A: Allocator + Copy>(
     alloc: A,
     follower: &mut Follower<A>,
     line: &mut Line<A>,
     outputs: Vec<Output<A>, A>,
     actions: &mut Vec<Action<A>, A>,
-) -> Result<(), AllocError>
+) -> Result<Vec<Output<A>, A>, AllocError>
     ensures told { OnOk result
         (told_by actions.new.items ≡ (told_by actions.old.items ++ tells_all line.old.entries.items (said outputs.items))
         ++ map news_told (flat_map (news_in (view_of follower.old.client) (said outputs.items)) follower.old.subjects.items)) }
@@ -37,15 +39,17 @@ fn report<A: Allocator + Copy>(
 {
     let mut news = Vec::new(alloc);
     follower.report_all(outputs.as_slice(), &mut news)?;
-    push_outputs(line, outputs, actions)?;
-    push_news(news.as_slice(), actions)
+    let room = push_outputs(line, outputs, actions)?;
+    push_news(news.as_slice(), actions)?;
+    Ok(room)
 }
 
-/// Hands the client an input. The line is as it is once the client has taken that.
+/// Hands the client an input, whose outputs are in this room. The line is as it is once the client has taken that.
 pub(crate) fn advance<A: Allocator + Copy>(
     alloc: A,
     follower: &mut Follower<A>,
     line: &mut Line<A>,
+    room: &mut Vec<Output<A>, A>,
     now: u64,
     input: Input<A>,
     actions: &mut Vec<Action<A>, A>,
@@ -56,9 +60,10 @@ pub(crate) fn advance<A: Allocator + Copy>(
     ensures followed { OnOk result (AreFollowed now (view_of follower.new.client) follower.new.subjects.items) }
     ensures broke { OnErr result (BreaksOff (view_of follower.old.client) (view_of follower.new.client)) }
 {
-    let outputs = follower.step(now, input)?;
+    let mut outputs = mem::replace(room, Vec::new(alloc));
+    follower.step_into(now, input, &mut outputs)?;
     let heard = heard_in(outputs.as_slice());
-    report(alloc, follower, line, outputs, actions)?;
+    *room = report(alloc, follower, line, outputs, actions)?;
     Ok(heard)
 }
 
@@ -67,6 +72,7 @@ pub(crate) fn hand_over<A: Allocator + Copy>(
     alloc: A,
     follower: &mut Follower<A>,
     line: &mut Line<A>,
+    room: &mut Vec<Output<A>, A>,
     now: u64,
     actions: &mut Vec<Action<A>, A>,
 ) -> Result<Option<Heard>, FollowerStop>
@@ -81,7 +87,7 @@ pub(crate) fn hand_over<A: Allocator + Copy>(
         return Ok(None);
     };
     let input = Input::Call(ticket, call);
-    Ok(Some(advance(alloc, follower, line, now, input, actions)?))
+    Ok(Some(advance(alloc, follower, line, room, now, input, actions)?))
 }
 
 /// Each call of the line is answered that the session has expired, and the client is one of another session.

@@ -231,13 +231,48 @@ impl<A: Allocator + Copy> Agent<A> {
             (papers_of self.new.credentials ≡ all_written (is_open self.new.dialler.phase) (papers_in input self.old)) }
         ensures broke { OnErr result (IsBroken self.old self.new) }
     {
+        let mut actions = Vec::new(self.alloc);
+        self.step_into(now, input, &mut actions)?;
+        Ok(actions)
+    }
+
+    /// [`step`](Agent::step), whose actions take the place of those that were given, in the same room.
+    pub fn step_into(
+        &mut self,
+        now: u64,
+        input: AgentInput<A>,
+        actions: &mut Vec<Action<A>, A>,
+    ) -> Result<(), FollowerStop>
+        ensures comes { OnOk result (Comes (max self.old.latest now)
+            (moves_of (is_open self.new.dialler.phase) (max self.old.latest now) input self.old) (trail_of self.old [])
+            (trail_of self.new actions.new.items)) }
+        ensures followed { OnOk result
+            (AreFollowed self.new.latest (view_of self.new.asker.follower.client) self.new.asker.follower.subjects.items) }
+        ensures calls { OnOk result ((ticket : ℕ) → how_many ticket self.new.asker.line.entries.items + how_many_ended ticket
+            (told_by actions.new.items) ≡ how_many ticket self.old.asker.line.entries.items + how_many_asked ticket input) }
+        ensures served { OnOk result (All (IsServed (view_of self.new.asker.follower.client)) self.new.asker.line.entries.items) }
+        ensures limits { OnOk result (All (IsInTime self.new.latest) self.new.asker.line.entries.items) }
+        ensures closed { OnOk result
+            ((view_of self.new.asker.follower.client).standing.state ≡ Closed → self.new.asker.line.entries.items ≡ []) }
+        ensures renewed { OnOk result ((view_of self.new.asker.follower.client).standing.state ≢ Expired) }
+        ensures dials { OnOk result ((view_of self.new.asker.follower.client).standing.state ≢ Closed
+            → IsDecided (max self.old.latest now) (trail_of self.new actions.new.items)) }
+        ensures answers { OnOk result (IsAnswered self.new) }
+        ensures latest { OnOk result (self.new.latest ≡ max self.old.latest now) }
+        ensures heard { OnOk result
+            (self.new.heard_at ≡ heard_after (is_open self.old.dialler.phase) (max self.old.latest now) input self.old.heard_at) }
+        ensures trees { OnOk result (GoesOn (max self.old.latest now) input self.old self.new actions.new.items) }
+        ensures credentials { OnOk result
+            (papers_of self.new.credentials ≡ all_written (is_open self.new.dialler.phase) (papers_in input self.old)) }
+        ensures broke { OnErr result (IsBroken self.old self.new) }
+    {
         let now = self.latest.max(now);
         let heard_at = heard_moment(self.dialler.is_open(), now, &input, self.heard_at);
-        let mut actions = Vec::new(self.alloc);
-        self.go_on(now, input, &mut actions)?;
+        actions.clear();
+        self.go_on(now, input, actions)?;
         self.latest = now;
         self.heard_at = heard_at;
-        Ok(actions)
+        Ok(())
     }
 
     /// Takes what has happened at a moment that is the latest, with the trees and the credentials. Nothing was said before.

@@ -9,10 +9,11 @@ use crate::action::Action;
 use crate::advancing::{advance, begin, hand_over};
 use crate::calls::{close_calls, end_calls};
 use crate::input::AgentInput;
+use crate::moments::has_come;
 use crate::replies::Heard;
 use std::alloc::{AllocError, Allocator, Global};
 use zk_calls::{Ending, Line};
-use zk_client::{Call, Client, Input, Path, Side};
+use zk_client::{Call, Client, Input, Output, Path, Side};
 use zk_follow::{Follower, FollowerStop};
 use zk_trees::{TreeNews, Trees};
 
@@ -23,11 +24,13 @@ pub(crate) struct Asker<A: Allocator + Copy = Global> {
     alloc: A,
     pub(crate) follower: Follower<A>,
     pub(crate) line: Line<A>,
+    /// Where the outputs of the client stand within a step.
+    room: Vec<Output<A>, A>,
     ghost asked: { All (IsAsked (view_of follower.client)) line.entries.items } by { Prim.hlevel props },
 }
 
 impl<A: Allocator + Copy> Asker<A> {
-    ghost use Rattle.std.specs.Prelude.{◌≡◌, ◌++◌, ◌∷◌, ◌<ℤ◌, ℕ, List, pos, map, false, [], None, IfOk, OnErr, OnOk, OnSome, All};
+    ghost use Rattle.std.specs.Prelude.{◌≡◌, ◌++◌, ◌∷◌, ◌<ℤ◌, ℕ, List, pos, map, true, false, [], None, IfOk, OnErr, OnOk, OnSome, All};
     ghost use Rattle.zk_turns.specs.Turns.{Forgets, Item, Start};
     ghost use Rattle.zk_turns.specs.View.{view_at};
     ghost use Rattle.zk_turns.specs.Rule.{forgotten, Stands};
@@ -36,7 +39,7 @@ impl<A: Allocator + Copy> Asker<A> {
     ghost use Rattle.zk_follow.specs.Following.{due_again, fresh, unfollowed, BreaksOff, AreFollowed};
     ghost use Rattle.zk_trees.specs.Tending.{footing_in, shifted_by, trees_told, Tends};
     ghost use Rattle.zk_agent.specs.Trees.{Alters};
-    ghost use Rattle.zk_calls.specs.Lines.{left};
+    ghost use Rattle.zk_calls.specs.Lines.{ended, left};
     ghost use Rattle.zk_agent.specs.inner.Agents.{HandsOver};
     ghost use Rattle.zk_agent.specs.Agents.{TakesSo};
     ghost use Rattle.zk_agent.specs.Calls.{closings, endings};
@@ -52,6 +55,7 @@ impl<A: Allocator + Copy> Asker<A> {
             alloc,
             follower: Follower::new(alloc, client),
             line: Line::new(alloc),
+            room: Vec::new(alloc),
         }
     }
 
@@ -73,6 +77,7 @@ impl<A: Allocator + Copy> Asker<A> {
             self.alloc,
             &mut self.follower,
             &mut self.line,
+            &mut self.room,
             now,
             input,
             actions,
@@ -99,7 +104,14 @@ impl<A: Allocator + Copy> Asker<A> {
             (λ heard. OnSome heard (AreFollowed now (view_of self.new.follower.client) self.new.follower.subjects.items)) }
         ensures broke { OnErr result (BreaksOff (view_of self.old.follower.client) (view_of self.new.follower.client)) }
     {
-        match hand_over(self.alloc, &mut self.follower, &mut self.line, now, actions) {
+        match hand_over(
+            self.alloc,
+            &mut self.follower,
+            &mut self.line,
+            &mut self.room,
+            now,
+            actions,
+        ) {
             Ok(heard) => Ok(heard),
             Err(stop) => {
                 self.line.clear();
@@ -199,6 +211,13 @@ impl<A: Allocator + Copy> Asker<A> {
         self.line.ask(ticket, call, until)
     }
 
+    /// Whether no limit of a call has come.
+    fn is_in_time(&self, now: u64) -> bool
+        ensures { result ≡ true → ended (Ending.Late now) self.now.line.entries.items ≡ [] }
+    {
+        !has_come(now, self.line.deadline())
+    }
+
     /// The calls wait no more whose limit has come.
     pub(crate) fn give_up(
         &mut self,
@@ -210,6 +229,9 @@ impl<A: Allocator + Copy> Asker<A> {
             (told_by actions.new.items ≡ told_by actions.old.items ++ endings (Ending.Late now) self.old.line.entries.items) }
         ensures follower { self.new.follower ≡ self.old.follower }
     {
+        if self.is_in_time(now) {
+            return Ok(());
+        }
         match end_calls(&mut self.line, Ending::Late(now), actions) {
             Ok(()) => Ok(()),
             Err(fault) => {

@@ -126,12 +126,12 @@ fn push_output<A: Allocator + Copy>(
     }
 }
 
-/// Adds what a program is told of what the client says, in order. The line hears the answers.
+/// Adds what a program is told of what the client says, in order. The line hears the answers. The room of the outputs is given back.
 pub(crate) fn push_outputs<A: Allocator + Copy>(
     line: &mut Line<A>,
     outputs: Vec<Output<A>, A>,
     actions: &mut Vec<Action<A>, A>,
-) -> Result<(), AllocError>
+) -> Result<Vec<Output<A>, A>, AllocError>
     ensures line { OnOk result (line.new.entries.items ≡ hears_all line.old.entries.items (said outputs.items)) }
     ensures told { OnOk result
         (told_by actions.new.items ≡ told_by actions.old.items ++ tells_all line.old.entries.items (said outputs.items)) }
@@ -140,5 +140,5 @@ pub(crate) fn push_outputs<A: Allocator + Copy>(
     while let Some(output) = left.pop_front() {
         push_output(line, output, actions)?;
     }
-    Ok(())
+    Ok(left.into_vec())
 }

@@ -1,5 +1,5 @@
 -- Who is named by outputs is found, and who is not found is quiet as before.
-use Rattle.std.proofs.Common.{◌≡◌, ◌≤◌, ◌<◌, ◌+◌, ◌∙◌, ◌++◌, ◌∷◌, ◌||◌, ◌&&◌, ◌⊎◌, inl, inr, ℕ, Bool, true, false, not, List, [], length}
+use Rattle.std.proofs.Common.{◌≡◌, ◌≤◌, ◌<◌, ◌+◌, ◌∙◌, ◌++◌, ◌∷◌, ◌||◌, ◌&&◌, ◌⊎◌, inl, inr, ℕ, Bool, true, false, List, [], length}
 use Rattle.std.proofs.Common.{get_or, map, take}
 use Rattle.std.proofs.Common.{refl, sym, ap, subst, arith}
 use Rattle.std.specs.Prelude.{◌==◌, nat_lt, IfOk, Result, Ok, Err}
@@ -13,7 +13,6 @@ use Rattle.zk_turns.specs.View.{View}
 use Rattle.zk_turns.specs.Rule.{RuleAt}
 use Rattle.zk_client.specs.declared.output.Output.{Output as Made}
 use Rattle.zk_client.specs.Views.{output_view, said}
-use Rattle.zk_follow.specs.declared.about.About.{About}
 use Rattle.zk_follow.specs.declared.index.Index.{Index}
 use Rattle.zk_follow.specs.declared.progress.Progress.{Progress}
 use Rattle.zk_follow.specs.declared.subject.Subject.{Subject}
@@ -22,10 +21,10 @@ use Rattle.zk_follow.specs.Following.{was_shown, AreQuietBut, AreVisited, IsVisi
 use Rattle.zk_follow.specs.inner.Following.{Asks}
 use Rattle.zk_follow.specs.Places.{has_place, key_of, AreFound}
 use Rattle.zk_follow.specs.inner.Places.{is_named, AreSameBut}
-use Rattle.zk_follow.specs.inner.Resting.{covers, is_about, tells_fields, AreLeft, AreNoted, AreTold}
+use Rattle.zk_follow.specs.inner.Resting.{is_about, is_about_all, tells_fields, AreLeft, AreTold}
 use Rattle.zk_follow.proofs.Forgetting.{after_forgetting}
 use Rattle.zk_follow.proofs.Hearing.{all_same_path, all_same_ticket}
-use Rattle.zk_follow.proofs.Resting.{and_parts, quiet_parts, rests_at, rests_on, rests_still, told_same}
+use Rattle.zk_follow.proofs.Resting.{quiet_parts, rests_at, rests_on, rests_still, told_same}
 use Rattle.zk_follow.proofs.Placing.{among_before, among_last}
 use Rattle.zk_follow.proofs.Staying.{or_false}
 use Rattle.zk_follow.proofs.Telling.{any_said}
@@ -59,31 +58,26 @@ named_first ticket path (output ∷ outputs) e =
     by _ e = refl
 
 -- where no output is about each, those are named whom one is about
-about_named : {A : Type 0} (about : About A) → about.is_each ≡ false → (ticket : ℕ) (path : Text) (output : Output)
-    → covers about output ≡ true → is_named ticket path output ≡ false → is_about ticket path output ≡ false
-about_named about each ticket path (Answer its outcome) covered unnamed =
-    let parts = and_parts _ (not (tells_fields outcome) || about.is_each) covered in
-    ap (λ b. b || tells_fields outcome) unnamed ∙ fields (tells_fields outcome) parts.1
-  where
-    fields : (told : Bool) → (not told || about.is_each) ≡ true → told ≡ false
-    fields true e = sym e ∙ each
-    fields false e = refl
-about_named about each ticket path (Report at side event) covered unnamed = unnamed
-about_named about each ticket path (Enters state) covered unnamed = absurd (let e : true ≡ false = sym covered ∙ each in cc)
-about_named about each ticket path _ covered unnamed = refl
+about_named : (ticket : ℕ) (path : Text) (output : Output)
+    → is_about_all output ≡ false → is_named ticket path output ≡ false → is_about ticket path output ≡ false
+about_named ticket path (Answer its outcome) of_all unnamed = ap (λ b. b || tells_fields outcome) unnamed ∙ of_all
+about_named ticket path (Report at side event) of_all unnamed = unnamed
+about_named ticket path (Enters state) of_all unnamed = absurd cc
+about_named ticket path _ of_all unnamed = refl
 
-pub all_named : {A : Type 0} (about : About A) → about.is_each ≡ false → (ticket : ℕ) (path : Text) (outputs : List Output)
-    → AreNoted about outputs → list_any (is_about ticket path) outputs ≡ true → list_any (is_named ticket path) outputs ≡ true
-all_named about each ticket path [] noted e = absurd cc
-all_named about each ticket path (output ∷ outputs) noted e =
-    by (is_named ticket path output) refl (all_named about each ticket path outputs noted.1)
+pub all_named : (ticket : ℕ) (path : Text) (outputs : List Output) → list_any is_about_all outputs ≡ false
+    → list_any (is_about ticket path) outputs ≡ true → list_any (is_named ticket path) outputs ≡ true
+all_named ticket path [] of_all e = absurd cc
+all_named ticket path (output ∷ outputs) of_all e =
+    let parts = or_false (is_about_all output) (list_any is_about_all outputs) of_all in
+    by (is_named ticket path output) refl parts.0 (all_named ticket path outputs parts.1)
   where
-    by : (b : Bool) → is_named ticket path output ≡ b
+    by : (b : Bool) → is_named ticket path output ≡ b → is_about_all output ≡ false
         → (list_any (is_about ticket path) outputs ≡ true → list_any (is_named ticket path) outputs ≡ true)
         → (b || list_any (is_named ticket path) outputs) ≡ true
-    by true f rest = refl
-    by false f rest =
-        let none = about_named about each ticket path output noted.0 f in
+    by true f of_all rest = refl
+    by false f of_all rest =
+        let none = about_named ticket path output of_all f in
         rest (sym (ap (λ b. b || list_any (is_about ticket path) outputs) none) ∙ e)
 
 -- ---- who is left
@@ -334,15 +328,15 @@ named_more {A} test outputs index item within is e = by (list_any test (said (ta
     by false f g = inr g
 
 -- the same of what is found
-pub about_by : {A E V : Type 0} (items : V → List ℕ) (about : About A) → about.is_each ≡ false → (index : Index A) (outputs : List Output)
-    → AreNoted about outputs → (result : Result V E)
+pub about_by : {A E V : Type 0} (items : V → List ℕ) (index : Index A) (outputs : List Output)
+    → list_any is_about_all outputs ≡ false → (result : Result V E)
     → IfOk result (λ all. (ticket : ℕ) (path : Text) (at : ℕ) → at < index.count → has_place index.keys ticket at ≡ true
     → has_place index.keys (key_of path) at ≡ true → list_any (is_named ticket path) outputs ≡ true → is_among at (items all) ≡ true)
     → IfOk result (λ all. (ticket : ℕ) (path : Text) (at : ℕ) → at < index.count → has_place index.keys ticket at ≡ true
     → has_place index.keys (key_of path) at ≡ true → list_any (is_about ticket path) outputs ≡ true → is_among at (items all) ≡ true)
-about_by items about each index outputs noted (Ok all) named = λ ticket path at fits its other e.
-    named ticket path at fits its other (all_named about each ticket path outputs noted e)
-about_by items about each index outputs noted (Err fault) named = named
+about_by items index outputs of_all (Ok all) named = λ ticket path at fits its other e.
+    named ticket path at fits its other (all_named ticket path outputs of_all e)
+about_by items index outputs of_all (Err fault) named = named
 
 -- one more is among them
 pub woken_more : (at place : ℕ) (places : List ℕ) → (at < place → is_among at places ≡ true) → at < place + 1

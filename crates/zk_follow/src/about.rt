@@ -4,7 +4,7 @@ ghost use Rattle.std.specs.Prelude.{◌≡◌, ◌<◌, ◌%◌, ℕ, false, tru
 ghost use Rattle.std.specs.List.{list_any};
 ghost use Rattle.zk_turns.specs.Turns.{Output as Said};
 ghost use Rattle.zk_client.specs.Views.{outcome_view, output_view, said};
-ghost use Rattle.zk_follow.specs.inner.Resting.{covers, is_about, is_marked, slots, tells_fields, AreCovered};
+ghost use Rattle.zk_follow.specs.inner.Resting.{covers, is_about, is_about_all, is_marked, slots, tells_fields, AreCovered};
 
 use crate::reported::Reported;
 use std::alloc::{AllocError, Allocator};
@@ -31,6 +31,24 @@ fn tells_fields<A: Allocator>(outcome: &Outcome<A>) -> bool
             ..
         }
     )
+}
+
+/// Whether an output may be about each subject.
+fn is_about_all<A: Allocator>(output: &Output<A>) -> bool
+    ensures { result ≡ is_about_all (output_view output.now) }
+{
+    match output {
+        Output::Answer { outcome, .. } => tells_fields(outcome),
+        Output::State(_) => true,
+        _ => false,
+    }
+}
+
+/// Whether one of these outputs may be about each subject.
+pub(crate) fn has_one_about_all<A: Allocator>(outputs: &[Output<A>]) -> bool
+    ensures { result ≡ list_any is_about_all (said outputs.now) }
+{
+    outputs.iter().any(|output| is_about_all(output))
 }
 
 /// How many remainders are told apart: so many that few subjects share one with an answer.
@@ -105,13 +123,6 @@ impl<A: Allocator + Copy> About<A> {
         ensures { result ≡ is_marked self.now.answered.items ticket }
     {
         self.answered.as_slice()[slot(ticket, self.answered.len())]
-    }
-
-    /// Whether one of the outputs may be about each subject.
-    pub(crate) fn is_about_each(&self) -> bool
-        ensures { result ≡ self.now.is_each }
-    {
-        self.is_each
     }
 
     /// Whether these outputs, which it is about, say nothing of a subject.

@@ -64,6 +64,28 @@ fn hear_each<A: Allocator + Copy>(
     }
 }
 
+/// The same, with what the outputs are about. Where there are no places nothing is done.
+fn hear_listed<A: Allocator + Copy>(
+    alloc: A,
+    subjects: &mut [Subject<A>],
+    places: &[usize],
+    now: u64,
+    outputs: &[Output<A>],
+) -> Result<(), AllocError>
+    requires ascend { IsAscending places.now }
+    requires below { All (λ at. at < length subjects.old) places.now }
+    requires rest { AreUnmoved now (said outputs.now) subjects.old places.now }
+    ensures heard { OnOk result (subjects.new ≡ map (taken now (said outputs.now)) subjects.old) }
+    ensures left { OnOk result (AreSameBut places.now subjects.old subjects.new) }
+{
+    if places.is_empty() {
+        return Ok(());
+    }
+    let about = About::of(alloc, outputs)?;
+    hear_each(subjects, places, now, &about, outputs);
+    Ok(())
+}
+
 /// How many subjects count as being read, if those at these places alone do.
 fn count_reads<A: Allocator + Copy>(subjects: &[Subject<A>], places: &[usize]) -> usize
     requires ascend { IsAscending places.now }
@@ -119,13 +141,11 @@ fn visit_all<A: Allocator + Copy>(
     places: &[usize],
     client: &mut Client<A>,
     now: u64,
-    about: &About<A>,
     outputs: &[Output<A>],
     made: &mut Vec<Output<A>, A>,
 ) -> Result<(), FollowerStop>
     requires counted { All (λ subject. IsCounted (view_of client.old) (heard_all now subject (said outputs.now))) subjects.old }
     requires goes_on { (view_of client.old).standing.halted ≡ false }
-    requires covered { AreCovered about.now (said outputs.now) }
     requires ascend { IsAscending places.now }
     requires below { All (λ at. at < length subjects.old) places.now }
     requires rest { AreLeft (view_of client.old) (said outputs.now) subjects.old places.now }
@@ -138,7 +158,9 @@ fn visit_all<A: Allocator + Copy>(
     ensures visited { OnOk result (AreVisited now (said outputs.now) subjects.old subjects.new) }
     ensures broke { OnErr result (BreaksOff (view_of client.old) (view_of client.new)) }
 {
-    hear_each(subjects, places, now, about, outputs);
+    let Ok(()) = hear_listed(alloc, subjects, places, now, outputs) else {
+        return Err(FollowerStop::Memory);
+    };
     let reads = count_reads(subjects, places);
     visit_each(alloc, subjects, places, client, now, reads, made)
 }
@@ -149,14 +171,15 @@ fn step_alone<A: Allocator + Copy>(
     client: &mut Client<A>,
     now: u64,
     input: Input<A>,
-) -> Result<Vec<Output<A>, A>, FollowerStop>
+    outputs: &mut Vec<Output<A>, A>,
+) -> Result<(), FollowerStop>
     requires { length _subjects.now ≡ 0 }
-    ensures steps { IfOk result (λ outputs. Steps now (view_of client.old) (input_view input) _subjects.now
-        (view_of client.new) (said outputs.items) _subjects.now) }
+    ensures steps { OnOk result (Steps now (view_of client.old) (input_view input) _subjects.now
+        (view_of client.new) (said outputs.new.items) _subjects.now) }
     ensures broke { OnErr result (BreaksOff (view_of client.old) (view_of client.new)) }
 {
-    match client.step_at(now, input) {
-        Ok(outputs) => Ok(outputs),
+    match client.step_at_into(now, input, outputs) {
+        Ok(()) => Ok(()),
         Err(_) => Err(FollowerStop::Halted),
     }
 }
@@ -170,7 +193,8 @@ fn advance_all<A: Allocator + Copy>(
     client: &mut Client<A>,
     now: u64,
     input: Input<A>,
-) -> Result<Vec<Output<A>, A>, FollowerStop>
+    outputs: &mut Vec<Output<A>, A>,
+) -> Result<(), FollowerStop>
     requires counted { All (IsCounted (view_of client.old)) subjects.old }
     requires sized { 0 < length index.now.keys.buckets.items }
     requires count { index.now.count ≡ length subjects.old }
@@ -181,18 +205,14 @@ fn advance_all<A: Allocator + Copy>(
     ensures found { OnOk result (AreFound index.now subjects.new) }
     ensures rest { OnOk result (AreQuietBut (view_of client.new) index.now.count subjects.new awake.new.items) }
     ensures ahead { OnOk result (All (λ subject. IsAhead now subject.progress) subjects.new) }
-    ensures steps { IfOk result
-        (λ outputs. Steps now (view_of client.old) (input_view input) subjects.old (view_of client.new) (said outputs.items) subjects.new) }
+    ensures steps { OnOk result
+        (Steps now (view_of client.old) (input_view input) subjects.old (view_of client.new) (said outputs.new.items) subjects.new) }
     ensures broke { OnErr result (BreaksOff (view_of client.old) (view_of client.new)) }
 {
-    let Ok(mut outputs) = client.step_at(now, input) else {
+    let Ok(()) = client.step_at_into(now, input, outputs) else {
         return Err(FollowerStop::Halted);
     };
-    let Ok(about) = About::of(alloc, outputs.as_slice()) else {
-        return Err(FollowerStop::Memory);
-    };
-    let Ok(places) = index.with_those_about(alloc, awake.as_slice(), &about, outputs.as_slice())
-    else {
+    let Ok(places) = index.with_those_about(alloc, awake.as_slice(), outputs.as_slice()) else {
         return Err(FollowerStop::Memory);
     };
     let mut made = Vec::new(alloc);
@@ -202,13 +222,12 @@ fn advance_all<A: Allocator + Copy>(
         places.as_slice(),
         client,
         now,
-        &about,
         outputs.as_slice(),
         &mut made,
     )?;
     *awake = places;
     match outputs.append(&mut made) {
-        Ok(()) => Ok(outputs),
+        Ok(()) => Ok(()),
         Err(_) => Err(FollowerStop::Memory),
     }
 }
@@ -222,7 +241,8 @@ fn advance<A: Allocator + Copy>(
     client: &mut Client<A>,
     now: u64,
     input: Input<A>,
-) -> Result<Vec<Output<A>, A>, FollowerStop>
+    outputs: &mut Vec<Output<A>, A>,
+) -> Result<(), FollowerStop>
     requires counted { All (IsCounted (view_of client.old)) subjects.old }
     requires found { AreFound index.old subjects.old }
     requires rest { AreQuietBut (view_of client.old) index.old.count subjects.old awake.old.items }
@@ -231,17 +251,17 @@ fn advance<A: Allocator + Copy>(
     ensures found { OnOk result (AreFound index.new subjects.new) }
     ensures rest { OnOk result (AreQuietBut (view_of client.new) index.new.count subjects.new awake.new.items) }
     ensures ahead { OnOk result (All (λ subject. IsAhead now subject.progress) subjects.new) }
-    ensures steps { IfOk result
-        (λ outputs. Steps now (view_of client.old) (input_view input) subjects.old (view_of client.new) (said outputs.items) subjects.new) }
+    ensures steps { OnOk result
+        (Steps now (view_of client.old) (input_view input) subjects.old (view_of client.new) (said outputs.new.items) subjects.new) }
     ensures broke { OnErr result (BreaksOff (view_of client.old) (view_of client.new)) }
 {
     if subjects.is_empty() {
-        return step_alone(subjects, client, now, input);
+        return step_alone(subjects, client, now, input, outputs);
     }
     let Ok(()) = fit_all(alloc, subjects, index, awake) else {
         return Err(FollowerStop::Memory);
     };
-    advance_all(alloc, subjects, index, awake, client, now, input)
+    advance_all(alloc, subjects, index, awake, client, now, input, outputs)
 }
 
 /// The place of the first subject of this ticket.
@@ -386,6 +406,25 @@ impl<A: Allocator + Copy> Follower<A> {
         ensures err { OnErr result (self.new.subjects.items ≡ []) }
         ensures broke { OnErr result (BreaksOff (view_of self.old.client) (view_of self.new.client)) }
     {
+        let mut outputs = Vec::new(self.alloc);
+        self.step_into(now, input, &mut outputs)?;
+        Ok(outputs)
+    }
+
+    /// [`step`](Follower::step), whose outputs take the place of those that were given, in the same room.
+    pub fn step_into(
+        &mut self,
+        now: u64,
+        input: Input<A>,
+        outputs: &mut Vec<Output<A>, A>,
+    ) -> Result<(), FollowerStop>
+        ensures followed { OnOk result (AreFollowed now (view_of self.new.client) self.new.subjects.items) }
+        ensures ahead { OnOk result (All (λ subject. IsAhead now subject.progress) self.new.subjects.items) }
+        ensures steps { OnOk result (Steps now (view_of self.old.client) (input_view input) self.old.subjects.items
+            (view_of self.new.client) (said outputs.new.items) self.new.subjects.items) }
+        ensures err { OnErr result (self.new.subjects.items ≡ []) }
+        ensures broke { OnErr result (BreaksOff (view_of self.old.client) (view_of self.new.client)) }
+    {
         let subjects = self.subjects.as_mut_slice();
         match advance(
             self.alloc,
@@ -395,8 +434,9 @@ impl<A: Allocator + Copy> Follower<A> {
             &mut self.client,
             now,
             input,
+            outputs,
         ) {
-            Ok(outputs) => Ok(outputs),
+            Ok(()) => Ok(()),
             Err(stop) => {
                 self.index = Index::new(self.alloc);
                 self.subjects.clear();

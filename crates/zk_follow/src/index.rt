@@ -4,14 +4,14 @@ ghost use Rattle.std.specs.Prelude.{◌≡◌, ◌<◌, ◌+◌, ◌-◌, ◌^�
 ghost use Rattle.std.specs.List.{list_any};
 ghost use Rattle.zk_nodes.specs.Path.{Text};
 ghost use Rattle.zk_client.specs.Views.{output_view, said};
-ghost use Rattle.zk_follow.specs.inner.Resting.{is_about, AreCovered};
+ghost use Rattle.zk_follow.specs.inner.Resting.{is_about};
 ghost use Rattle.zk_follow.specs.Places.{has_place, key_of, AreFound};
 ghost use Rattle.zk_follow.specs.inner.Places.{is_named, IsAscending};
 ghost use Rattle.zk_follow.specs.Following.{AreQuietBut};
 ghost use Rattle.zk_follow.specs.Following.{is_among};
 ghost use Rattle.zk_turns.specs.View.{View};
 
-use crate::about::About;
+use crate::about::has_one_about_all;
 use crate::places::{Places, add_below, all_below, key_of, put_in_order};
 use crate::subject::Subject;
 use std::alloc::{AllocError, Allocator};
@@ -160,11 +160,9 @@ impl<A: Allocator + Copy> Index<A> {
         &self,
         alloc: A,
         places: &[usize],
-        about: &About<A>,
         outputs: &[Output<A>],
     ) -> Result<Vec<usize, A>, AllocError>
-        requires sized { 0 < length self.now.keys.buckets.items }
-        requires covered { AreCovered about.now (said outputs.now) }
+        requires { 0 < length self.now.keys.buckets.items }
         ensures ascend { IfOk result (λ all. IsAscending all.items) }
         ensures below { IfOk result (λ all. All (λ at. at < self.now.count) all.items) }
         ensures had { IfOk result (λ all. (at : ℕ) → at < self.now.count → is_among at places.now ≡ true → is_among at all.items ≡ true) }
@@ -172,7 +170,7 @@ impl<A: Allocator + Copy> Index<A> {
             → has_place self.now.keys ticket at ≡ true → has_place self.now.keys (key_of path) at ≡ true
             → list_any (is_about ticket path) (said outputs.now) ≡ true → is_among at all.items ≡ true) }
     {
-        if about.is_about_each() {
+        if has_one_about_all(outputs) {
             return all_below(alloc, self.count);
         }
         self.with_named(alloc, places, outputs)

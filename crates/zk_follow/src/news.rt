@@ -184,6 +184,9 @@ fn tell_each<A: Allocator + Copy>(
     ensures news { OnOk result (all.new.items ≡ all.old.items ++ flat_map (news_in (view_of client.now) (said outputs.now)) subjects.old) }
     ensures told { OnOk result (subjects.new ≡ map (told_of (view_of client.now)) subjects.old) }
 {
+    if places.is_empty() {
+        return Ok(());
+    }
     let has_report = has_report(outputs);
     let reported = Reported::of(alloc, outputs)?;
     for place in places {

@@ -25,6 +25,12 @@ is_about ticket path (turns.Report at side event) = bytes_eq at path
 is_about ticket path (Enters state) = true
 is_about ticket path _ = false
 
+-- whether an output may be about each subject
+abbrev pub is_about_all : Output → Bool
+is_about_all (turns.Answer its outcome) = tells_fields outcome
+is_about_all (Enters state) = true
+is_about_all _ = false
+
 -- Whose place is not among these rests, and the outputs are not about it.
 abbrev pub AreLeft : {A : Type 0} → View → List Output → List (Subject A) → (places : List ℕ) → Type 0
 AreLeft {A} view outputs subjects places =

@@ -7,9 +7,9 @@ use Rattle.zk_follow.proofs.follower.step_alone.Goals as goal
 
 pub returns-in-Ok-clause-steps : goal.returns-in-Ok-clause-steps
 returns-in-Ok-clause-steps g c =
-    steps_alone c.args.now (view_of c.args.client.now) (input_view c.args.input) (said c.in-Ok.outputs.items)
-    (view_of c.step_at.new.self) c.args._subjects.now c.requires c.in-Ok.ensures.rule
+    steps_alone c.args.now (view_of c.args.client.now) (input_view c.args.input) (said c.step_at_into.new.outputs.items)
+    (view_of c.step_at_into.new.self) c.args._subjects.now c.requires c.in-Ok.ensures.rule
 
 pub returns-in-Err-clause-broke : goal.returns-in-Err-clause-broke
 returns-in-Err-clause-broke g c =
-    within_step c.args.now (view_of c.args.client.now) (view_of c.step_at.new.self) c.in-Err.ensures.halt
+    within_step c.args.now (view_of c.args.client.now) (view_of c.step_at_into.new.self) c.in-Err.ensures.halt

@@ -2,6 +2,7 @@
 use Rattle.std.proofs.Common.{◌≡◌, ◌<◌, ◌∙◌, ◌++◌, ap, arith, get_or, length, refl, subst, sym, rules}
 use Rattle.std.specs.List.{flat_map}
 use Rattle.std.proofs.lemmas.List.{append-nil, length-set, take_all}
+use Rattle.std.proofs.lemmas.Bool.Decides.{Decides-eqb}
 use Rattle.zk_client.specs.Clients.{view_of}
 use Rattle.zk_client.specs.Views.{said}
 use Rattle.zk_follow.specs.Following.{news_in, told_of}
@@ -58,6 +59,31 @@ returns-clause-news g c =
     (quiet_still_told view outputs first c.args.places.now c.requires.told) end c.loop-place.invariant.told in
     subst (λ all. c.loop-place.all.items ≡ c.args.all.now.items ++ flat_map news all)
     (take_all (length first) first (omega arith)) whole.all
+
+pub returns-then-is_empty-clause-told : goal.returns-then-is_empty-clause-told
+returns-then-is_empty-clause-told g c =
+    let end : 0 ≡ length c.args.places.now =
+    sym ((Decides-eqb (length c.args.places.now) 0).0 (sym c.is_empty.ensures ∙ c.if-is_empty.true)) in
+    let view = view_of c.args.client.now in
+    let outputs = said c.args.outputs.now in
+    let first = c.args.subjects.now in
+    let whole = told_end (told_of view) (news_in view outputs) first first c.args.all.now.items c.args.all.now.items c.args.places.now 0
+    c.requires.ascend c.requires.below (quiet_still_told view outputs first c.args.places.now c.requires.told) end
+    (record { subjects = refl; all = sym (append-nil c.args.all.now.items) }) in
+    whole.subjects ∙ whole_mapped (told_of view) first (length first) (omega arith)
+
+pub returns-then-is_empty-clause-news : goal.returns-then-is_empty-clause-news
+returns-then-is_empty-clause-news g c =
+    let end : 0 ≡ length c.args.places.now =
+    sym ((Decides-eqb (length c.args.places.now) 0).0 (sym c.is_empty.ensures ∙ c.if-is_empty.true)) in
+    let view = view_of c.args.client.now in
+    let outputs = said c.args.outputs.now in
+    let first = c.args.subjects.now in
+    let given = c.args.all.now.items in
+    let whole = told_end (told_of view) (news_in view outputs) first first given given c.args.places.now 0
+    c.requires.ascend c.requires.below (quiet_still_told view outputs first c.args.places.now c.requires.told) end
+    (record { subjects = refl; all = sym (append-nil given) }) in
+    subst (λ all. given ≡ given ++ flat_map (news_in view outputs) all) (take_all (length first) first (omega arith)) whole.all
 
 pub offset_bounds-subjects-place : goal.offset_bounds-subjects-place
 offset_bounds-subjects-place g c =

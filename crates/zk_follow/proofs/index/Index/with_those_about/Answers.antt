@@ -6,6 +6,5 @@ use Rattle.zk_follow.proofs.index.Index.with_those_about.Goals as goal
 
 pub returns-clause-about : goal.returns-clause-about
 returns-clause-about g c =
-    about_by (λ all. all.items) c.args.about.now (sym c.is_about_each.ensures ∙ c.if-is_about_each.false) c.args.self.now
-    (said c.args.outputs.now)
-    c.requires.covered.0 c.with_named.result c.with_named.ensures.named
+    about_by (λ all. all.items) c.args.self.now (said c.args.outputs.now)
+    (sym c.has_one_about_all.ensures ∙ c.if-has_one_about_all.false) c.with_named.result c.with_named.ensures.named

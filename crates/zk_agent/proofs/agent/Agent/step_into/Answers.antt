@@ -8,7 +8,7 @@ use Rattle.zk_agent.specs.Agents.{heard_after, moves_of, trail_of, Comes, IsDeci
 use Rattle.zk_agent.specs.Calls.{how_many}
 use Rattle.zk_agent.specs.Trees.{Grows}
 use Rattle.zk_agent.proofs.Counting.{asks_made, calls_balance}
-use Rattle.zk_agent.proofs.agent.Agent.step.Goals as goal
+use Rattle.zk_agent.proofs.agent.Agent.step_into.Goals as goal
 
 pub returns-clause-comes : goal.returns-clause-comes
 returns-clause-comes g c =

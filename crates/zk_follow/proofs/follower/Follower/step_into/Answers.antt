@@ -7,7 +7,7 @@ use Rattle.zk_follow.specs.Following.{AreFollowed, IsAhead, IsCounted, Steps}
 use Rattle.zk_follow.specs.Following.{AreQuietBut}
 use Rattle.zk_follow.specs.Places.{AreFound}
 use Rattle.zk_follow.proofs.Visiting.{whole_written, written_back}
-use Rattle.zk_follow.proofs.follower.Follower.step.Goals as goal
+use Rattle.zk_follow.proofs.follower.Follower.step_into.Goals as goal
 
 pub returns-in-Ok-clause-followed : goal.returns-in-Ok-clause-followed
 returns-in-Ok-clause-followed g c =
@@ -29,7 +29,7 @@ returns-in-Ok-clause-steps g c =
     omega (arith, c.advance.auto.subjects, c.as_mut_slice-subjects.ensures.len) in
     let old = view_of c.args.self.now.client in
     let input = input_view c.args.input in
-    let given = said c.in-Ok.outputs.items in
+    let given = said c.advance.new.outputs.items in
     subst (Steps c.args.now old input c.args.self.now.subjects.items (view_of c.advance.new.client) given)
     (sym (whole_written c.args.self.now.subjects.len c.advance.new.subjects
     (drop (length c.advance.new.subjects) c.args.self.now.subjects.items) size))
