@@ -7,7 +7,7 @@ mod memory;
 mod tree;
 
 use anyhow::Result;
-use lock::Contender;
+use lock::Lock;
 use std::alloc::Global;
 use std::io::Write;
 use std::process::ExitCode;
@@ -62,7 +62,7 @@ fn run<W: Write>(rt: &HostRuntime, words: &[&str], out: &mut W) -> Result<ExitCo
         }
         [_, "lock", ms, name, marker, directory, addresses @ ..] => {
             let (ms, directory) = (ms.parse()?, Path::new(rt.alloc(), directory)?);
-            let one = Contender::new(rt.alloc(), name, marker, directory, ms);
+            let one = Lock::new(rt.alloc(), name, marker, directory, ms)?;
             serve(rt, one, u64::MAX, addresses, out)?;
         }
         _ => {

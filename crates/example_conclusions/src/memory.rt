@@ -1,6 +1,6 @@
 //! Both programs over servers in memory.
 
-use crate::lock::Contender;
+use crate::lock::Lock;
 use crate::tree::Tree;
 use crate::{Program, TIMEOUT_MS};
 use anyhow::Result;
@@ -112,7 +112,7 @@ static LONG: [(u64, Step); 10] = [
     (
         4_000,
         Step::World(Event::Edits(&[
-            Edit::Deletes("/lock/one-1-lock-0000000001"),
+            Edit::Deletes("/lock/_c_one-lock-0000000001"),
             Edit::Makes("/lock/_c_9-lock-0000000002", "", CURATOR),
         ])),
     ),
@@ -202,7 +202,7 @@ fn run<P: Program + Drop, W: Write>(
 /// A contender holds for this many milliseconds.
 fn hold<W: Write>(alloc: Global, plan: Plan<'_>, hold_ms: u64, out: &mut W) -> Result<()> {
     let directory = Path::new(alloc, DIRECTORY)?;
-    let one = Contender::new(alloc, "one", "-lock-", directory, hold_ms);
+    let one = Lock::new(alloc, "one", "-lock-", directory, hold_ms)?;
     run(alloc, &[], plan, one, out)
 }
 

@@ -8,7 +8,7 @@ use Rattle.std.specs.Prelude.{is_some}
 use Rattle.std.proofs.lemmas.Bool.Decides.{nat_tests}
 use Rattle.zk_nodes.specs.Path.{Name, NodePath, path_eq}
 use Rattle.zk_nodes.specs.History.{Node, Tree, Change, Creates, Sets, Deletes, Transaction, written, regrouped, apply, apply_all, after}
-use Rattle.zk_nodes.specs.History.{IsLegal, AreLegal, AllLegal, AreRising, up_to}
+use Rattle.zk_nodes.specs.History.{IsLegal, AreLegal, AllLegal, AreRising, History, IsHistory, up_to, tree_at}
 use Rattle.zk_nodes.proofs.PathTexts.{path_eq-true, path_eq-refl}
 use Rattle.zk_conclusions.specs.Numbers.{Kind, is_one}
 use Rattle.theory_contenders.specs.Sequences.{counter_after, counter_after_all, IsInSequence, AreInSequence, AllInSequence}

@@ -152,12 +152,12 @@ no_greater_by_prefix kind prefix one other p q mine its long as_long before =
     let digits_mine = ten kind one p in
     let digits_its = ten kind other q in
     not_greater 0 (number_of one) (number_of other) digits_mine.0 digits_its.0 (digits_mine.1 ∙ sym digits_its.1) (λ g. (
-        let a : number_of one ≡ mine.0 = number_behind prefix mine.0 one mine.1 long in
-        let b : number_of other ≡ its.0 = number_behind prefix its.0 other its.1 as_long in
-        let behind : name_cmp mine.0 its.0 ≡ Greater = sym (ap₂ name_cmp a b) ∙ g in
-        let whole : name_cmp one other ≡ Greater = ap₂ name_cmp mine.1 its.1 ∙ (same_front prefix mine.0 its.0 ∙ behind) in
-        let k : in_bytes.is_before one other ≡ false = ap is_lt whole in
-        absurd cc))
+    let a : number_of one ≡ mine.0 = number_behind prefix mine.0 one mine.1 long in
+    let b : number_of other ≡ its.0 = number_behind prefix its.0 other its.1 as_long in
+    let behind : name_cmp mine.0 its.0 ≡ Greater = sym (ap₂ name_cmp a b) ∙ g in
+    let whole : name_cmp one other ≡ Greater = ap₂ name_cmp mine.1 its.1 ∙ (same_front prefix mine.0 its.0 ∙ behind) in
+    let k : in_bytes.is_before one other ≡ false = ap is_lt whole in
+    absurd cc))
 
 -- ---- what a sequential create writes is read again
 

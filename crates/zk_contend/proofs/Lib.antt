@@ -1,0 +1,8 @@
+-- Lemmas on contenders.
+pub mod Texts
+pub mod Tellings
+pub mod Covers
+pub mod Stages
+pub mod Helds
+pub mod Wishes
+pub mod Watches

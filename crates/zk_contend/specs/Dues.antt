@@ -1,0 +1,115 @@
+-- What a contender asks, and when it rests.
+use Rattle.std.specs.Prelude.{ℕ, ℤ, ◌≡◌, ◌⊎◌, Bool, true, false, ⊤, List, Option, Some, None, is_some, option_map}
+use Rattle.zk_nodes.specs.Path.{Text, path_of}
+use Rattle.zk_conversation.specs.Calls.{Call}
+use Rattle.zk_conversation.specs.Calls as call
+use Rattle.zk_turns.specs.View.{View}
+use Rattle.zk_conclusions.specs.Standings.{ShowsStanding}
+use Rattle.zk_contend.specs.declared.contender.LockContender.{LockContender}
+use Rattle.zk_contend.specs.declared.listed.Listed.{Listed}
+use Rattle.zk_contend.specs.declared.place.Ask.{Ask}
+use Rattle.zk_contend.specs.declared.place.Ask.TheVariants.{Make, Enter, Fence, Look, Clear, ReadOwn, List as Lists, ReadBehind, Leave}
+use Rattle.zk_contend.specs.declared.place.Place.{Place}
+use Rattle.zk_contend.specs.declared.place.Place.TheVariants.{Making, Entering, Unsure, Looking, Clearing, At, Leaving, Left}
+use Rattle.zk_contend.specs.Hearing.{is_paused}
+use Rattle.zk_contend.specs.Namings.{kind_in}
+use Rattle.zk_contend.specs.Places.{is_ready, shows_node, shows_own}
+
+-- By what the client shows, the session stands first at this place, for a listing that the contender has.
+abbrev pub StandsAt : {A : Type 0} → View → LockContender A → (own : Text) → Listed A → (token : ℤ) → Type 0
+StandsAt view contender own listed token =
+    ShowsStanding view contender.directory (kind_in contender.naming) listed.names listed.zxid own token
+
+-- Somebody is before it, and is watched; or it stands first.
+abbrev pub RestsBy : {A : Type 0} → View → LockContender A → (own : Text) → Listed A → (behind : Option Text) → Type 0
+RestsBy view contender own listed (Some behind) = shows_node view behind ≡ true
+RestsBy view contender own listed None = (token : ℤ) × StandsAt view contender own listed token
+
+abbrev pub RestsListed : {A : Type 0} → View → LockContender A → (own : Text) → Listed A → Type 0
+RestsListed view contender own listed = RestsBy view contender own listed listed.behind
+
+-- The place is watched too.
+abbrev pub RestsAt : {A : Type 0} → View → LockContender A → (own : Text) → Option (Listed A) → Type 0
+RestsAt view contender own None = ⊥
+RestsAt view contender own (Some listed) = (shows_own view own ≡ true) × RestsListed view contender own listed
+
+-- A contender rests where it waits, holds, or is given up with no node left.
+abbrev pub RestsIn : {A : Type 0} → View → LockContender A → Place A → Type 0
+RestsIn view contender (At own listing) = RestsAt view contender own listing
+RestsIn view contender Left = ⊤
+RestsIn view contender _ = ⊥
+
+abbrev pub Rests : {A : Type 0} → View → LockContender A → Type 0
+Rests view contender = RestsIn view contender contender.place
+
+-- THE promise of a contender that asks nothing: a call of it is under way, or it pauses, or no call may be asked, or it rests.
+abbrev pub IsAtRest : {A : Type 0} → View → (now : ℕ) → LockContender A → Type 0
+IsAtRest view now contender =
+    is_some contender.asked ≡ false → is_paused now contender.refused ≡ false → is_ready view ≡ true → Rests view contender
+
+-- Which of two reads by the last listing: of the one before it, only if that one is not watched; the names again, if there is none and it
+-- does not stand first.
+abbrev pub WantsBy : {A : Type 0} → View → LockContender A → (own : Text) → Listed A → (behind : Option Text) → Ask → Type 0
+WantsBy view contender own listed (Some behind) ReadBehind = shows_node view behind ≡ false
+WantsBy view contender own listed None Lists = (token : ℤ) → ¬ (StandsAt view contender own listed token)
+WantsBy view contender own listed _ _ = ⊥
+
+abbrev pub WantsListed : {A : Type 0} → View → LockContender A → (own : Text) → Listed A → Ask → Type 0
+WantsListed view contender own listed ask = WantsBy view contender own listed listed.behind ask
+
+abbrev pub WantsNext : {A : Type 0} → View → LockContender A → (own : Text) → Option (Listed A) → Ask → Type 0
+WantsNext view contender own None Lists = ⊤
+WantsNext view contender own None _ = ⊥
+WantsNext view contender own (Some listed) ask = WantsListed view contender own listed ask
+
+-- The place is read only if it is not watched, and before all else.
+abbrev pub WantsAt : {A : Type 0} → View → LockContender A → (own : Text) → Option (Listed A) → Ask → Type 0
+WantsAt view contender own listing ReadOwn = shows_own view own ≡ false
+WantsAt view contender own listing ask = (shows_own view own ≡ true) × WantsNext view contender own listing ask
+
+abbrev pub WantsIn : {A : Type 0} → View → LockContender A → Place A → Ask → Type 0
+WantsIn view contender (Making path) Make = ⊤
+WantsIn view contender Entering Enter = ⊤
+WantsIn view contender Unsure Fence = ⊤
+WantsIn view contender (Looking answered) Look = ⊤
+WantsIn view contender (Clearing leaving) Clear = ⊤
+WantsIn view contender (At own listing) ask = WantsAt view contender own listing ask
+WantsIn view contender (Leaving own) Leave = ⊤
+WantsIn view contender _ _ = ⊥
+
+abbrev pub Wants : {A : Type 0} → View → LockContender A → Ask → Type 0
+Wants view contender ask = WantsIn view contender contender.place ask
+
+-- It asks this: nothing is under way, it does not pause, a call may be asked, and it wants that.
+abbrev pub IsDue : {A : Type 0} → View → (now : ℕ) → LockContender A → Ask → Type 0
+IsDue view now contender ask =
+    (is_some contender.asked ≡ false) × (is_paused now contender.refused ≡ false) × (is_ready view ≡ true) × Wants view contender ask
+
+-- the path that it is about: the directory, unless it is about one node
+abbrev pub behind_or : {A : Type 0} → (dir : Text) → Option (Listed A) → Text
+behind_or dir None = dir
+behind_or dir (Some listed) = elim listed.behind [ None ↦ dir | Some behind ↦ behind ]
+
+abbrev pub path_asked : {A : Type 0} → (dir : Text) → Place A → Ask → Text
+path_asked dir (Making path) Make = path
+path_asked dir (Clearing leaving) Clear = leaving
+path_asked dir (At own listing) ReadOwn = own
+path_asked dir (At own listing) ReadBehind = behind_or dir listing
+path_asked dir (Leaving own) Leave = own
+path_asked dir _ _ = dir
+
+-- The call that asks it. A listing leaves no watch.
+abbrev pub call_about : (entry : Text) → (bytes : Option (List ℕ)) → (path : Text) → Ask → Call
+call_about entry bytes path Make = call.Create path None 0
+call_about entry bytes path Enter = call.Create entry bytes 3
+call_about entry bytes path Fence = call.Create path None 0
+call_about entry bytes path Look = call.GetChildren path false
+call_about entry bytes path Clear = call.Delete path (ℤ.negsuc 0)
+call_about entry bytes path ReadOwn = call.GetData path true
+call_about entry bytes path Lists = call.GetChildren path false
+call_about entry bytes path ReadBehind = call.GetData path true
+call_about entry bytes path Leave = call.Delete path (ℤ.negsuc 0)
+
+abbrev pub call_asked : {A : Type 0} → LockContender A → Ask → Call
+call_asked contender ask =
+    call_about contender.entry (option_map (λ v. v.items) contender.data) (path_asked contender.directory contender.place ask) ask

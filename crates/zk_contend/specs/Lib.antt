@@ -1,0 +1,10 @@
+-- A contender: how its place is named, what it asks, what it hears, and what follows.
+pub mod Namings
+pub mod Places
+pub mod Dues
+pub mod Hearing
+pub mod Settling
+pub mod Standings
+pub mod Contenders
+pub mod Nodes
+pub mod inner

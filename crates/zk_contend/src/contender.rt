@@ -1,0 +1,457 @@
+//! A contender.
+
+ghost use Rattle.std.specs.Prelude.{◌≡◌};
+ghost use Rattle.zk_client.specs.Clients.{view_of};
+ghost use Rattle.zk_contend.specs.Contenders.{is_entering, is_listing, is_named, leaves};
+ghost use Rattle.zk_contend.specs.Standings.{waiting, waits_for};
+
+use crate::kept::{session_of, shows_node, shows_own};
+use crate::listed::Listed;
+use crate::made::entering;
+use crate::naming::Naming;
+use crate::place::{Ask, Place};
+use crate::refused::{Obstacle, Refused, later, refused_after};
+use crate::status::{LockStatus, news_of};
+use std::alloc::{AllocError, Allocator, Global};
+use std::mem;
+use zk_client::{Call, Client, Event, Outcome, Path, PathFault};
+use zk_conclusions::{Listing, Standing};
+use zk_limits::LONGEST_PATH;
+
+/// How many digits a sequential create adds to a name.
+const DIGITS: usize = 10;
+
+/// A contender for a lock or an election, a reader or a writer of a shared lock: it has one place at a time, an ephemeral sequential
+/// node of the session in the directory, and asks one call at a time.
+#[derive(Drop)]
+pub struct LockContender<A: Allocator + Copy = Global> {
+    pub(crate) alloc: A,
+    pub(crate) directory: Path<A>,
+    pub(crate) naming: Naming,
+    // How the names of its nodes begin, and no others.
+    pub(crate) front: String<A>,
+    // The path of a create of its place.
+    pub(crate) entry: Path<A>,
+    pub(crate) data: Option<Vec<u8, A>>,
+    pub(crate) place: Place<A>,
+    pub(crate) asked: Option<Ask>,
+    pub(crate) refused: Option<Refused>,
+    pub(crate) is_given_up: bool,
+    told: LockStatus,
+}
+
+impl<A: Allocator + Copy> LockContender<A> {
+    ghost use Rattle.std.specs.Prelude.{◌≡◌, ◌≤◌, ◌+◌, ℤ, true, false, length, None, IfOk, OnErr, OnOk, IfSome};
+    ghost use Rattle.std.specs.Option.{option_copied, option_map};
+    ghost use Rattle.zk_client.specs.Clients.{view_of};
+    ghost use Rattle.zk_client.specs.Views.{outcome_view};
+    ghost use Rattle.zk_conversation.specs.Views.{call_view};
+    ghost use Rattle.zk_contend.specs.Dues.{IsAtRest, StandsAt};
+    ghost use Rattle.zk_contend.specs.Namings.{kind_in};
+    ghost use Rattle.zk_contend.specs.declared.status.LockStatus.{LockStatus};
+    ghost use Rattle.zk_contend.specs.Standings.{news_of, otherwise, told_after};
+    ghost use Rattle.zk_contend.specs.Standings.{IsOtherwise, IsStuckAt, IsStuckBy, IsStuckIn, IsUnshown, ShowsContender, TellsHeld};
+    ghost use Rattle.zk_contend.specs.Contenders.{closed, forgotten, given_up, is_at, is_behind, noted, own_of, renewed};
+    ghost use Rattle.zk_contend.specs.Contenders.{IsAsked, IsFresh, IsHeard, IsHeardOf, IsRefusal};
+
+    /// A contender in this directory, which is made if it is not there. The guid is to be a text that no other contender has: 32
+    /// hexadecimal digits for kazoo's names, a UUID for Curator's. `may_be_there` says that this session may have sent a create with it
+    /// before, as after a restart: then the place is looked for first. An error means that no place in this directory has a path, or that
+    /// memory ran out.
+    pub fn new(
+        alloc: A,
+        directory: Path<A>,
+        naming: Naming,
+        guid: &str,
+        bytes: Option<Vec<u8, A>>,
+        may_be_there: bool,
+    ) -> Result<LockContender<A>, PathFault>
+        ensures fresh { IfOk result (λ contender. IsFresh directory naming guid.now may_be_there contender) }
+        ensures bytes { IfOk result (λ contender. contender.data ≡ bytes) }
+        ensures fits { IfOk result (λ contender. length contender.entry + 10 ≤ LONGEST_PATH) }
+    {
+        let front = naming.front(alloc, guid)?;
+        let entry = directory.join(alloc, front.as_str())?;
+        if entry.as_str().len() + DIGITS > LONGEST_PATH {
+            return Err(PathFault::TooLong);
+        }
+        let place = if may_be_there {
+            Place::Unsure
+        } else {
+            Place::Entering
+        };
+        Ok(LockContender {
+            alloc,
+            directory,
+            naming,
+            front,
+            entry,
+            data: bytes,
+            place,
+            asked: None,
+            refused: None,
+            is_given_up: false,
+            told: LockStatus::Contends,
+        })
+    }
+
+    /// The call that is due now, if one is. It counts as asked from then on: its outcome is to be given to
+    /// [`hear`](LockContender::hear), and no other call is due before. An error means that memory ran out, and nothing has changed then.
+    pub fn next(&mut self, client: &Client<A>, now: u64) -> Result<Option<Call<A>>, AllocError>
+        ensures some { IfOk result (λ next. IfSome next (λ call. IsAsked (view_of client.now) now self.old (call_view call) self.new)) }
+        ensures none { IfOk result (λ next. next ≡ None → IsAtRest (view_of client.now) now self.old × (self.new ≡ self.old)) }
+        ensures same { OnErr result (self.new ≡ self.old) }
+    {
+        let Some(ask) = self.due(client, now) else {
+            return Ok(None);
+        };
+        let call = self.call(ask)?;
+        self.asked = Some(ask);
+        Ok(Some(call))
+    }
+
+    /// The token of the place at this path, by this listing.
+    pub(crate) fn token_at(
+        &self,
+        client: &Client<A>,
+        own: &Path<A>,
+        listed: &Listed<A>,
+    ) -> Option<i64>
+        ensures shows { IfSome result (λ token. StandsAt (view_of client.now) self.now own.now listed.now token) }
+        ensures none { result ≡ None → (token : ℤ) → ¬ (StandsAt (view_of client.now) self.now own.now listed.now token) }
+    {
+        let kind = self.naming.kind();
+        let listing = Listing {
+            directory: &self.directory,
+            names: &listed.names,
+            zxid: listed.zxid,
+        };
+        let standing = Standing::of(client, &listing, &kind, own);
+        let Listing {
+            directory: _directory,
+            names: _names,
+            zxid: _zxid,
+        } = listing;
+        match standing {
+            Some(standing) => Some(standing.token()),
+            None => None,
+        }
+    }
+
+    /// The token, if the session holds: exactly if the client shows that no rival is before its place, by a listing that was answered
+    /// since it came there (`shows`, `none`). Under servers of a history it is so there at the client's last seen zxid (`held_is_true` of
+    /// [`laws`](crate::laws)). It may be lost since: hand the token to what is protected.
+    pub fn held(&self, client: &Client<A>) -> Option<i64>
+        ensures shows { IfSome result (λ token. ShowsContender (view_of client.now) self.now token) }
+        ensures none { result ≡ None → (token : ℤ) → ¬ (ShowsContender (view_of client.now) self.now token) }
+    {
+        match &self.place {
+            Place::At {
+                own,
+                listing: Some(listed),
+            } => self.token_at(client, own, listed),
+            _ => None,
+        }
+    }
+
+    /// Whether the place is watched, and does not stand first.
+    fn is_unshown(&self, client: &Client<A>, own: &Path<A>, listed: &Listed<A>) -> bool
+        ensures yes { result ≡ true → IsUnshown (view_of client.now) self.now.directory (kind_in self.now.naming) own.now listed.now }
+        ensures no { result ≡ false → ¬ (IsUnshown (view_of client.now) self.now.directory (kind_in self.now.naming) own.now listed.now) }
+    {
+        if !shows_own(client, own) {
+            return false;
+        }
+        match self.token_at(client, own, listed) {
+            Some(_) => false,
+            None => true,
+        }
+    }
+
+    fn is_stuck_at(&self, client: &Client<A>, own: &Path<A>, listed: &Listed<A>) -> bool
+        ensures yes { result ≡ true → IsStuckAt (view_of client.now) self.now.directory (kind_in self.now.naming) own.now listed.now }
+        ensures no { result ≡ false → ¬ (IsStuckAt (view_of client.now) self.now.directory (kind_in self.now.naming) own.now listed.now) }
+    {
+        match &listed.behind {
+            Some(_) => false,
+            None => self.is_unshown(client, own, listed),
+        }
+    }
+
+    fn is_stuck_by(&self, client: &Client<A>, own: &Path<A>, listing: &Option<Listed<A>>) -> bool
+        ensures yes { result ≡ true → IsStuckBy (view_of client.now) self.now.directory (kind_in self.now.naming) own.now listing.now }
+        ensures no { result ≡ false → ¬ (IsStuckBy (view_of client.now) self.now.directory (kind_in self.now.naming) own.now listing.now) }
+    {
+        match listing {
+            Some(listed) => self.is_stuck_at(client, own, listed),
+            None => false,
+        }
+    }
+
+    /// Whether nobody is before the place by its listing, it is watched, and yet it does not stand first.
+    fn is_stuck(&self, client: &Client<A>) -> bool
+        ensures yes { result ≡ true → IsStuckIn (view_of client.now) self.now.directory (kind_in self.now.naming) self.now.place }
+        ensures no { result ≡ false → ¬ (IsStuckIn (view_of client.now) self.now.directory (kind_in self.now.naming) self.now.place) }
+    {
+        match &self.place {
+            Place::At { own, listing } => self.is_stuck_by(client, own, listing),
+            _ => false,
+        }
+    }
+
+    /// The refusal after an answer, if it is one.
+    fn refusal(
+        &self,
+        client: &Client<A>,
+        now: u64,
+        ask: Ask,
+        told: Option<Refused>,
+    ) -> Option<Refused>
+        ensures { IsRefusal (view_of client.now) now ask self.now.directory (kind_in self.now.naming) self.now.place told result }
+    {
+        if !is_listing(ask) {
+            return told;
+        }
+        if self.is_stuck(client) {
+            return Some(Refused {
+                why: Obstacle::NumbersUsedUp,
+                until: later(now),
+            });
+        }
+        told
+    }
+
+    /// Hears the answer to what was asked.
+    fn hear_of(
+        &mut self,
+        client: &Client<A>,
+        now: u64,
+        ask: Ask,
+        outcome: Outcome<A>,
+    ) -> Result<(), AllocError>
+        ensures heard { OnOk result (IsHeardOf (view_of client.now) now ask (outcome_view outcome) self.old self.new) }
+        ensures same { OnErr result (self.new ≡ self.old) }
+    {
+        let told = refused_after(now, ask, &outcome);
+        let session = session_of(client);
+        self.take_in(session, ask, outcome)?;
+        self.asked = None;
+        self.refused = self.refusal(client, now, ask, told);
+        Ok(())
+    }
+
+    /// Hears the outcome of the call that was asked. An error means that memory ran out: what is known of the place is forgotten, and it is
+    /// looked for, as after a create whose answer was lost.
+    pub fn hear(
+        &mut self,
+        client: &Client<A>,
+        now: u64,
+        outcome: Outcome<A>,
+    ) -> Result<(), AllocError>
+        ensures heard { OnOk result (IsHeard (view_of client.now) now (outcome_view outcome) self.old self.new) }
+        ensures forgotten { OnErr result (self.new ≡ forgotten self.old) }
+    {
+        let Some(ask) = self.asked else {
+            return Ok(());
+        };
+        match self.hear_of(client, now, ask, outcome) {
+            Ok(()) => Ok(()),
+            Err(fault) => {
+                self.place = Place::Unsure;
+                self.asked = None;
+                self.refused = None;
+                Err(fault)
+            }
+        }
+    }
+
+    fn is_at(&self, path: &str) -> bool
+        ensures { result ≡ is_at path.now self.now.place }
+    {
+        match &self.place {
+            Place::At { own, .. } => path == own.as_str(),
+            _ => false,
+        }
+    }
+
+    fn is_behind(&self, path: &str) -> bool
+        ensures { result ≡ is_behind path.now self.now.place }
+    {
+        match &self.place {
+            Place::At {
+                listing: Some(listed),
+                ..
+            } => is_named(path, &listed.behind),
+            _ => false,
+        }
+    }
+
+    /// Notes a report of the client. The place is lost if its deletion is reported, and if that of the one before it is, the directory is
+    /// listed again. Each report may be given to it.
+    pub fn note(&mut self, path: &str, event: Event)
+        ensures { self.new ≡ noted path.now event self.old }
+    {
+        if !matches!(event, Event::Deleted) {
+            return;
+        }
+        if self.is_at(path) {
+            self.lose();
+        } else if self.is_behind(path) {
+            self.forget_listing();
+        }
+    }
+
+    /// How it stands, where it does not hold.
+    fn otherwise(&self, client: &Client<A>) -> LockStatus
+        ensures { result ≡ otherwise (view_of client.now) self.now }
+    {
+        if let Some(refused) = self.refused {
+            return LockStatus::Refused { why: refused.why };
+        }
+        match &self.place {
+            Place::Left => LockStatus::GivenUp,
+            Place::At {
+                listing: Some(listed),
+                ..
+            } => waits_for(client, &listed.behind),
+            _ => LockStatus::Contends,
+        }
+    }
+
+    /// How it stands: that it holds exactly if [`held`](LockContender::held) says so.
+    pub fn stands(&self, client: &Client<A>) -> LockStatus
+        ensures held { TellsHeld (view_of client.now) self.now result }
+        ensures otherwise { IsOtherwise (view_of client.now) self.now result }
+    {
+        match self.held(client) {
+            Some(token) => LockStatus::Holds { token },
+            None => self.otherwise(client),
+        }
+    }
+
+    /// Notes that it is told how it stands, if there is something to tell.
+    fn take_news(&mut self, stands: LockStatus) -> Option<LockStatus>
+        ensures news { result ≡ news_of self.old.told stands }
+        ensures told { self.new ≡ record self.old { told = told_after self.old.told (news_of self.old.told stands) } }
+    {
+        let news = news_of(self.told, stands);
+        if let Some(stands) = news {
+            self.told = stands;
+        }
+        news
+    }
+
+    /// What there is to tell, once after each step of the client and each input: how it stands, if that is not what was told last. So the
+    /// step that hears of a loss tells it. That it contends is told only after that it holds.
+    pub fn tell(&mut self, client: &Client<A>) -> Option<LockStatus>
+        ensures news { (stands : LockStatus) × TellsHeld (view_of client.now) self.old stands
+            × IsOtherwise (view_of client.now) self.old stands × (result ≡ news_of self.old.told stands) }
+        ensures held { TellsHeld (view_of client.now) self.old self.new.told }
+        ensures told { self.new ≡ record self.old { told = told_after self.old.told result } }
+    {
+        let stands = self.stands(client);
+        self.take_news(stands)
+    }
+
+    /// The contender is given up. Its place is deleted, however often the connection is lost; a create that may be under way is awaited, or
+    /// its place is looked for. It asks until no node of it is there (`nothing_left` of [`laws`](crate::laws)).
+    pub fn give_up(&mut self)
+        ensures { self.new ≡ given_up self.old }
+    {
+        let place = mem::replace(&mut self.place, Place::Left);
+        self.place = leaves(self.asked, place);
+        self.is_given_up = true;
+    }
+
+    /// The client goes on with another session, since the last one has expired: no node of it is there any more. It contends again, unless
+    /// it is given up. Outcomes of calls of the last session are not to be heard from then on.
+    pub fn renew(&mut self)
+        ensures { self.new ≡ renewed self.old }
+    {
+        self.place = entering(self.is_given_up);
+        self.asked = None;
+        self.refused = None;
+    }
+
+    /// The session is closed: it is given up, and nothing is left.
+    pub fn close(&mut self)
+        ensures { self.new ≡ closed self.old }
+    {
+        self.place = Place::Left;
+        self.asked = None;
+        self.refused = None;
+        self.is_given_up = true;
+    }
+
+    /// The moment at which a refusal is over, so that a call may be due.
+    pub fn deadline(&self) -> Option<u64>
+        ensures { result ≡ option_map (λ refused. refused.until) self.now.refused }
+    {
+        match self.refused {
+            Some(refused) => Some(refused.until),
+            None => None,
+        }
+    }
+
+    /// The path of its place, if that is known.
+    pub fn place(&self) -> Option<&Path<A>>
+        ensures { option_copied result ≡ own_of self.now.place }
+    {
+        match &self.place {
+            Place::At { own, .. } => Some(own),
+            _ => None,
+        }
+    }
+}
+
+fn is_entering(asked: Option<Ask>) -> bool
+    ensures { result ≡ is_entering asked }
+{
+    matches!(asked, Some(Ask::Enter))
+}
+
+/// The place of a contender that is given up.
+fn leaves<A: Allocator>(asked: Option<Ask>, place: Place<A>) -> Place<A>
+    ensures { result ≡ leaves asked place }
+{
+    match place {
+        Place::Making { path: _path } => Place::Left,
+        Place::Entering if !is_entering(asked) => Place::Left,
+        Place::At {
+            own,
+            listing: _listing,
+        } => Place::Leaving { own },
+        place => place,
+    }
+}
+
+fn is_listing(ask: Ask) -> bool
+    ensures { result ≡ is_listing ask }
+{
+    matches!(ask, Ask::List)
+}
+
+/// Whether the path is that of the one before a place.
+fn is_named<A: Allocator>(path: &str, behind: &Option<Path<A>>) -> bool
+    ensures { result ≡ is_named path.now behind.now }
+{
+    match behind {
+        Some(behind) => path == behind.as_str(),
+        None => false,
+    }
+}
+
+/// Whether it waits for this one, which has to be watched.
+fn waits_for<A: Allocator + Copy>(client: &Client<A>, behind: &Option<Path<A>>) -> LockStatus
+    ensures { result ≡ waiting (waits_for (view_of client.now) behind.now) }
+{
+    match behind {
+        Some(behind) => {
+            if shows_node(client, behind) {
+                return LockStatus::Waits;
+            }
+            LockStatus::Contends
+        }
+        None => LockStatus::Contends,
+    }
+}

@@ -1,0 +1,85 @@
+//! What is to be asked for a contender.
+
+ghost use Rattle.std.specs.Prelude.{◌≡◌, true, false, IfSome, None};
+ghost use Rattle.zk_client.specs.Clients.{view_of};
+ghost use Rattle.zk_contend.specs.Dues.{IsAtRest, IsDue, Rests, RestsAt, RestsListed, Wants, WantsAt, WantsListed};
+ghost use Rattle.zk_contend.specs.Hearing.{is_paused};
+ghost use Rattle.zk_contend.specs.Places.{is_ready};
+
+use crate::contender::LockContender;
+use crate::kept::{is_ready, shows_node, shows_own};
+use crate::listed::Listed;
+use crate::place::{Ask, Place};
+use crate::refused::is_paused;
+use std::alloc::Allocator;
+use zk_client::{Client, Path};
+
+impl<A: Allocator + Copy> LockContender<A> {
+    /// What is to be asked at its place, by the last listing: nothing if it holds, or is to wait for the one before it.
+    fn wants_listed(&self, client: &Client<A>, own: &Path<A>, listed: &Listed<A>) -> Option<Ask>
+        ensures some { IfSome result (λ ask. WantsListed (view_of client.now) self.now own.now listed.now ask) }
+        ensures none { result ≡ None → RestsListed (view_of client.now) self.now own.now listed.now }
+    {
+        match &listed.behind {
+            Some(behind) => {
+                if shows_node(client, behind) {
+                    return None;
+                }
+                Some(Ask::ReadBehind)
+            }
+            None => {
+                match self.token_at(client, own, listed) {
+                    Some(_) => None,
+                    None => Some(Ask::List),
+                }
+            }
+        }
+    }
+
+    /// What is to be asked at its place: a read of it, with a watch, and a listing.
+    fn wants_at(
+        &self,
+        client: &Client<A>,
+        own: &Path<A>,
+        listing: &Option<Listed<A>>,
+    ) -> Option<Ask>
+        ensures some { IfSome result (λ ask. WantsAt (view_of client.now) self.now own.now listing.now ask) }
+        ensures none { result ≡ None → RestsAt (view_of client.now) self.now own.now listing.now }
+    {
+        if !shows_own(client, own) {
+            return Some(Ask::ReadOwn);
+        }
+        match listing {
+            Some(listed) => self.wants_listed(client, own, listed),
+            None => Some(Ask::List),
+        }
+    }
+
+    /// What is to be asked next, if nothing is under way.
+    fn wants(&self, client: &Client<A>) -> Option<Ask>
+        ensures some { IfSome result (λ ask. Wants (view_of client.now) self.now ask) }
+        ensures none { result ≡ None → Rests (view_of client.now) self.now }
+    {
+        match &self.place {
+            Place::Making { .. } => Some(Ask::Make),
+            Place::Entering => Some(Ask::Enter),
+            Place::Unsure => Some(Ask::Fence),
+            Place::Looking { .. } => Some(Ask::Look),
+            Place::Clearing { .. } => Some(Ask::Clear),
+            Place::At { own, listing } => self.wants_at(client, own, listing),
+            Place::Leaving { .. } => Some(Ask::Leave),
+            Place::Left => None,
+        }
+    }
+
+    /// What is to be asked now.
+    pub(crate) fn due(&self, client: &Client<A>, now: u64) -> Option<Ask>
+        ensures some { IfSome result (λ ask. IsDue (view_of client.now) now self.now ask) }
+        ensures none { result ≡ None → IsAtRest (view_of client.now) now self.now }
+    {
+        if self.asked.is_some() || is_paused(now, self.refused) || !is_ready(client) {
+            return None;
+        }
+        self.wants(client)
+    }
+}

@@ -1,0 +1,28 @@
+//! What follows of contenders, over definitions alone. The functions do nothing: their contracts are the laws.
+
+ghost use Rattle.zk_contend.specs.Contenders.{WatchesOne};
+ghost use Rattle.zk_contend.specs.Nodes.{GivenUpAsks, NothingIsLeft, OneIsThere};
+ghost use Rattle.zk_contend.specs.Standings.{HeldIsTrue};
+
+use std::alloc::Allocator;
+
+/// Whenever a contender holds, its session stands first in the history at the client's last seen zxid, if its listing is one that the
+/// client was answered, and numbers rise with creation. It may have lost its place since.
+pub fn held_is_true<A: Allocator>()
+    ensures { HeldIsTrue A }
+{}
+
+/// A call of a contender leaves a watch on its place or on the last rival before it alone, and only if the client does not show that
+/// node: so a change of a node wakes those who wait for it alone, and each reads it once. A listing leaves no watch.
+pub fn rivals<A: Allocator>()
+    ensures { WatchesOne A }
+{}
+
+/// Through any calls, losses, reports, expiries and failures of memory: while a contender knows its place, no other node of it is there
+/// (`one`). Once it is given up, it asks still, or no node of it is there (`asks`, `left`). The premise is that servers take the calls of a
+/// session in the order in which it sent them, also over several connections: so what was lost was done before the next call, or never is.
+pub fn nothing_left<A: Allocator>()
+    ensures one { OneIsThere A }
+    ensures asks { GivenUpAsks A }
+    ensures left { NothingIsLeft A }
+{}

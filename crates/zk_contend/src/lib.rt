@@ -1,0 +1,30 @@
+//! A contender for a lock or an election, a reader or a writer of a shared lock: a state machine that a session drives.
+//!
+//! A program loops. It asks [`LockContender::next`] for the call that is due and hands that to its client. It gives the outcome to
+//! [`LockContender::hear`], each report to [`LockContender::note`], and asks [`LockContender::tell`] for news after each step.
+//! [`LockContender::held`] looks up whether the session holds, and by which token. Nothing here reads a socket or a clock.
+//!
+//! The contender stores where its place is, and never whether it holds: that is concluded from the client
+//! ([`Standing`](zk_conclusions::Standing)) whenever it is asked for. [`laws`] names what follows.
+//!
+//! One contender has one place. Leases, and places with an ACL of their own, are not there yet.
+#![tactic(auto)]
+
+mod answers;
+mod call;
+mod contender;
+mod due;
+mod kept;
+pub mod laws;
+mod listed;
+mod made;
+mod naming;
+mod place;
+mod refused;
+mod settled;
+mod status;
+
+pub use contender::LockContender;
+pub use naming::Naming;
+pub use refused::Obstacle;
+pub use status::LockStatus;
