@@ -240,7 +240,7 @@ it knows one, else unknown. A text is printed as in `zk_shell live`, null as \0.
 /// At the end of the help of `history`.
 pub const HISTORY: &str =
     r"The script on standard input tells a history, and then asks it. Empty lines and those that begin
-with # are skipped.
+with # are skipped. With --log FILE.. servers' logs are read instead: `zk_shell history --log --help`.
 
 Lines:
   node PATH DATA TIME       A node of the first tree; only before the first tx

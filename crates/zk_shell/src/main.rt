@@ -2,15 +2,18 @@
 #![tactic(auto)]
 
 mod disk;
+mod logs;
 mod noted;
 mod output;
 mod told;
 
 use disk::Disk;
+use logs::tell_logs;
 use noted::Noted;
 use output::NotedOutput;
 use shell_commands::run::run;
 use shell_commands::status::Status;
+use shell_log::asks_log;
 use std::alloc::AllocError;
 use std::cell::RefCell;
 use std::env::{self, Args, VarError};
@@ -37,9 +40,17 @@ fn run_words(rt: &HostRuntime, words: &[&str], servers: &str) -> Status {
     let mut out = NotedOutput::new(io::writer(rt));
     let mut errors = rt.stderr();
     let mut input = rt.stdin();
+    let disk = Disk::new(rt);
+    if asks_log(words) {
+        let status = tell_logs(alloc, &disk, words, &mut out, &mut errors);
+        if status == Status::Stream {
+            tell_stream(&mut errors, out.fault());
+        }
+        return status;
+    }
     let status = run(
         alloc,
-        &Disk::new(rt),
+        &disk,
         Noted::new(alloc, Tcp::new(rt), &notes),
         SystemClock::new(rt),
         &mut input,

@@ -1,0 +1,15 @@
+//! `zk_shell history --log`: what a server's transaction logs say of each path.
+#![tactic(auto)]
+
+mod fields;
+mod json_line;
+mod line;
+mod order;
+mod plan;
+mod tell;
+mod usage;
+
+pub use order::LogsFault;
+pub use plan::{LogPlan, asks_log, plan_of};
+pub use tell::history_of;
+pub use usage::{LOG_HELP, LogUsage};

@@ -1,0 +1,88 @@
+//! Faults of the words of a command line, and its help.
+
+use std::alloc::{AllocError, AllocFailed};
+use std::fmt;
+
+/// What `zk_shell history --log --help` prints.
+pub const LOG_HELP: &str = "\
+Prints what transaction logs of ZooKeeper say, a line for each change
+
+Usage: zk_shell history --log <FILE>.. [--path <PATH>] [--at <ZXID>] [--json]
+
+Options:
+      --log <FILE>..  Logs of one server: the files log.* of its dataDir/version-2
+      --path <PATH>   Only what concerns this path
+      --at <ZXID>     With --path what the path held at this zxid, else that
+                      transaction alone
+      --json          An object a line
+  -h, --help          Print help
+
+Logs are taken in the order of their zxids. Printed:
+  ZXID TIME SESSION create PATH DATA OWNER   OWNER: its session, or 0
+  ZXID TIME SESSION container PATH DATA
+  ZXID TIME SESSION ttl PATH DATA MS
+  ZXID TIME SESSION set PATH DATA VERSION
+  ZXID TIME SESSION acl PATH VERSION
+  ZXID TIME SESSION delete PATH              Also for each node of a session
+                                             that ends, where its close or the
+                                             logs before it tell it
+  ZXID TIME SESSION check PATH VERSION       A part of a transaction
+  ZXID TIME SESSION open TIMEOUT             A session begins
+  ZXID TIME SESSION close                    It ends
+  ZXID TIME SESSION error CODE               Nothing changed
+  gap FROM TO            Zxids that are not in the logs
+  unknown PATH           What it held then is not in the logs
+  absent PATH            There was no such node
+  torn FILE BYTE         A crash has cut off the record at this byte
+
+TIME is in milliseconds since 1970. DATA is hex, \\e for no bytes, \\0 for
+null. In a PATH each byte outside 21 to 7e, and the backslash, is \\x and two
+digits. The logs begin with the first transaction if their first zxid ends in
+1 and is of epoch 0 or 1; else what was before them is unknown. Files are read
+whole.
+
+Exit status: 0 done; 1 a log has a fault, told with its byte; 2 a fault of the
+command line; 3 out of memory; 4 standard output failed; 10 a file is not read.
+";
+
+/// Why a command line asks for nothing.
+#[derive(Clone, Copy, Debug, PartialEq, Eq)]
+pub enum LogUsage {
+    /// It asks for help.
+    Help,
+    /// No file is named.
+    NoFile,
+    /// A word that is no option and no value.
+    Unexpected,
+    /// An option without its value.
+    NoValue,
+    /// A zxid that is no number.
+    NoNumber,
+    /// Memory ran out.
+    Memory,
+}
+
+impl fmt::Display for LogUsage {
+    fn fmt<W: fmt::Write>(&self, f: &mut fmt::Formatter<W>) -> fmt::Result {
+        match self {
+            LogUsage::Help => write!(f, "help is asked for"),
+            LogUsage::NoFile => write!(f, "--log names no file"),
+            LogUsage::Unexpected => write!(f, "a word is unexpected"),
+            LogUsage::NoValue => write!(f, "an option has no value"),
+            LogUsage::NoNumber => write!(f, "--at wants a zxid"),
+            LogUsage::Memory => write!(f, "out of memory"),
+        }
+    }
+}
+
+impl From<AllocError> for LogUsage {
+    fn from(_e: AllocError) -> LogUsage {
+        LogUsage::Memory
+    }
+}
+
+impl<T: Drop> From<AllocFailed<T>> for LogUsage {
+    fn from(_e: AllocFailed<T>) -> LogUsage {
+        LogUsage::Memory
+    }
+}

@@ -1,0 +1,21 @@
+//! The checksum of entries.
+
+ghost use Rattle.std.specs.Prelude.{◌≡◌};
+ghost use Rattle.zk_log.specs.Checksum.{adler32};
+
+/// The largest prime below 65,536.
+const PRIME: u32 = 65_521;
+
+/// Adler-32 of these bytes (RFC 1950).
+#[tactic(auto, unfolding(crate::specs::Checksum::adler32))]
+pub fn adler32(bytes: &[u8]) -> u32
+    ensures { result ≡ adler32 bytes.now }
+{
+    let mut first = 1;
+    let mut second = 0;
+    for byte in bytes {
+        first = (first + u32::from(*byte)) % PRIME;
+        second = (second + first) % PRIME;
+    }
+    second * 65_536 + first
+}
