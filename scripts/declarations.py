@@ -571,7 +571,7 @@ MADE_OF: MadeOf = (
     ("clients/c/src/words.c", "/* {} */", advice_of_c),
     ("clients/python/dirwolleu/_library.py", "# {}", tables_of_python),
     ("clients/python/dirwolleu/_requests.py", "# {}", errors_of_python),
-    ("clients/python/dirwolleu/_engine.py", "# {}", events_of_python),
+    ("clients/python/dirwolleu/_views.py", "# {}", events_of_python),
     (EXCEPTIONS, "# {}", others_of_python),
     (CODES, "<!-- answers to calls: {} -->", outcomes_of_codes),
     (CODES, "<!-- codes of servers: {} -->", servers_of_codes),

@@ -1,15 +1,12 @@
-"""The connection of a client, over asyncio: it dials, reads and writes where the engine says so, and wakes at deadlines."""
+"""The connection of a client: it dials, reads and writes where the engine says so, and wakes at deadlines."""
 
 from __future__ import annotations
 
-import asyncio
 import errno
-import functools
 import logging
 import os
-import ssl
-import weakref
-from typing import TYPE_CHECKING, Any, Callable, Optional, Protocol, Union, cast
+import sys
+from typing import TYPE_CHECKING, Any, Callable, Optional, Protocol, Union
 
 from dirwolleu._clock import moment as moment
 from dirwolleu._engine import Engine
@@ -18,185 +15,116 @@ from dirwolleu._login import Failed, Login, Refused
 from dirwolleu.types import State
 
 if TYPE_CHECKING:
+    import socket
+    import ssl
+
     from dirwolleu.sasl import Sasl
 
 logger = logging.getLogger("dirwolleu.connection")
 
 SHORTEST_WAIT = 0.1
-ROOM = 65536
-"""How many bytes of a connection are read at once, at most."""
 SHORT = 4096
 """Fewer bytes than these are copied before the session takes them."""
 MOST_TURNS = 16
 """How often what a connection has is read before the moment is told, at most."""
-_CLOSED = "the server has closed it"
+CLOSED = "the server has closed it"
 _NO_DESCRIPTOR = (errno.EMFILE, errno.ENFILE)
+
+
+def _is_of_tls(error: Optional[BaseException]) -> bool:
+    ssl = sys.modules.get("ssl")  # which a client without TLS does not load
+    return ssl is not None and isinstance(error, ssl.SSLError)
 
 
 def _words_of(error: Optional[BaseException]) -> str:
     """Why an attempt to connect has failed, as the system says it."""
-    if isinstance(error, OSError) and not isinstance(error, ssl.SSLError) and error.errno is not None:
+    if isinstance(error, OSError) and not _is_of_tls(error) and error.errno is not None:
         if error.errno > 0:
             words = os.strerror(error.errno)
             return words[:1].lower() + words[1:]
         return str(error.strerror)  # of a name that was looked up
-    if isinstance(error, ConnectionError) and not str(error):  # asyncio's of TLS has no number and no words
+    if isinstance(error, ConnectionError) and not str(error):  # of TLS
         return "the server ended the connection within the TLS handshake"
     return str(error or "no connection in time")
 
 
-_rooms: weakref.WeakKeyDictionary[asyncio.AbstractEventLoop, memoryview] = weakref.WeakKeyDictionary()
+class Timer(Protocol):
+    def cancel(self) -> object: ...
 
 
-def _room_of(loop: asyncio.AbstractEventLoop) -> memoryview:
-    """Where the connections of a loop read what comes, one after the other: each takes it out at once."""
-    room = _rooms.get(loop)
-    if room is None:
-        room = _rooms[loop] = memoryview(bytearray(ROOM))
-    return room
+class Link(Protocol):
+    """One connection, from the moment that it is dialled. It tells its driver by `dials`, `begin`, `bring`, `failed` and `leave`."""
 
-
-class Serving(Protocol):
-    """What reads a connection without a turn of the event loop for it."""
-
-    def serve(self, descriptor: int, read: Callable[[], object]) -> None: ...
-    def leave(self, descriptor: int) -> None: ...
-
-
-class Link(asyncio.BufferedProtocol):
-    """One connection to a server, from the moment that it is dialled. `serving` is to read it, from its first bytes on."""
-
-    def __init__(self, driver: Driver, serving: Optional[Serving] = None) -> None:
-        self.transport: Optional[asyncio.Transport] = None
-        self._driver = driver
-        self._room = _room_of(asyncio.get_running_loop())
-        self._rooms = (self._room,)
-        self._serving = serving
-        self._descriptor = -1
-        self._leave: Optional[Callable[[], None]] = None
-        """What ends that it is served, once it is."""
-        self._is_over = False
-
-    def connection_made(self, transport: asyncio.BaseTransport) -> None:
-        self.transport = cast(asyncio.Transport, transport)
-        if self._is_over:
-            self.transport.abort()
-        else:
-            self._driver.begin()
-
-    def get_buffer(self, sizehint: int) -> memoryview:
-        return self._room
-
-    def buffer_updated(self, nbytes: int) -> None:
-        if not self._is_over:
-            self._driver.bring(self._piece(nbytes))
-            if self._serving is not None:
-                self._be_served(self._serving)
-
-    def _piece(self, count: int) -> Union[bytes, memoryview]:
-        """What has come: a copy where it is short, which takes less than to lend it."""
-        piece = self._room[:count]
-        return piece.tobytes() if count < SHORT else piece
-
-    def _be_served(self, serving: Serving) -> None:
-        """Has the connection be read by `_read` from now on. What is written, and how it ends, is the transport's as before."""
-        transport, self._serving = self.transport, None
-        if transport is None or transport.is_closing():
-            return
-        connection = transport.get_extra_info("socket")
-        if connection is not None:
-            transport.pause_reading()
-            self._descriptor = connection.fileno()
-            self._leave = functools.partial(serving.leave, self._descriptor)
-            serving.serve(self._descriptor, self._read)
-
-    def _read(self) -> None:
-        """Reads what has come. It raises nothing: what fails is told in a turn of the event loop."""
-        try:
-            count = os.readv(self._descriptor, self._rooms)
-            if count:
-                self._driver.bring(self._piece(count))
-            else:
-                self.end(_CLOSED)
-        except BlockingIOError:
-            pass
-        except Exception as error:
-            asyncio.get_running_loop().call_soon(self._fail, error)
-
-    def _fail(self, error: Exception) -> None:
-        if not isinstance(error, OSError):
-            context = {"message": "what the server has sent has failed", "exception": error, "protocol": self}
-            asyncio.get_running_loop().call_exception_handler(context)
-        self.end(str(error))
-
-    def connection_lost(self, error: Optional[Exception]) -> None:
-        self.end(str(error) if error is not None else _CLOSED)
-
-    def end(self, why: str = "") -> None:
-        """Ends the connection at once, and says so."""
-        if not self._is_over:
-            self.close()
-            self._driver.leave(why)
+    def write(self, frames: bytes) -> object: ...
 
     def close(self) -> None:
-        """Ends the connection at once, or what is to become one. The engine has asked for it."""
-        self._is_over = True
-        leave, self._leave = self._leave, None  # once: the number of the descriptor is another one's afterwards
-        if leave is not None:
-            leave()
-        if self.transport is not None:
-            self.transport.abort()
+        """Ends it at once, or what is to become one, and says nothing more."""
+
+
+class Loop(Protocol):
+    """What calls functions later, and makes connections."""
+
+    def call_soon(self, function: Callable[..., object], *words: Any) -> object: ...
+    def call_later(self, seconds: float, function: Callable[..., object], *words: Any) -> Timer: ...
+
+    def dial(self, driver: Driver, place: int) -> Link:
+        """Begins an attempt to connect to the server at a place of the list, not within this call."""
 
 
 class Driver:
     """Keeps an engine connected to one of its servers, from `start` to `stop`. But for its making, all of it belongs to
-    one event loop.
+    one loop: that of asyncio, or that of all blocking clients.
 
     It is made of the loop's callbacks, and not of a task: whoever cancels all tasks of a loop does not end it.
     """
 
+    connects: Optional[Callable[[Place], socket.socket]] = None
+    """What connects to an address, in a thread of its own, where the loop is not to do so itself."""
+
     def __init__(
         self, servers: Servers, engine: Engine, tls: Optional[ssl.SSLContext] = None, sasl: Optional[Sasl] = None
     ) -> None:
-        self._servers, self._tls, self._sasl = servers, tls, sasl
+        self.servers, self.tls, self._sasl = servers, tls, sasl
         self._login: Optional[Login] = None
         """What logs in on the connection, until that is over."""
-        self.serving: Optional[Serving] = None
-        """What reads connections that are not of TLS, where the event loop has that."""
-        self._place: Optional[Place] = None
+        self.place: Optional[Place] = None
+        """The server of the connection, or of the attempt to make one."""
         self._hosts: Optional[Hosts] = None
         self._engine = engine
         self._link: Optional[Link] = None
-        self._dialing: Optional[asyncio.Future[Any]] = None
-        self._ended: Optional[asyncio.Future[None]] = None
-        self._timer: Optional[asyncio.TimerHandle] = None
+        self._timer: Optional[Timer] = None
         self._wakes_at = self._awake_at = 0
-        self._has_brought = False
-        self._is_to_act = self._is_started = self.is_stopped = False
+        self._has_brought = self._is_dialling = False
+        self._is_to_act = self._is_started = self.is_stopped = self.is_over = False
 
-    def start(self) -> None:
-        self._loop = asyncio.get_running_loop()
+    def start(self, loop: Loop) -> None:
+        """Goes on until it is stopped or the session is closed. Then it is over."""
+        self._loop = loop
         self._is_started = True
         self._engine.contact.heard_at = moment()
         self.act()
 
-    async def run(self) -> None:
-        """Starts, and goes on until it is stopped or the session is closed."""
-        if not self.is_stopped:
-            self._ended = asyncio.get_running_loop().create_future()
-            self.start()
-            await self._ended
-
     def stop(self, end: Callable[[], None]) -> None:
         """Does what ends the engine, ends the connection, and stops dialling."""
         self.is_stopped = True
-        end()
-        self._hang_up()
-        self._end()
+        try:
+            end()
+        finally:
+            self._hang_up()
+            self._end()
+
+    def dials(self, place: Place) -> None:
+        """An attempt goes to this address."""
+        logger.debug("dials %s", place)
+        self.place = place
+        self._engine.place = str(place)
 
     def begin(self) -> None:
         """A connection stands."""
-        logger.debug("asks %s for a session", self._place)
+        logger.debug("asks %s for a session", self.place)
+        self._is_dialling = False
+        if self._engine.state is not State.CONNECTED:
+            self._engine.trouble = f"{self._where()}connected, and it has not accepted the session"
         self._login = None if self._sasl is None else Login(self._sasl)
         self._engine.opened(moment())
         self.act()
@@ -222,8 +150,8 @@ class Driver:
             else:
                 self._engine.drop(moment(), words)
             return b""
-        if frames and self._link is not None and self._link.transport is not None:
-            self._link.transport.write(frames)
+        if frames and self._link is not None:
+            self._link.write(frames)
         if passed is None:
             return b""
         self._login = None
@@ -245,7 +173,7 @@ class Driver:
             return
         self._is_to_act = False
         engine = self._engine
-        if engine.is_running and self._servers.hosts is not self._hosts:
+        if engine.is_running and self.servers.hosts is not self._hosts:
             self._tell_hosts()
         engine.take_handed(self._noticed() if now is None else now)
         if self.is_stopped:
@@ -253,8 +181,8 @@ class Driver:
         hangs_up, dial, frames = engine.take_orders()
         if hangs_up:
             self._hang_up()
-        if frames and self._link is not None and self._link.transport is not None:
-            self._link.transport.write(frames if self._login is None else self._login.hold(frames))
+        if frames and self._link is not None:
+            self._link.write(frames if self._login is None else self._login.hold(frames))
         if not engine.is_running:
             return self._end()
         if dial is not None:
@@ -270,61 +198,39 @@ class Driver:
 
     def _tell_hosts(self) -> None:
         """Tells the engine of the servers, or of other ones."""
-        hosts = self._hosts = self._servers.hosts
+        hosts = self._hosts = self.servers.hosts
         self._engine.hosts = hosts.text
         self._engine.addresses(moment(), len(hosts.servers))
 
     def _hang_up(self) -> None:
         """Closes the connection, or gives the attempt up."""
         link, self._link = self._link, None
-        dialing, self._dialing = self._dialing, None
-        if dialing is not None and not dialing.done():
-            dialing.cancel()
+        if self._is_dialling:
+            self._is_dialling = False
             self._note_failure(None)
         if link is not None:
             link.close()
 
     def _dial(self, place: int) -> None:
         """Begins an attempt to connect. The engine says when it is to be given up."""
-        link = self._link = Link(self, self.serving if self._tls is None else None)
-        dialing = self._dialing = self._loop.create_task(self._connect(link, place))
-        dialing.add_done_callback(functools.partial(self._dialed, link))
+        self.place, self._is_dialling = None, True
+        self._link = self._loop.dial(self, place)
 
-    async def _connect(self, link: Link, number: int) -> None:
-        """Connects to the server at a place of the list."""
-        self._place = None
-        place = self._place = await self._servers.at(number)
-        logger.debug("dials %s", place)
-        self._engine.place = str(place)
-        name = place.name if self._tls is not None else None
-        await self._loop.create_connection(
-            lambda: link, place.address, place.port, ssl=self._tls, server_hostname=name
-        )
-
-    def _dialed(self, link: Link, dialing: asyncio.Future[Any]) -> None:
-        """An attempt to connect has ended."""
-        error = None if dialing.cancelled() else dialing.exception()
-        if link is not self._link:
-            return
-        self._dialing = None
-        if error is None and not dialing.cancelled():
-            if self._engine.state is not State.CONNECTED:
-                self._engine.trouble = f"{self._where()}connected, and it has not accepted the session"
-            return
+    def failed(self, error: Optional[BaseException]) -> None:
+        """An attempt to connect has failed. Its link is closed."""
+        self._is_dialling, self._link = False, None
         self._note_failure(error)
-        self._link = None
-        link.close()
         self._engine.failed(moment())
         self.act()
 
     def _note_failure(self, error: Optional[BaseException]) -> None:
         self._engine.trouble = f"{self._where()}{_words_of(error)}"
-        is_ours = isinstance(error, ssl.SSLError) or isinstance(error, OSError) and error.errno in _NO_DESCRIPTOR
+        is_ours = _is_of_tls(error) or isinstance(error, OSError) and error.errno in _NO_DESCRIPTOR
         logger.log(logging.WARNING if is_ours else logging.INFO, "no connection to %s", self._engine.trouble)
         self._engine.attempt_failed()
 
     def _where(self) -> str:
-        return f"{self._place}: " if self._place is not None else ""
+        return f"{self.place}: " if self.place is not None else ""
 
     def _noticed(self) -> int:
         """The moment of what came: now, or where this process was held up, the last one before that, and before something was due.
@@ -347,7 +253,8 @@ class Driver:
     def _wake_by(self, deadline: Optional[int]) -> None:
         if deadline is None:
             return
-        wakes_at = min(deadline, moment() + self._longest_wait())
+        longest = self._longest_wait()
+        wakes_at = min(deadline, (moment() // longest + 1) * longest)  # all clients of one timeout at once, which takes less
         if self._timer is None or wakes_at < self._wakes_at:
             self._set_timer(wakes_at)
 
@@ -358,9 +265,13 @@ class Driver:
         self._timer = self._loop.call_later(max(wakes_at - moment(), 0) / 1000, self._awake)
 
     def _awake(self) -> None:
-        """Tells the moment, after the event loop has read what the socket has: a timer comes after it in each turn."""
+        """Tells the moment if something is due, after the loop has read what the socket has: a timer comes after it in each turn."""
         self._noticed()
-        self._tick_next(MOST_TURNS)
+        deadline = self._engine.deadline()
+        if deadline is None or deadline <= moment() or self._awake_at < self._wakes_at:
+            return self._tick_next(MOST_TURNS)
+        self._timer = None
+        self._wake_by(deadline)
 
     def _tick_next(self, turns: int) -> None:
         self._has_brought = False
@@ -377,5 +288,4 @@ class Driver:
         if self._timer is not None:
             self._timer.cancel()
             self._timer = None
-        if self._ended is not None and not self._ended.done():
-            self._ended.set_result(None)
+        self.is_over = self._is_started

@@ -2,15 +2,14 @@
 
 from __future__ import annotations
 
-import contextlib
 import random
-from typing import TYPE_CHECKING, NamedTuple
+from typing import TYPE_CHECKING, Callable, NamedTuple, Optional
 
 from dirwolleu._checks import checked_text
 from dirwolleu._root import Root
 
 if TYPE_CHECKING:
-    import asyncio
+    from dirwolleu._lookups import LookUp
 
 DEFAULT_PORT = 2181
 
@@ -60,6 +59,10 @@ def _server(text: str) -> Server:
     return host, int(port)
 
 
+Found = Callable[[Optional[Place], Optional[OSError]], object]
+"""What is told of an address that is found, or of why there is none."""
+
+
 class _Round:
     """A list of servers in the order of its places, and the addresses that were dialled, until all of a name were.
 
@@ -95,7 +98,7 @@ class Servers:
         self.hosts = hosts_of(hosts)
         self._is_by_chance = is_by_chance
         self._round = _Round(self.hosts.servers, is_by_chance)
-        self._lookups: dict[Server, asyncio.Future[list[str]]] = {}
+        self._lookups: dict[Server, LookUp] = {}
 
     def replace(self, hosts: str) -> None:
         """Has the next dial go to one of these servers. Raises `ValueError` where the root is another one."""
@@ -105,18 +108,38 @@ class Servers:
         self._round = _Round(new.servers, self._is_by_chance)
         self.hosts = new
 
-    async def at(self, place: int) -> Place:
-        """An address of the server at a place of the list. A name is looked up each time. Raises `OSError` where it is not found."""
+    def find(self, place: int, soon: Callable[[Callable[[], object]], object], tell: Found) -> None:
+        """Finds an address of the server at a place of the list, and tells it, or why there is none. A name is looked up each time: `soon` has a
+        function called afterwards, from another thread.
+        """
         current = self._round
         host, port = current.server_at(place)
-        return current.choose([Place(host, address, port) for address in await self._look_up(host, port)])
 
-    async def _look_up(self, host: str, port: int) -> list[str]:
-        """The addresses of a host."""
-        import ipaddress  # here, so that no import of the package loads this and asyncio
+        def choose(addresses: list[str], error: Optional[OSError]) -> None:
+            tell(current.choose([Place(host, address, port) for address in addresses]) if addresses else None, error)
 
-        with contextlib.suppress(ValueError):
-            return [str(ipaddress.ip_address(host))]
-        from dirwolleu import _lookups
+        address = _address_of(host)
+        if address is not None:
+            return choose([address], None)
+        self._look_up(host, port).then(lambda *found: soon(lambda: choose(*found)))
 
-        return await _lookups.shared(self._lookups, host, port)
+    def _look_up(self, host: str, port: int) -> LookUp:
+        """The look-up of a host. One that is under way already is shared, so that no more than one waits."""
+        from dirwolleu._lookups import LookUp
+
+        found = self._lookups.get((host, port))
+        if found is None or found.is_done():
+            found = self._lookups[host, port] = LookUp(host, port)
+        return found
+
+
+def _address_of(host: str) -> Optional[str]:
+    """The address that a host is, unless it is a name."""
+    import socket  # here, since only a client that is started dials
+
+    for family in (socket.AF_INET, socket.AF_INET6):
+        try:
+            return socket.inet_ntop(family, socket.inet_pton(family, host))
+        except OSError:
+            pass
+    return None

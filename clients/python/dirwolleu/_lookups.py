@@ -1,50 +1,45 @@
-"""Names of hosts that are looked up, in threads that hold up neither an event loop nor the end of a program."""
+"""Names of hosts that are looked up, in threads that hold up neither those who keep clients connected nor the end of a program."""
 
 from __future__ import annotations
 
-import asyncio
-import contextlib
+import collections
 import socket
 import threading
-from typing import Optional
+from typing import Callable, Optional
+
+Tell = Callable[[list[str], Optional[OSError]], object]
 
 
-async def shared(pending: dict[tuple[str, int], asyncio.Future[list[str]]], host: str, port: int) -> list[str]:
-    """The addresses of a host. A look-up that is under way already is shared, so that no more than one waits.
+class LookUp:
+    """One look-up, which a thread of its own makes. All who wait for it share it."""
 
-    Raises `OSError` where the name is not found.
-    """
-    found = pending.get((host, port))
-    if found is None or found.done() or found.get_loop() is not asyncio.get_running_loop():
-        found = pending[host, port] = _looked_up(host, port)
-    try:
-        return await asyncio.shield(found)
-    except OSError as error:
-        raise OSError(error.errno, f"{host}: {error.strerror}") from error
+    def __init__(self, host: str, port: int) -> None:
+        self._host, self._port = host, port
+        self._waiting: collections.deque[Tell] = collections.deque()
+        self._found: Optional[tuple[list[str], Optional[OSError]]] = None
+        threading.Thread(target=self._run, name="dirwolleu-lookup", daemon=True).start()
 
+    def is_done(self) -> bool:
+        return self._found is not None
 
-def _looked_up(host: str, port: int) -> asyncio.Future[list[str]]:
-    """Looks a host up in a thread of its own."""
-    loop = asyncio.get_running_loop()
-    future: asyncio.Future[list[str]] = loop.create_future()
-    future.add_done_callback(lambda done: done.cancelled() or done.exception())  # it may be that nobody waits any more
+    def then(self, tell: Tell) -> None:
+        """Has a function called with the addresses, or with the error: in the thread of the look-up, or here where it is done."""
+        self._waiting.append(tell)
+        self._tell_those_who_wait()
 
-    def settle(addresses: list[str], error: Optional[OSError]) -> None:
-        if future.done():
-            return
-        if error is not None:
-            future.set_exception(error)
-        else:
-            future.set_result(addresses)
-
-    def run() -> None:
+    def _run(self) -> None:
         try:
-            found = socket.getaddrinfo(host, port, type=socket.SOCK_STREAM)
-            outcome: tuple[list[str], Optional[OSError]] = [str(one[4][0]) for one in found], None
+            found = socket.getaddrinfo(self._host, self._port, type=socket.SOCK_STREAM)
+            self._found = [str(one[4][0]) for one in found], None
         except OSError as error:
-            outcome = [], error
-        with contextlib.suppress(RuntimeError):  # the loop is closed
-            loop.call_soon_threadsafe(settle, *outcome)
+            self._found = [], OSError(error.errno, f"{self._host}: {error.strerror}")
+        self._tell_those_who_wait()
 
-    threading.Thread(target=run, name="dirwolleu-lookup", daemon=True).start()
-    return future
+    def _tell_those_who_wait(self) -> None:
+        """Each of them is told once, by this thread or by another one that asks at the same time."""
+        while self._found is not None and self._waiting:
+            try:
+                tell = self._waiting.popleft()
+            except IndexError:
+                break
+            tell(*self._found)

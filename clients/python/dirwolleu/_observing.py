@@ -9,8 +9,8 @@ from typing import Any, Callable, Optional
 
 from dirwolleu import _library as library
 from dirwolleu._asked import Waiter
+from dirwolleu._cache_view import CacheView
 from dirwolleu._followed import Followed
-from dirwolleu._keeping import Keeping
 from dirwolleu._requests import Request
 from dirwolleu._session import Session
 from dirwolleu.exceptions import (
@@ -94,7 +94,7 @@ def outcome_of(error: BaseException) -> str:
 
 
 def holdings_of(
-    looks: Keeping, subjects: Sequence[Followed], trees: Sequence[Optional[TreeSnapshot]]
+    looks: CacheView, subjects: Sequence[Followed], trees: Sequence[Optional[TreeSnapshot]]
 ) -> tuple[dict[str, int], int]:
     """How many nodes, lists of children and trees are followed, and the bytes that are kept of these."""
     size = 0
@@ -114,7 +114,7 @@ def holdings_of(
 class Observers:
     """Those who are told. What one of them raises is logged."""
 
-    def __init__(self, looks: Keeping) -> None:
+    def __init__(self, looks: CacheView) -> None:
         self.functions: list[Function] = []
         self._looks = looks
 
@@ -171,7 +171,7 @@ class _Watching:
         self._observers.call(self._request, outcome, code, time.perf_counter() - self._began)
 
 
-class Observed(Keeping):
+class Observed(CacheView):
     """A session whose steps are told of."""
 
     observers: Optional[Observers] = None

@@ -167,7 +167,8 @@ class Shown:
     def observe(self, function: Callable[[Observation], object]) -> None:
         """Has a function called with each `CallEvent`, `ConnectionEvent` and `Transfer` from now on: see `dirwolleu.metrics`.
 
-        It is called within the client's own steps, in their order: it is to be quick, and calls nothing of the client that waits.
+        It is called within the client's own steps, in their order. Other clients wait for these: so it is to be quick, and calls nothing of
+        any client that waits.
         """
         self._engine.observe(checked_function("what observes", function))
 

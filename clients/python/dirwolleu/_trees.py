@@ -8,8 +8,8 @@ from typing import Any, Callable, Optional, Protocol
 
 from dirwolleu._checks import checked_int
 from dirwolleu._engine import Engine, News
-from dirwolleu._growing import Growing
 from dirwolleu._steps import GetNews, Steps, TimeIsOver, Wait, bounded, until_of
+from dirwolleu._tree_view import TreeView
 from dirwolleu.exceptions import CallTimeoutError
 from dirwolleu.tree import TreeSnapshot
 
@@ -26,13 +26,13 @@ class _Grown:
         engine.kept(path)  # a ValueError where it is no path
         self._engine = engine
         self._waiting: list[Callable[[], None]] = []
-        self._growing = Growing(engine, path, most, self._told)
-        engine.add_tree(self._growing)
+        self._tree_view = TreeView(engine, path, most, self._told)
+        engine.add_tree(self._tree_view)
 
     @property
     def latest(self) -> Optional[TreeSnapshot]:
         """The newest snapshot, or None before there is one. It asks no server, and any thread may look."""
-        return self._growing.latest
+        return self._tree_view.latest
 
     @property
     def current(self) -> Optional[TreeSnapshot]:
@@ -40,7 +40,7 @@ class _Grown:
 
         So it is the servers' tree at the client's last seen zxid.
         """
-        return self._growing.latest if self._growing.is_current() else None
+        return self._tree_view.latest if self._tree_view.is_current() else None
 
     @property
     def trouble(self) -> Optional[Exception]:
@@ -49,11 +49,11 @@ class _Grown:
         `NoNodeError`: there is no root. Another error of a server: what it refused to read. `ValueError`: there are more
         nodes than the tree was to have.
         """
-        return self._growing.trouble
+        return self._tree_view.trouble
 
     def close(self) -> None:
         """Reads no more. What was read stays kept by the client, until it is stale and forgotten."""
-        self._engine.remove_tree(self._growing)
+        self._engine.remove_tree(self._tree_view)
         self._told()
 
     def _told(self) -> None:
@@ -76,7 +76,7 @@ class _Grown:
         self._waiting.append(news.set)
         try:
             with self._engine.news(news.set):
-                while self._engine.is_running and self._engine.has_tree(self._growing):
+                while self._engine.is_running and self._engine.has_tree(self._tree_view):
                     news.clear()
                     if self.latest is not told:
                         return self.latest

@@ -1,4 +1,4 @@
-"""How threads wait: for an answer, for news, and for steps that another thread does."""
+"""How threads wait: for an answer, for news, and for the end of another one; and the thread of a client that calls functions."""
 
 from __future__ import annotations
 
@@ -9,13 +9,10 @@ import logging
 import queue
 import threading
 import time
-from collections.abc import Generator
-from typing import Any, Callable, Optional, Protocol, Union
+from typing import Any, Callable, Optional, Union
 
 from dirwolleu import _ending as ending
-from dirwolleu._requests import Request
 from dirwolleu._semaphore import Semaphore, has_system_threads
-from dirwolleu._steps import Ask, Call, GetNews, Step, Steps, Wait
 
 logger = logging.getLogger("dirwolleu")
 
@@ -48,15 +45,15 @@ class News:
 
 
 class Sleepers:
-    """The threads whose answers have come in a turn of the event loop. They go on at its end.
+    """The threads whose answers have come in a step of a client. They go on at its end.
 
-    So what they do next meets all that the turn had to tell.
+    So what they do next meets all that the step had to tell.
     """
 
     def __init__(self) -> None:
         self._waiters: collections.deque[Waiter] = collections.deque()
         self.add = self._waiters.append
-        """Has a thread go on at the end of the turn."""
+        """Has a thread go on at the end of the step."""
         self._spare: list[Union[Semaphore, News]] = []
         self.keep = self._spare.append
         """Keeps what a thread has waited for, which is not set now, for another wait."""
@@ -214,23 +211,48 @@ class _Told:
 
 
 class Callbacks(threading.Thread):
-    """The thread that calls a program's functions, one after the other, so that these may use the client."""
+    """The thread that calls a program's functions, one after the other, so that these may use the client.
 
-    def __init__(self) -> None:
+    It is started with the first of them, by `soon`: in a thread that no signal interrupts.
+    """
+
+    def __init__(self, soon: Callable[[Callable[[], object]], object]) -> None:
         super().__init__(name="dirwolleu-callbacks", daemon=True)
+        self._soon = soon
         self._queue: queue.SimpleQueue[Optional[_Told]] = queue.SimpleQueue()
         self._fate = Fate()
-        self._has_ended = self._is_left = False
+        self._is_begun = self._has_ended = self._is_left = False
 
     def tell(self, function: Callable[[Any], object], argument: Any) -> bool:
         """Has a function called, and answers whether it is: it is not where the thread has ended."""
         told = _Told(function, argument)
         self._queue.put(told)
+        if not self._is_begun:
+            self._soon(self._begin)
         return not (self._has_ended and told.take())
 
     def end(self) -> None:
         """Ends after what was told before. It waits for nothing."""
+        if not self._is_begun:
+            self._has_ended = True  # before it looks what was told
+            if self._queue.empty():
+                return
+            self._begin()
         self._queue.put(None)
+
+    def _begin(self) -> None:
+        """Begins, if it has not. What was told stays where no thread can be started now."""
+        if self._is_begun:
+            return
+        try:
+            self.start()
+        except RuntimeError as error:
+            if self.ident is None and not ending.has_come():
+                logger.error("no callback is called: %s", error)
+
+    def start(self) -> None:
+        super().start()
+        self._is_begun = True
 
     def seal(self) -> None:
         """Never begins, if it has not begun: what was told is called here."""
@@ -266,135 +288,3 @@ class Callbacks(threading.Thread):
             told.function(told.argument)
         except BaseException:  # SystemExit too, which would end the callbacks alone, and no program
             logger.exception("a callback failed")
-
-
-class Doing(Protocol):
-    """What a task needs of its client."""
-
-    def _tell(self, function: Callable[[Any], object], argument: Any) -> bool: ...
-    def _later(self, seconds: float, function: Callable[[], object]) -> None: ...
-    def _hand_in(self, request: Any, waiter: Any, timeout: Optional[float] = None) -> None: ...
-
-
-class _Turn:
-    """What waits for the answer to one step of a task."""
-
-    def __init__(self, task: Task, number: int) -> None:
-        self._task, self._number, self._is_done = task, number, False
-
-    def begin(self) -> bool:
-        return not self.done()
-
-    def cancel(self) -> None:
-        self._is_done = True
-
-    def done(self) -> bool:
-        return self._is_done or self._task.is_past(self._number)
-
-    def set_result(self, result: Any) -> None:
-        self._is_done = True
-        self._task.soon(self._number, result, None)
-
-    def set_exception(self, error: BaseException) -> None:
-        self._is_done = True
-        self._task.soon(self._number, None, error)
-
-
-class Task:
-    """Steps that no thread waits for. The thread of the callbacks does each of them, and is not held up between them.
-
-    It is also the news that its own steps wait for. `end` is told how it ended: the result, or the error.
-    """
-
-    def __init__(
-        self,
-        client: Doing,
-        begin: Callable[[Task], Steps[Any]],
-        end: Callable[[Any, Optional[BaseException]], object],
-    ) -> None:
-        self._client, self._end = client, end
-        self._is_news, self._is_told, self._waits, self._number = False, False, False, 0
-        self._open = {0: True}
-        """The step that is to come, until somebody takes it: after a stop that may be any thread."""
-        self._steps: Optional[Generator[Step, Any, Any]] = begin(self)
-
-    def start(self) -> None:
-        """Begins, or goes on in the threads of a client that was started again."""
-        self._is_told = False
-        self.soon(0, None, None)
-        self.set()
-
-    def set(self) -> None:
-        """There is news. Any thread may say so."""
-        self._is_news = True
-        if not self._is_told:
-            self._is_told = True  # before it is told: the other thread may take it at once
-            if not self._client._tell(self._wake, None):
-                self._is_told = False
-
-    def clear(self) -> None:
-        self._is_news = False
-
-    def is_past(self, number: int) -> bool:
-        """Whether it does not wait for this step any more."""
-        return self._steps is None or number != self._number
-
-    def soon(self, number: int, answer: Any, error: Optional[BaseException]) -> None:
-        """Has the task go on with what a step has brought, unless it is past."""
-        came = number, answer, error
-        if not self._client._tell(self._go_on, came):
-            self._go_on(came)
-
-    def _wake(self, _: object) -> None:
-        self._is_told = False
-        if self._waits and self._is_news:
-            self._is_news = False
-            self._go_on((self._number, None, None))
-
-    def _go_on(self, came: tuple[int, Any, Optional[BaseException]]) -> None:
-        number, answer, error = came
-        steps = self._steps
-        if steps is None or not self._open.pop(number, False):
-            return
-        self._number += 1
-        self._waits = False
-        self._open[self._number] = True
-        try:
-            step = steps.send(answer) if error is None else steps.throw(error)
-        except StopIteration as end:
-            self._finish(end.value, None)
-        except BaseException as failed:
-            self._finish(None, failed)
-        else:
-            self._do(step)
-
-    def _finish(self, result: Any, error: Optional[BaseException]) -> None:
-        self._steps = None
-        self._end(result, error)
-
-    def _do(self, step: Step) -> None:
-        number = self._number
-        try:
-            if isinstance(step, Wait):
-                self._wait(step.seconds)
-            elif isinstance(step, (Call, GetNews)):
-                self.soon(number, step.function() if isinstance(step, Call) else self, None)
-            else:
-                self._ask(step)
-        except BaseException as error:
-            self.soon(number, None, error)
-
-    def _ask(self, step: Any) -> None:
-        request, timeout = step if isinstance(step, Ask) else (step, None)
-        assert isinstance(request, Request)
-        self._client._hand_in(request, _Turn(self, self._number), timeout)
-
-    def _wait(self, seconds: Optional[float]) -> None:
-        """Waits for news, which may be there already."""
-        number = self._number
-        if self._is_news:
-            self._is_news = False
-            return self.soon(number, None, None)
-        self._waits = True
-        if seconds is not None:
-            self._client._later(seconds, lambda: self.soon(number, None, None))

@@ -14,6 +14,7 @@ from dirwolleu import _calls as calls
 from dirwolleu import _following as following
 from dirwolleu import _requests as requests
 from dirwolleu import _steps as steps_of
+from dirwolleu._aio_link import Loop
 from dirwolleu._calls import Wanted
 from dirwolleu._clock import moment
 from dirwolleu._driver import Driver
@@ -163,7 +164,7 @@ class Client(Shown):
         self._engine.begin()
         if self._driver is None:
             self._driver = Driver(self._servers, self._engine, self._tls, self._sasl)
-            self._driver.start()
+            self._driver.start(Loop())
         try:
             await asyncio.wait_for(self._wait_until_connected(), timeout)
         except BaseException as error:

@@ -28,8 +28,9 @@ from dirwolleu._retry import Retry
 from dirwolleu._session import LONGEST_ANSWER, LONGEST_REQUEST, Limits
 from dirwolleu._shown import AuthData, Shown, parts_of
 from dirwolleu._steps import Ask, Call, GetNews, Step, Steps, Wait
+from dirwolleu._tasks import Task
 from dirwolleu._trees import MOST_NODES, Tree
-from dirwolleu._waiting import Future, News, Sleepers, Task, Waiter
+from dirwolleu._waiting import Future, News, Sleepers, Waiter
 from dirwolleu.exceptions import ConnectionClosedError, ZookeeperError
 from dirwolleu.security import AuthFailedError
 from dirwolleu.transaction import Transaction
@@ -504,7 +505,7 @@ class Client(Shown):
 
     def _start_threads(self) -> Optional[Threads]:
         """Starts threads, and answers them: None where somebody else was first. A stop may come at any moment of it."""
-        from dirwolleu._threads import Threads  # here, so that no import of the package loads asyncio
+        from dirwolleu._threads import Threads  # here, since not each program that imports the package starts a client
 
         made = Threads(self._driver(), self._engine, self._sleepers, self._begin_tasks)
         threads = self._running.setdefault("threads", made)

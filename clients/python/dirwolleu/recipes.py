@@ -9,15 +9,15 @@ import threading
 from types import TracebackType
 from typing import TYPE_CHECKING, Any, Callable, Optional, TypeVar, cast, overload
 
-from dirwolleu import _contending as contending
 from dirwolleu import _ending as ending
+from dirwolleu import _locks as locks
+from dirwolleu._barriers import BaseBarrier, BaseDoubleBarrier
 from dirwolleu._calls import shown
-from dirwolleu._contending import READING, WRITING, BaseHeld, BaseLock, BaseTaker, Holding
-from dirwolleu._counting import BaseCounter, Number
-from dirwolleu._gathering import BaseBarrier, BaseDoubleBarrier
-from dirwolleu._leasing import BaseSemaphore
-from dirwolleu._queueing import BaseQueue
-from dirwolleu._registering import BaseRegistration
+from dirwolleu._counters import BaseCounter, Number
+from dirwolleu._leases import BaseSemaphore
+from dirwolleu._locks import READING, WRITING, BaseHeld, BaseLock, BaseTaker, Holding
+from dirwolleu._queues import BaseQueue
+from dirwolleu._registrations import BaseRegistration
 from dirwolleu._steps import Result, Steps
 from dirwolleu.client import Client
 
@@ -189,7 +189,7 @@ class Election:
         path: str,
         identifier: str = "",
         *,
-        names: str = contending.KAZOO,
+        names: str = locks.KAZOO,
         on_lost: Optional[Callable[[Held], object]] = None,
         keeps_while_suspended: bool = False,
     ) -> None:

@@ -17,7 +17,7 @@ __all__ = ["Sasl", "Step", "digest_md5"]
 
 Step = Callable[[bytes], Optional[bytes]]
 """One log-in: is called with no bytes first, and then with each challenge of the server. It answers the token to send, or None where the
-log-in is over. What it raises ends the client, with its words in an `AuthFailedError`."""
+log-in is over. What it raises ends the client, with its words in an `AuthFailedError`. All blocking clients of the process wait while it runs."""
 Sasl = Callable[[], Step]
 """Makes what logs in on one connection."""
 

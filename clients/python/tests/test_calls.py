@@ -39,7 +39,7 @@ from dirwolleu import (
     aio,
 )
 from dirwolleu._clock import moment
-from dirwolleu._contending import Holding, Taken
+from dirwolleu._locks import Holding, Taken
 
 SET_DATA = 5
 
@@ -423,7 +423,7 @@ host = sys.argv[1]
 
 ENDING = """
 import atexit, time
-from dirwolleu import _threads, client as of
+from dirwolleu import _poll, _threads, client as of
 there, left, threads = threading.Event(), threading.Event(), []
 client = dirwolleu.Client(host)
 
@@ -524,10 +524,10 @@ class ProgramTest(ClientCase):
             "hold(of.Client, '_start_threads')",
             "hold(_threads.Threads, 'start')",
             "hold(_threads.Loop, 'start')",
-            "hold(_threads.Loop, 'run')",
+            "hold(_threads.Loop, '_run')",
             "hold(of.Client, '_wait')",
             "hold(of.Client, '_is_connected')",
-            "of.News.wait = lambda *_: there.set() or left.wait() and False\n"  # the time of the start has passed
+            "of.News = type('Late', (of.News,), {'wait': lambda *_: there.set() or left.wait() and False})\n"  # the time of the start has passed
             "of.Client._is_connected = lambda *_: False",  # else a start that is held up before has nothing to wait for
         ):
             with self.subTest(text):
@@ -540,7 +540,7 @@ class ProgramTest(ClientCase):
 def refuse(_):
     there.set()
     raise RuntimeError("can't create new thread at interpreter shutdown")
-_threads.Callbacks.start = refuse
+_poll.Reactor.run = refuse
 def run(**named):
     thread = threading.Thread(target=client.start, **named)
     thread.start()

@@ -34,7 +34,7 @@ from dirwolleu import Client, ConnectionClosedError, ConnectionLoss, NotConnecte
 from dirwolleu._driver import Driver
 from dirwolleu._engine import Engine
 from dirwolleu._hosts import Servers
-from dirwolleu._threads import _can_serve, _Serving
+from dirwolleu._sockets import Link
 
 HELD_UP = pathlib.Path(__file__).resolve().parent / "held_up.py"
 
@@ -191,20 +191,15 @@ class DialTest(PartnerCase):
 
     def test_a_server_that_sends_no_connection_in_time_is_given_up(self) -> None:
         """An attempt has a third of the timeout, and a second at least. One that is made too late is closed."""
-        made: list[asyncio.Future[None]] = []
-
-        async def late(loop: Any, *_: object, **__: object) -> None:
-            made.append(loop.create_future())
-            await made[-1]
-
-        with mock.patch("asyncio.BaseEventLoop.create_connection", late):
+        made: list[Link] = []
+        with mock.patch.object(Link, "_connect", lambda link, _: made.append(link)):
             client = Client("127.0.0.1:1", 1.0)
             self.addCleanup(client.close)
             threading.Thread(target=self.start, args=(client,), daemon=True).start()
             within(lambda: len(made) >= 2)
             with self.assertRaisesRegex(TimeoutError, "127.0.0.1:1: no connection in time"):
                 client.start(0.1)
-        self.assertTrue(made[0].cancelled())
+        self.assertTrue(made[0]._is_over)
 
     def test_answered_pings_keep_a_connection(self) -> None:
         pings = list[Asked]()
@@ -286,20 +281,10 @@ class DialTest(PartnerCase):
 
         server = self.raw_server(serve)
         with contextlib.ExitStack() as patches:
-            patches.enter_context(mock.patch("dirwolleu._driver.ROOM", 1024))
+            patches.enter_context(mock.patch("dirwolleu._aio_link.ROOM", 1024))
             for module in ("_driver", "aio"):
                 patches.enter_context(mock.patch(f"dirwolleu.{module}.moment", lambda: clock[0]))
             asyncio.run(run())
-
-    @unittest.skipUnless(_can_serve(), "each of these takes a turn of the event loop here")
-    def test_calls_that_wait_take_no_turns_of_the_event_loop(self) -> None:
-        client = self.client(self.partner().host, 3600.0)  # whose timers come each 6 minutes
-        client.create("/a", b"one")
-        with mock.patch.object(_Serving, "_look", autospec=True, side_effect=_Serving._look) as looks:
-            for number in range(100):
-                client.set("/a", b"%d" % number)
-                self.assertEqual(client.get("/a")[0], b"%d" % number)
-        self.assertLess(looks.call_count, 10)
 
     def test_how_a_connection_has_ended_is_told(self) -> None:
         """Between two calls, or where the frame of a call meets its end."""
@@ -333,7 +318,7 @@ class DialTest(PartnerCase):
 
     def test_want_of_descriptors_is_told_as_that(self) -> None:
         want = OSError(errno.EMFILE, "Too many open files")
-        with mock.patch("asyncio.BaseEventLoop.create_connection", side_effect=want):
+        with mock.patch.object(Link, "_connect", side_effect=want):
             client = Client("127.0.0.1:1", 1.0)
             self.addCleanup(client.close)
             with self.assertLogs("dirwolleu", "WARNING"):
@@ -344,7 +329,7 @@ class DialTest(PartnerCase):
                 client.get("/a")
 
     def test_want_of_descriptors_for_the_client_itself_is_raised_by_start(self) -> None:
-        with mock.patch("dirwolleu._threads._EventLoop", side_effect=OSError(errno.EMFILE, "Too many open files")):
+        with mock.patch("dirwolleu._poll.Bell", side_effect=OSError(errno.EMFILE, "Too many open files")):
             client = Client("127.0.0.1:1", 1.0)
             self.addCleanup(client.close)
             with self.assertRaisesRegex(OSError, "Too many open files"):

@@ -16,6 +16,7 @@ from unittest import mock
 from support import TIMEOUT, WAIT, Partner, PartnerCase, Peer, within
 
 from dirwolleu import Client, EventType, Mark, NoNodeError, State, WatchedEvent
+from dirwolleu._aio_link import address_at
 from dirwolleu._hosts import Place, Servers, hosts_of
 
 WRONG = (
@@ -45,7 +46,7 @@ class HostsTest(PartnerCase):
         """The addresses of this many dials, where the library goes through the list in this order."""
 
         async def dial() -> list[Place]:
-            return [await servers.at(order[number % len(order)]) for number in range(count)]
+            return [await address_at(servers, order[number % len(order)]) for number in range(count)]
 
         return asyncio.run(dial())
 
@@ -83,9 +84,9 @@ class HostsTest(PartnerCase):
         async def dial(servers: Servers) -> Place:
             for _ in range(3):
                 with self.assertRaises(asyncio.TimeoutError):
-                    await asyncio.wait_for(servers.at(0), 0.02)
+                    await asyncio.wait_for(address_at(servers, 0), 0.02)
             may_end.set()
-            return await servers.at(0)
+            return await address_at(servers, 0)
 
         with mock.patch("socket.getaddrinfo", side_effect=look_up) as looked_up:
             self.assertEqual(asyncio.run(dial(Servers("name:7"))).address, "10.0.0.1")

@@ -9,7 +9,7 @@ from typing import Any, Optional
 from unittest import mock
 
 from support import EXISTS, GET_DATA, PING, STAT, WAIT, Asked, data_reply, reply, within
-from untimed import Server, UntimedCase
+from untimed import Server, UntimedCase, blocking_clients_in
 
 from dirwolleu import CallTimeoutError, Client, ConnectionLoss, Mark, NotConnectedError, State
 
@@ -43,13 +43,8 @@ class PingTest(UntimedCase):
     def test_an_idle_session_is_kept_up(self) -> None:
         """That of the client for threads, whose loop is this one: nothing waits in it, and it is an hour later soon."""
         server, states = Server(self.loop, 1, answers), list[State]()
-
-        def loop_of(waiting: Any) -> Any:
-            waiting.close()
-            return self.loop
-
         client_moment = mock.patch("dirwolleu.client.moment", self.loop.moment)
-        with client_moment, mock.patch("dirwolleu._threads._EventLoop", loop_of):
+        with client_moment, blocking_clients_in(self.loop):
             client = Client("127.0.0.1:1", 30.0)
             self.addCleanup(client.close)
             client.add_listener(states.append)

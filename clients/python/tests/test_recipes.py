@@ -30,7 +30,7 @@ from dirwolleu import (
     aio,
 )
 from dirwolleu import _requests as requests
-from dirwolleu._contending import in_line
+from dirwolleu._locks import in_line
 
 
 class RecipeCase(PartnerCase):
@@ -203,7 +203,7 @@ class LockTest(RecipeCase):
         self.assertFalse(second.is_held)
 
     def test_what_locks_have_left_is_forgotten(self) -> None:
-        with mock.patch("dirwolleu._keeping.RECIPES_BEFORE_FORGETTING", 3):
+        with mock.patch("dirwolleu._cache_view.RECIPES_BEFORE_FORGETTING", 3):
             paths = []
             for _ in range(3):
                 with Lock(self.one, "/locks") as held:

@@ -613,7 +613,7 @@ class RefusedTest(BothCase):
     def has_ended(self, client: Any) -> bool:
         """Whether no thread of the client runs."""
         past = client._past if client._threads() is None else None
-        return past is not None and not past.loop.is_alive() and not past.callbacks.is_alive()
+        return past is not None and past.are_over() and not past.callbacks.is_alive()
 
     def followed(self, client: Any) -> list[bytes]:
         """What is told of a node that is followed, up to the end."""
@@ -723,7 +723,7 @@ class AioRefusedTest(AioCase, RefusedTest):
     def has_ended(self, client: Any) -> bool:
         """Whether the client has no connection, no attempt and no timer."""
         driver = client._driver
-        return driver is None or (driver._link, driver._dialing, driver._timer) == (None, None, None)
+        return driver is None or (driver._link, driver._timer) == (None, None)
 
     def followed(self, client: Any) -> list[bytes]:
         async def follow() -> list[bytes]:

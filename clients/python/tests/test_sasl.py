@@ -101,7 +101,7 @@ class SaslTest(PartnerCase):
         client = self.client(server)
         client.start(WAIT)
         client.exists("/a")
-        client._threads().loop._soon(lambda: client._engine.drop(0, "the test"))  # type: ignore[union-attr]
+        client._threads().loop.soon(lambda: client._engine.drop(0, "the test"))  # type: ignore[union-attr]
         client._act()
         client.exists("/a", timeout=WAIT)
         self.assertEqual(server.logged_in, 2)

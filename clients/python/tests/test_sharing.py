@@ -16,7 +16,7 @@ from support import GET_DATA, STAT, WAIT, Asked, Peer, data_reply, reply, within
 from dirwolleu import CallTimeoutError, ConnectionLoss, LockLostError, LockTimeout, aio
 from dirwolleu import _requests as requests
 from dirwolleu import _steps as steps
-from dirwolleu._contending import EXCLUSIVE, READING, WRITING
+from dirwolleu._locks import EXCLUSIVE, READING, WRITING
 from dirwolleu._session import Session
 
 

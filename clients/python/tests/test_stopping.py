@@ -75,11 +75,9 @@ class ThreadsTest(StoppingCase):
         self.addCleanup(self.threads.stop, lambda: None)
 
     def check_over(self, life: int) -> None:
-        """Both threads have ended, and the engine has begun so often."""
-        for thread in (self.threads.callbacks, self.threads.loop):
-            thread.join(WAIT)
-            self.assertFalse(thread.is_alive())
-        self.assertTrue(self.threads.are_over())
+        """All is over, and the engine has begun so often."""
+        within(self.threads.are_over)
+        within(lambda: not self.threads.callbacks.is_alive())
         self.assertEqual((self.stopped._engine.life, self.stopped._engine.is_running), (life, False))
 
     def stop(self) -> None:
@@ -92,25 +90,19 @@ class ThreadsTest(StoppingCase):
         self.threads.loop.start()
         self.check_over(0)
 
-    def test_a_stop_while_the_thread_of_the_loop_starts(self) -> None:
-        self.threads.callbacks.start()
-        with held_at_start(self.threads.loop):
-            self.stop()
-        self.check_over(0)
-
     def test_a_stop_before_the_start(self) -> None:
         self.stop()
         self.threads.start()
         self.check_over(0)
 
-    def test_a_stop_before_the_first_turn_of_the_event_loop(self) -> None:
-        run = self.threads.loop._loop.run_until_complete
+    def test_a_stop_before_the_first_step(self) -> None:
+        run = self.threads.loop._run
 
-        def stop_and_run(main: Any) -> Any:
+        def stop_and_run(reactor: Any) -> Any:
             self.stop()
-            return run(main)
+            return run(reactor)
 
-        with mock.patch.object(self.threads.loop._loop, "run_until_complete", stop_and_run):
+        with mock.patch.object(self.threads.loop, "_run", stop_and_run):
             self.threads.start()
             self.check_over(0)
 
@@ -123,7 +115,7 @@ class ThreadsTest(StoppingCase):
     def test_the_loop_ends_where_the_engine_does(self) -> None:
         self.threads.start()
         within(lambda: self.threads.have_begun)
-        self.threads.loop._soon(self.stopped._engine.end)
+        self.threads.loop.soon(self.stopped._engine.end)
         self.threads.loop.act()
         self.check_over(1)
 
@@ -131,7 +123,7 @@ class ThreadsTest(StoppingCase):
 class CallbacksTest(unittest.TestCase):
     def test_what_is_told_is_called_once_or_refused(self) -> None:
         called = list[int]()
-        callbacks = Callbacks()
+        callbacks = Callbacks(lambda begin: None)
         self.assertTrue(callbacks.tell(called.append, 1))
         callbacks.start()
         callbacks.stop()
@@ -139,7 +131,7 @@ class CallbacksTest(unittest.TestCase):
 
     def test_what_is_told_before_a_thread_that_never_begins_is_called(self) -> None:
         called = list[int]()
-        callbacks = Callbacks()
+        callbacks = Callbacks(lambda begin: None)
         self.assertTrue(callbacks.tell(called.append, 1))
         callbacks.seal()
         callbacks.start()
@@ -151,7 +143,7 @@ class CallbacksTest(unittest.TestCase):
         with quick_switches():
             for _ in range(20):
                 called, refused = list[int](), list[int]()
-                callbacks = Callbacks()
+                callbacks = Callbacks(lambda begin: None)
                 callbacks.start()
 
                 def tell() -> None:
@@ -218,6 +210,26 @@ class ClientTest(StoppingCase):
                 client.stop()
         client.start(WAIT)
         self.assertEqual(client.get_children("/"), [])
+
+    def test_one_thread_serves_all_clients(self) -> None:
+        """It ends with the last of them. That for callbacks begins with the first."""
+
+        def threads() -> list[str]:
+            return sorted(thread.name for thread in threading.enumerate() if thread.name.startswith("dirwolleu"))
+
+        host, told = self.shared_partner().host, threading.Event()
+        clients = [self.client(host) for _ in range(3)]
+        for client in clients:
+            client.start(WAIT)
+        self.assertEqual(threads(), ["dirwolleu"])
+        clients[0].exists("/", watch=lambda _: told.set())
+        clients[0].stop()
+        self.assertTrue(told.wait(WAIT))
+        self.assertEqual([client.get_children("/") for client in clients[1:]], [[], []])
+        self.assertEqual(threads(), ["dirwolleu"])
+        for client in clients[1:]:
+            client.stop()
+        self.assertEqual(threads(), [])
 
     def test_a_stop_comes_at_any_moment_of_a_start(self) -> None:
         until = time.monotonic() + LONGEST
@@ -339,7 +351,7 @@ class TurnTest(StoppingCase):
                 raise failures.pop()
             return take()
 
-        with self.assertLogs("asyncio", "ERROR"), mock.patch.object(self.engine, "take_orders", fail_once):
+        with self.assertLogs("dirwolleu", "ERROR"), mock.patch.object(self.engine, "take_orders", fail_once):
             self.assertEqual(self.started.get_children("/"), [])
         self.assertEqual(failures, [])
         self.assertEqual(self.started.get_children("/"), [])

@@ -1,10 +1,9 @@
-"""Tests of how the loop of a client is woken, and of which functions wait for watches."""
+"""Tests of how the thread that polls is woken, and of which functions wait for watches."""
 
 from __future__ import annotations
 
-import collections
+import functools
 import os
-import selectors
 import socket
 import threading
 import time
@@ -13,173 +12,196 @@ from types import SimpleNamespace
 from typing import Any
 from unittest import mock
 
-import support  # noqa: F401  # for the place of the package
+import support
 
 from dirwolleu._library import CHILDREN_SIDE, DATA_SIDE
+from dirwolleu._poll import READ, WRITE, Reactor, join
 from dirwolleu._process import this_process
 from dirwolleu._registry import Watchers
 from dirwolleu._requests import Watcher
-from dirwolleu._threads import _can_serve, _EventLoop, _Serving, _Waiting
 
 
-class WaitingTest(unittest.TestCase):
+class ReactorTest(unittest.TestCase):
+    """A reactor whose turns are made here."""
+
     def setUp(self) -> None:
-        self.handed = collections.deque[int]()
         self.taken = list[int]()
-        self.waiting = _Waiting(self.take, lambda: None)
-        self.addCleanup(self.waiting.close)
+        self.reactor = Reactor()
+        self.addCleanup(self.reactor.close)
+        self.near, self.far = socket.socketpair()
+        self.addCleanup(self.near.close)
+        self.addCleanup(self.far.close)
+        self.near.setblocking(False)
 
-    def take(self) -> None:
-        while self.handed:
-            self.taken.append(self.handed.popleft())
+    def post(self, number: int) -> None:
+        self.assertTrue(self.reactor.post(lambda: self.taken.append(number)))
 
-    def ask(self, number: int) -> None:
-        self.handed.append(number)
-        self.waiting.ask()
+    def read(self, _: int) -> None:
+        self.taken.append(self.near.recv(1)[0])
 
-    def test_what_is_asked_before_is_done_without_a_wait(self) -> None:
-        self.ask(1)
-        self.assertEqual((self.waiting.select(None), self.taken), ([], [1]))
-
-    def test_it_waits_where_nothing_is_asked(self) -> None:
+    def turn_within(self, longest: float) -> float:
+        """One turn, which takes less than this, and how long it has taken."""
         began = time.monotonic()
-        self.assertEqual(self.waiting.select(0.1), [])
-        self.assertGreaterEqual(time.monotonic() - began, 0.09)
+        self.reactor._turn()
+        took = time.monotonic() - began
+        self.assertLess(took, longest)
+        return took
 
-    def test_what_is_asked_meanwhile_wakes_it(self) -> None:
-        threading.Timer(0.1, self.ask, (1,)).start()
-        self.assertEqual((self.waiting.select(support.WAIT), self.taken), ([], [1]))
+    def test_what_is_posted_before_is_done_without_a_wait(self) -> None:
+        self.post(1)
+        self.turn_within(support.WAIT)
+        self.assertEqual(self.taken, [1])
 
-    def test_nothing_is_lost_where_many_ask(self) -> None:
-        """Each wait ends long before its bound: else something that was asked has woken nobody."""
+    def test_it_waits_until_a_timer_is_due(self) -> None:
+        self.reactor.later(self, 0.1, lambda: self.taken.append(1))
+        self.assertGreaterEqual(self.turn_within(support.WAIT), 0.09)
+        self.assertEqual(self.taken, [1])
 
-        def ask(first: int) -> None:
+    def test_what_is_posted_meanwhile_wakes_it(self) -> None:
+        threading.Timer(0.1, self.post, (1,)).start()
+        self.turn_within(3 * support.WAIT)
+        self.assertEqual(self.taken, [1])
+
+    def test_nothing_is_lost_where_many_post(self) -> None:
+        """Each wait ends long before its bound: else something that was posted has woken nobody."""
+
+        def post(first: int) -> None:
             for number in range(first, first + 5000):
-                self.ask(number)
+                self.post(number)
                 if number % 50 == 0:
                     time.sleep(0.0005)  # so that it also waits
 
-        threads = [threading.Thread(target=ask, args=(first,)) for first in (0, 5000, 10000)]
+        self.reactor.later(self, 9 * support.WAIT, lambda: None)
+        threads = [threading.Thread(target=post, args=(first,)) for first in (0, 5000, 10000)]
         for thread in threads:
             thread.start()
-        longest = 0.0
-        while len(self.taken) < 15000 and longest < 3 * support.WAIT:
-            began = time.monotonic()
-            self.assertEqual(self.waiting.select(3 * support.WAIT), [])
-            longest = max(longest, time.monotonic() - began)
+        while len(self.taken) < 15000:
+            self.turn_within(3 * support.WAIT)
         for thread in threads:
             thread.join()
-        self.assertLess(longest, 3 * support.WAIT)
         self.assertEqual(sorted(self.taken), list(range(15000)))
 
-    def test_who_asks_after_its_end_is_no_harm(self) -> None:
-        self.waiting.close()
-        self.waiting._waits = True
-        self.ask(1)
-        self.assertEqual((self.waiting.ask(), self.taken), (False, []))
+    def test_a_member_acts_once_for_all_who_have_asked_before(self) -> None:
+        member = SimpleNamespace(asked=lambda: self.taken.append(1))
+        hashed = type("Member", (), {"asked": staticmethod(member.asked)})()
+        for _ in range(3):
+            self.reactor.ask(hashed)
+        self.turn_within(support.WAIT)
+        self.assertEqual(self.taken, [1])
+        self.reactor.ask(hashed)
+        self.turn_within(support.WAIT)
+        self.assertEqual(self.taken, [1, 1])
+
+    def test_what_has_come_is_read_before_what_is_asked_and_what_is_due(self) -> None:
+        self.reactor.watch(self.near.fileno(), READ, self.read)
+        self.reactor.later(self, 0, lambda: self.taken.append(9))
+        self.post(8)
+        self.far.send(bytes([7]))
+        self.turn_within(support.WAIT)
+        self.assertEqual(self.taken, [7, 8, 9])
+
+    def test_what_a_timer_sets_is_due_after_another_look_at_what_has_come(self) -> None:
+        def set_another() -> None:
+            self.far.send(bytes([7]))
+            self.reactor.later(self, 0, lambda: self.taken.append(9))
+
+        self.reactor.watch(self.near.fileno(), READ, self.read)
+        self.reactor.later(self, 0, set_another)
+        self.turn_within(support.WAIT)
+        self.assertEqual(self.taken, [])
+        self.turn_within(support.WAIT)
+        self.assertEqual(self.taken, [7, 9])
+
+    def test_what_is_polled_no_more_is_not_read(self) -> None:
+        for _ in range(2):
+            self.reactor.watch(self.near.fileno(), READ, self.read)
+            self.reactor.leave(self.near.fileno())
+            self.reactor.leave(self.near.fileno())
+        self.far.send(bytes([1]))
+        self.post(2)
+        self.turn_within(support.WAIT)
+        self.assertEqual(self.taken, [2])
+
+    def test_what_is_watched_for_room_to_write(self) -> None:
+        found = list[int]()
+        self.reactor.watch(self.near.fileno(), READ, found.append)
+        self.reactor.watch(self.near.fileno(), READ | WRITE, found.append)
+        self.turn_within(support.WAIT)
+        self.assertEqual(found, [WRITE])
+
+    def test_timers_that_are_cancelled_or_whose_owner_has_left_are_not_due(self) -> None:
+        for owner in (self, self, "other"):
+            timer = self.reactor.later(owner, 0, lambda: self.taken.append(1))
+        timer.cancel()
+        self.reactor.later("other", 0, lambda: self.taken.append(2))
+        self.reactor.drop_timers(self)
+        self.turn_within(support.WAIT)
+        self.assertEqual(self.taken, [2])
 
 
-class PipeTest(WaitingTest):
+class PipeTest(ReactorTest):
     """The same before Python 3.10, which has no eventfd."""
 
     def setUp(self) -> None:
         without = SimpleNamespace(pipe=os.pipe, set_blocking=os.set_blocking)
-        with mock.patch("dirwolleu._threads.os", without):
+        with mock.patch("dirwolleu._poll.os", without):
             super().setUp()
-        self.assertIsNot(self.waiting._reads, self.waiting._writes)
+        self.assertIsNot(self.reactor._bell._reads, self.reactor._bell._writes)
 
 
-@unittest.skipUnless(_can_serve(), "the system has no other ways to wait")
-class ServingTest(WaitingTest):
-    """The same of what goes on by itself. Here the event loop has more to do after all that is asked, except in some tests."""
-
-    has_more = True
+class SelectingTest(ReactorTest):
+    """The same where threads are not the system's: gevent and eventlet have no epoll."""
 
     def setUp(self) -> None:
-        super().setUp()
-        self.waiting = self.serving = _Serving(self.take, lambda: None)
-        self.addCleanup(self.waiting.close)
-        self.near, self.far = socket.socketpair()
-        self.addCleanup(self.near.close)
-        self.addCleanup(self.far.close)
+        with mock.patch("dirwolleu._poll.has_system_threads", return_value=False):
+            super().setUp()
 
-    def take(self) -> None:
-        super().take()
-        self.waiting.has_more = self.has_more
 
-    def read(self) -> None:
-        self.taken.append(self.near.recv(1)[0])
+class JoinTest(unittest.TestCase):
+    """The thread that polls has its own beginning and its own end."""
 
-    def test_it_goes_on_until_the_time_of_the_event_loop_has_come(self) -> None:
-        self.has_more = False
-        self.serving.serve(self.near.fileno(), self.read)
-        self.ask(1)
-        self.far.send(bytes([2, 3]))
-        threading.Timer(0.05, self.ask, (4,)).start()
-        threading.Timer(0.1, self.far.send, (bytes([5]),)).start()
-        began = time.monotonic()
-        self.assertEqual(self.waiting.select(0.2), [])
-        self.assertGreaterEqual(time.monotonic() - began, 0.19)
-        while len(self.taken) < 5:
-            self.assertEqual(self.waiting.select(0.05), [])
-        self.assertEqual(sorted(self.taken), [1, 2, 3, 4, 5])
+    def test_it_goes_on_for_its_members_and_another_one_begins_after_it(self) -> None:
+        begun = list[Reactor]()
 
-    def test_what_has_come_already_is_read_before_the_time_of_the_event_loop(self) -> None:
-        self.serving.serve(self.near.fileno(), self.read)
-        self.far.send(bytes([1]))
-        self.assertEqual((self.waiting.select(1e-6), self.taken), ([], [1]))
+        def begin(reactor: Reactor) -> None:
+            reactor.members += 1
+            begun.append(reactor)
 
-    def loop(self) -> _EventLoop:
-        loop = _EventLoop(self.serving)
-        self.addCleanup(loop.close)
-        return loop
+        def leave() -> None:
+            begun[0].members -= 1
 
-    def test_a_loop_that_does_not_wait_reads_after_what_was_to_be_done_and_before_its_timers(self) -> None:
-        loop, order = self.loop(), list[str]()
-
-        def read() -> None:
-            order.append("read")
-            self.read()
-            loop.stop()
-
-        self.serving.serve(self.near.fileno(), read)
-        self.far.send(bytes([1]))
-        loop.call_soon(order.append, "before")
-        loop.call_later(0, order.append, "after")
-        loop.run_forever()
-        self.assertEqual((order, self.taken), (["before", "read", "after"], [1]))
-
-    def test_what_a_read_has_asked_of_the_loop_is_done_before_the_next_one(self) -> None:
-        loop, order = self.loop(), list[str]()
-        asks = iter((loop.call_soon, loop.call_soon_threadsafe, loop.call_soon))
-
-        def read() -> None:
-            order.append("read")
-            self.read()
-            next(asks)(order.append, "asked")
-            if len(self.taken) == 3:
-                loop.stop()
-
-        self.serving.serve(self.near.fileno(), read)
-        self.far.send(bytes([1, 2, 3]))
-        loop.run_forever()
-        self.assertEqual(order, 3 * ["read", "asked"])
-
-    def test_what_is_served_no_more_is_not_read(self) -> None:
         for _ in range(2):
-            self.serving.serve(self.near.fileno(), self.read)
-            self.serving.leave(self.near.fileno())
-            self.serving.leave(self.near.fileno())
-        self.far.send(bytes([1]))
-        self.assertEqual((self.waiting.select(0.05), self.taken), ([], []))
+            join(begin)
+        support.within(lambda: len(begun) == 2)
+        self.assertIs(*begun)
+        for _ in range(2):
+            self.assertTrue(begun[0].post(leave))
+        support.within(lambda: begun[0]._is_closed)
+        self.assertFalse(begun[0].post(lambda: None))
+        self.assertIsNot(join(begin), begun[0])
+        support.within(lambda: len(begun) == 3)
+        begun[2].post(lambda: setattr(begun[2], "members", 0))
 
-    def test_the_event_loop_has_what_it_waits_for_itself(self) -> None:
-        self.has_more = False
-        self.waiting.register(self.near, selectors.EVENT_READ)
-        self.ask(1)
-        threading.Timer(0.05, self.far.send, (bytes([2]),)).start()
-        ((key, events),) = self.waiting.select(None)
-        self.assertEqual((key.fileobj, events, self.taken), (self.near, selectors.EVENT_READ, [1]))
+    def test_what_is_posted_while_it_ends_is_done_or_refused(self) -> None:
+        for _ in range(300):
+            reactor, done = Reactor(), list[int]()
+            reactor.post(lambda: None)
+            reactor.run()
+            taken = [number for number in range(40) if reactor.post(functools.partial(done.append, number))]
+            support.within(lambda: reactor._is_closed and reactor._thread)
+            support.within(lambda: done == taken)
+
+    def test_many_who_run_it_run_one_thread(self) -> None:
+        reactor, threads = Reactor(), set[int]()
+        reactor.members = 1
+        for _ in range(20):
+            reactor.run()
+            reactor.post(lambda: threads.add(threading.get_ident()))
+        support.within(lambda: not reactor._posted)
+        assert reactor._thread is not None
+        self.assertEqual(threads, {reactor._thread.ident})
+        reactor.post(lambda: setattr(reactor, "members", 0))
+        support.within(lambda: reactor._is_closed)
 
 
 class WatchersTest(unittest.TestCase):

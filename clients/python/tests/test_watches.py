@@ -17,7 +17,7 @@ import dirwolleu
 from dirwolleu import KeptChildren, Mark, NoAuthError, State, aio
 from dirwolleu import _requests as requests
 from dirwolleu._steps import Ask, Call, Steps, Wait
-from dirwolleu._waiting import Task
+from dirwolleu._tasks import Task
 
 SYNC, EXISTS = 9, 3
 

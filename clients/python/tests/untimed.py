@@ -7,15 +7,18 @@ from __future__ import annotations
 import asyncio
 import contextlib
 import errno
+import functools
 import os
 import selectors
 import struct
-from collections.abc import Coroutine
+import threading
+from collections.abc import Coroutine, Iterator
 from typing import Any, Callable, NamedTuple, Optional, cast
 from unittest import mock
 
 from support import PASSWORD, Asked, Connected, PartnerCase
 
+from dirwolleu import _aio_link as aio_link
 from dirwolleu import aio
 from dirwolleu.testing._ensemble import Ensemble
 
@@ -179,6 +182,79 @@ class _Served(asyncio.Protocol):
             return None
         self._is_admitted = True
         return struct.pack(">iiq", 0, self._server.granted_ms or timeout_ms, session or 7) + PASSWORD + b"\0"
+
+
+class _Polling:
+    """This loop, in a thread, as a blocking client has the one that polls."""
+
+    def __init__(self, loop: Untimed) -> None:
+        self.loop, self.members, self.wakes = loop, 0, self
+
+    def append(self, wake: Callable[[], object]) -> None:
+        wake()
+
+    def post(self, function: Callable[[], object]) -> bool:
+        with contextlib.suppress(RuntimeError):  # it is closed
+            self.loop.call_soon_threadsafe(function)
+        return True
+
+    def ask(self, member: Any) -> None:
+        self.post(member.asked)
+
+    def later(self, _: object, seconds: float, function: Callable[[], object]) -> asyncio.TimerHandle:
+        return self.loop.call_later(seconds, function)
+
+    def drop_timers(self, _: object) -> None:
+        self.loop.call_soon(self.loop.stop)  # its only client has ended
+
+    def is_current(self) -> bool:
+        return False
+
+    def await_end(self, _: float) -> None: ...
+
+
+class _Stepping:
+    """A driver of which all that a connection tells is a step of its client."""
+
+    def __init__(self, do: Callable[..., object], driver: Any) -> None:
+        self._do, self._driver = do, driver
+
+    def __getattr__(self, name: str) -> Any:
+        found = getattr(self._driver, name)
+        return functools.partial(self._do, found) if callable(found) else found
+
+
+class _Dialled:
+    """A connection of such a client, which the loop makes as it does for asyncio."""
+
+    def __init__(self, _: object, do: Callable[..., object], driver: Any, __: object) -> None:
+        self._driver, self._link = cast(Any, _Stepping(do, driver)), cast(Any, None)
+
+    def dial(self, place: int) -> None:
+        self._link = aio_link.Loop().dial(self._driver, place)
+
+    def write(self, frames: bytes) -> None:
+        self._link.write(frames)
+
+    def close(self) -> None:
+        if self._link is not None:
+            self._link.close()
+
+
+@contextlib.contextmanager
+def blocking_clients_in(loop: Untimed) -> Iterator[None]:
+    """Within it, the blocking clients that are started have this loop."""
+    polling = _Polling(loop)
+    thread = threading.Thread(target=loop.run_forever, daemon=True)
+
+    def join(begin: Callable[[Any], object]) -> None:
+        if not thread.is_alive():
+            polling.post(lambda: begin(polling))
+            thread.start()
+
+    with mock.patch("dirwolleu._threads.join", join), mock.patch("dirwolleu._threads.link", _Dialled):
+        yield
+    thread.join()
 
 
 class UntimedCase(PartnerCase):

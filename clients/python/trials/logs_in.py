@@ -22,7 +22,7 @@ def work(hosts: str) -> None:
         assert app in client.who_am_i(), client.who_am_i()
         threads = client._threads()
         assert threads is not None
-        threads.loop._soon(lambda: client._engine.drop(0, "it is tried what comes of that"))
+        threads.loop.soon(lambda: client._engine.drop(0, "it is tried what comes of that"))
         threads.loop.act()
         assert client.get("/app", timeout=30)[0] == b"one"
         assert client.stats().connections == 2, client.stats()

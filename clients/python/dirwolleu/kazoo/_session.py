@@ -1,18 +1,15 @@
 """The session of a `KazooClient`, from `start` to `stop`: a client of dirwolleu whose steps tell kazoo's functions.
 
-What an engine tells, it tells within its step, in the thread of the event loop. So the order is the engine's own, and
+What an engine tells, it tells within its step, in the thread of all clients. So the order is the engine's own, and
 what is called here is not to wait for anything.
 """
 
 from __future__ import annotations
 
-import asyncio
 import functools
 import logging
-import socket
 import ssl
 import struct
-import threading
 import time
 from collections.abc import Iterable, Sequence
 from dataclasses import dataclass
@@ -23,7 +20,7 @@ from dirwolleu._asked import Asked
 from dirwolleu._clock import moment
 from dirwolleu._contact import Contact
 from dirwolleu._credentials import Credential
-from dirwolleu._driver import Driver, Link
+from dirwolleu._driver import Driver
 from dirwolleu._engine import Engine, Tell
 from dirwolleu._handle import Listing, Standing
 from dirwolleu._hosts import Place, Servers
@@ -221,12 +218,12 @@ class KazooDriver(Driver):
         timeout: float,
     ) -> None:
         super().__init__(servers, engine, tls, sasl)
-        self._handler, self._timeout = handler, timeout
         self._is_first = True
+        self.connects = lambda place: handler._dial((place.address, place.port), timeout)
 
     def use_policy(self, retry: KazooRetry, on_end: Callable[[], object]) -> None:
         """Has the tries and the time be those of a policy. Where it gives up, the engine ends."""
-        self._policy = KazooPolicy(retry, functools.partial(_count_of_hosts, self._servers))
+        self._policy = KazooPolicy(retry, functools.partial(_count_of_hosts, self.servers))
         self._on_end = on_end
 
     def _dial(self, place: int) -> None:
@@ -236,52 +233,6 @@ class KazooDriver(Driver):
         logger.warning("no server was found within the policy for connections: the client ends")
         self.stop(self._engine.end)
         self._on_end()
-
-    def place(self) -> Optional[Place]:
-        """The server of the connection."""
-        return self._place
-
-    async def _connect(self, link: Link, number: int) -> None:
-        self._place = None
-        place = self._place = await self._servers.at(number)
-        logger.debug("dials %s", place)
-        self._engine.place = str(place)
-        connection = await _dialled(self._handler, place, self._timeout)
-        name = place.name if self._tls is not None else None
-        await self._loop.create_connection(lambda: link, sock=connection, ssl=self._tls, server_hostname=name)
-
-
-async def _dialled(handler: SequentialThreadingHandler, place: Place, timeout: float) -> socket.socket:
-    """Connects in a thread of its own. A connection that nobody waits for any more is closed."""
-    loop = asyncio.get_running_loop()
-    future: asyncio.Future[socket.socket] = loop.create_future()
-
-    def settle(connection: Optional[socket.socket], error: Optional[BaseException]) -> None:
-        if future.done():
-            if connection is not None:
-                connection.close()
-        elif connection is not None:
-            future.set_result(connection)
-        else:
-            future.set_exception(error or ConnectionError("no connection"))
-
-    def run() -> None:
-        connection: Optional[socket.socket] = None
-        failed: Optional[BaseException] = None
-        try:
-            found = handler._dial((place.address, place.port), timeout)
-            found.setblocking(False)
-            connection = found
-        except Exception as error:
-            failed = error
-        try:
-            loop.call_soon_threadsafe(settle, connection, failed)
-        except RuntimeError:  # the loop is closed
-            if connection is not None:
-                connection.close()
-
-    threading.Thread(target=run, name="dirwolleu-dial", daemon=True).start()
-    return await future
 
 
 class Session(Client):
@@ -326,20 +277,20 @@ class Session(Client):
         self.act()
 
     def act(self) -> None:
-        """Has the event loop do what was asked."""
+        """Has the thread of the clients do what was asked."""
         threads = self._threads()
         if threads is not None:
             threads.loop.act()
 
     def soon(self, call: Callable[[], object]) -> None:
-        """Has the event loop call a function, and do what comes of it."""
+        """Has the thread of the clients call a function, and do what comes of it."""
         threads = self._threads()
         if threads is not None:
-            threads.loop._soon(call)
+            threads.loop.soon(call)
             threads.loop.act()
 
     def abandon(self) -> None:
-        """Ends the engine in the event loop, after the step that runs."""
+        """Ends the engine in the thread of the clients, after the step that runs."""
         if self._dials is not None:
             self.soon(functools.partial(self._dials.stop, self._engine.end))
 
@@ -382,7 +333,7 @@ class Session(Client):
 
     def place(self) -> Optional[Place]:
         """The server of the connection, or of the last one."""
-        return None if self._dials is None else self._dials.place()
+        return None if self._dials is None else self._dials.place
 
     def _driver(self) -> Driver:
         driver = KazooDriver(self._servers, self._engine, self._tls, self._sasl, self._owner.handler, self._timeout)

@@ -11,7 +11,7 @@ from typing import Any, Callable, NamedTuple, Optional, Union
 
 from dirwolleu import _library as library
 from dirwolleu import aio
-from dirwolleu._growing import Growing, Host, TreeNews
+from dirwolleu._tree_view import Host, TreeNews, TreeView
 from dirwolleu._session import Bounded, LetGo, TakenOn
 from dirwolleu.exceptions import ConnectionClosedError, TooLargeError, TooManyWatchesError, ZookeeperError
 from dirwolleu.shell.connections import Connections, Said
@@ -239,7 +239,7 @@ class Watch:
             self.lines.put_nowait(error)
 
 
-class WatchedTree(Growing):
+class WatchedTree(TreeView):
     """A tree of a watch: what the session takes on of it, and lets go, is watched node by node."""
 
     def __init__(self, watch: Watch, host: Host, root: str, most: int) -> None:

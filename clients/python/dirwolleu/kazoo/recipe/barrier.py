@@ -5,7 +5,7 @@ from __future__ import annotations
 from typing import TYPE_CHECKING, Optional
 
 from dirwolleu import _plans as plans
-from dirwolleu._gathering import BaseBarrier, BaseDoubleBarrier
+from dirwolleu._barriers import BaseBarrier, BaseDoubleBarrier
 from dirwolleu.kazoo.exceptions import KazooException
 from dirwolleu.kazoo.protocol.paths import join, own_path
 

@@ -5,7 +5,7 @@ from __future__ import annotations
 import struct
 from typing import TYPE_CHECKING, Any, Optional
 
-from dirwolleu._counting import BaseCounter
+from dirwolleu._counters import BaseCounter
 from dirwolleu.kazoo.protocol.paths import own_path
 
 if TYPE_CHECKING:

@@ -6,7 +6,7 @@ import time
 import uuid
 from typing import TYPE_CHECKING, Any, Optional
 
-from dirwolleu import _queueing as queueing
+from dirwolleu import _queues as queues
 from dirwolleu.kazoo._checks import check
 from dirwolleu.kazoo.exceptions import NodeExistsError, NoNodeError
 from dirwolleu.kazoo.protocol.paths import join, own_path
@@ -50,8 +50,8 @@ class Queue(BaseQueue):
         _check_priority(priority)
         self.client._drive(lambda session: self._of(session)._put(value, priority))
 
-    def _of(self, session: Client) -> queueing.BaseQueue[Client]:
-        return queueing.BaseQueue(session, own_path(self.path))
+    def _of(self, session: Client) -> queues.BaseQueue[Client]:
+        return queues.BaseQueue(session, own_path(self.path))
 
 
 class LockingQueue(BaseQueue):

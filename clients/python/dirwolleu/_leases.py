@@ -11,7 +11,8 @@ from typing import TYPE_CHECKING, Any, Callable, Optional
 from dirwolleu import _plans as plans
 from dirwolleu import _records as records
 from dirwolleu import _requests as requests
-from dirwolleu._contending import (
+from dirwolleu._engine import News
+from dirwolleu._locks import (
     BETWEEN_TRIES,
     EXCLUSIVE,
     KAZOO,
@@ -28,7 +29,6 @@ from dirwolleu._contending import (
     patiently,
     release,
 )
-from dirwolleu._engine import News
 from dirwolleu._plans import Plan
 from dirwolleu._steps import Steps, Wait, run
 from dirwolleu.exceptions import (

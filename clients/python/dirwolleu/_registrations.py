@@ -8,8 +8,8 @@ from typing import Any, Generic, Optional, Protocol
 from dirwolleu import _plans as plans
 from dirwolleu import _requests as requests
 from dirwolleu._checks import checked_data
-from dirwolleu._contending import BETWEEN_TRIES, AnyClient, patiently, release
 from dirwolleu._engine import News
+from dirwolleu._locks import BETWEEN_TRIES, AnyClient, patiently, release
 from dirwolleu._plans import Plan
 from dirwolleu._retry import is_lived_through
 from dirwolleu._steps import Steps, Wait

@@ -28,8 +28,8 @@ from dirwolleu import (
     ZookeeperError,
 )
 from dirwolleu import _requests as requests
-from dirwolleu._contending import _check_number
 from dirwolleu._handle import Listing, Standing
+from dirwolleu._locks import _check_number
 from dirwolleu._retry import is_passing
 
 Asked = Callable[[Any, Any], Any]

@@ -12,14 +12,14 @@ from test_library import CONNECT_RESPONSE, STAT_BYTES, buffer, reply
 from test_session import asked, names, read
 
 from dirwolleu import NoAuthError, NoNodeError, TooManyWatchesError
-from dirwolleu import _growing as growing
 from dirwolleu import _library as library
 from dirwolleu import _records as records
 from dirwolleu import _requests as requests
+from dirwolleu import _tree_view as tree_view
 from dirwolleu._engine import Engine
-from dirwolleu._growing import SHARE, Growing
 from dirwolleu._library import READ_TOO_MANY_WATCHES, Halted, NoMemory, NotWhole, TooManyNodes
 from dirwolleu._session import Action, Refused, Session, TakenOn
+from dirwolleu._tree_view import SHARE, TreeView
 
 CHANGED, CHILD = 3, 4
 
@@ -45,7 +45,7 @@ class GrowingTest(unittest.TestCase):
     """The tree at /t, read over one connection by frames that are spelled here."""
 
     def setUp(self) -> None:
-        patch = mock.patch.object(growing, "moment", lambda: 0)  # so that no look takes any time
+        patch = mock.patch.object(tree_view, "moment", lambda: 0)  # so that no look takes any time
         patch.start()
         self.addCleanup(patch.stop)
         self.engine = Engine(6.0, None, lambda function, argument: None)
@@ -61,9 +61,9 @@ class GrowingTest(unittest.TestCase):
         self.engine.received(now, CONNECT_RESPONSE)
         self.engine.take_orders()
 
-    def planted(self, most: int = 9) -> Growing:
+    def planted(self, most: int = 9) -> TreeView:
         """The tree, once the session follows it."""
-        tree = Growing(self.engine, "/t", most, lambda: None)
+        tree = TreeView(self.engine, "/t", most, lambda: None)
         self.engine.add_tree(tree)
         self.engine.take_handed(200)
         self.engine.tick(200)
@@ -79,7 +79,7 @@ class GrowingTest(unittest.TestCase):
     def come(self, *frames: bytes, now: int = 300) -> None:
         self.engine.received(now, b"".join(frames))
 
-    def whole(self) -> Growing:
+    def whole(self) -> TreeView:
         """The tree with one node below its root, once it was shown."""
         tree = self.planted()
         self.assertEqual(self.frames(), read(1, "/t", True).frame + list_of(2, "/t"))
@@ -89,7 +89,7 @@ class GrowingTest(unittest.TestCase):
         self.assertEqual((tree.is_current(), self.nodes(tree)), (True, {"/t": b"one", "/t/a": b"one"}))
         return tree
 
-    def nodes(self, tree: Growing) -> dict[str, Optional[bytes]]:
+    def nodes(self, tree: TreeView) -> dict[str, Optional[bytes]]:
         return {path: node.data for path, node in (tree.latest or {}).items()}
 
     def test_a_report_ends_what_is_current_until_it_is_read_again(self) -> None:
@@ -217,7 +217,7 @@ class GrowingTest(unittest.TestCase):
 
     def test_after_a_long_look_the_next_one_waits(self) -> None:
         clock = iter([0, 4, 4, 4])
-        with mock.patch.object(growing, "moment", lambda: next(clock)):
+        with mock.patch.object(tree_view, "moment", lambda: next(clock)):
             tree = self.whole()
             ends = 300 + (1 + SHARE) * 4
             self.come(notice("/t/a"))

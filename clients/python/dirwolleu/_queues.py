@@ -8,8 +8,8 @@ from typing import Generic, Optional
 from dirwolleu import _plans as plans
 from dirwolleu import _records as records
 from dirwolleu import _requests as requests
-from dirwolleu._contending import BETWEEN_TRIES, AnyClient, names_of, patiently
 from dirwolleu._engine import News
+from dirwolleu._locks import BETWEEN_TRIES, AnyClient, names_of, patiently
 from dirwolleu._plans import Plan
 from dirwolleu._retry import is_lived_through
 from dirwolleu._steps import Ask, GetNews, Steps, TimeIsOver, Wait, bounded, run, until_of

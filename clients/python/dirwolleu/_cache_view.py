@@ -24,7 +24,7 @@ def _kept_children(path: str, found: KeptNames, last_zxid: int) -> KeptChildren:
     return KeptChildren(path, Mark(found.mark), last_zxid, found.names, found.pzxid)
 
 
-class Keeping:
+class CacheView:
     """The look-ups of a session, which another one may take the place of. Any thread may call them, and a signal handler."""
 
     _session: Session

@@ -7,7 +7,7 @@ from typing import Any, Callable, Generic, Optional, TypeVar
 from dirwolleu import _plans as plans
 from dirwolleu import _records as records
 from dirwolleu import _requests as requests
-from dirwolleu._contending import BETWEEN_TRIES, AnyClient, patiently
+from dirwolleu._locks import BETWEEN_TRIES, AnyClient, patiently
 from dirwolleu._plans import Plan
 from dirwolleu._retry import is_lived_through
 from dirwolleu._steps import Steps, Wait

@@ -37,7 +37,7 @@ class Host(Protocol):
     def subtree(self, path: str, most: int) -> tuple[Optional[list[SubtreeNode]], int]: ...
 
 
-class Growing:
+class TreeView:
     """One tree. It has a ticket while the session follows it."""
 
     def __init__(self, host: Host, root: str, most: int, tell: Callable[[], None]) -> None:

@@ -1,0 +1,153 @@
+"""A session whose steps are made here, how it stands to the servers, and those who listen. It has no socket, no thread and no clock."""
+
+from __future__ import annotations
+
+import contextlib
+from collections.abc import Iterator
+from typing import Any, Callable, Optional
+
+from dirwolleu import _library as library
+from dirwolleu._contact import Contact
+from dirwolleu._library import NoMemory
+from dirwolleu._listening import Listeners
+from dirwolleu._observing import Observed
+from dirwolleu._process import this_process
+from dirwolleu._root import Root
+from dirwolleu._session import Action
+from dirwolleu.exceptions import ConnectionClosedError, ZookeeperError
+from dirwolleu.security import AuthFailedError
+from dirwolleu.types import State
+
+Listener = Callable[[State], object]
+Tell = Callable[[Callable[[Any], object], Any], object]
+
+
+class Core(Observed):
+    """What all parts of an engine rest on."""
+
+    _takers: dict[type, Callable[[Any, Any], None]] = {}
+    """What takes each kind of what a step asks for."""
+
+    def __init__(self, timeout_ms: int, root: Root, tell: Tell) -> None:
+        super().__init__()
+        self._timeout_ms, self._granted_ms = timeout_ms, timeout_ms
+        self._root, self._tell = root, tell
+        self._listening = Listeners()
+        self._listeners: list[Listener] = []
+        self._fault, self._cause = "", 0
+        self._now = self._number = 0
+        self._is_recast = True
+        self.contact = Contact()
+        self.hosts = ""
+        """Which servers are looked for, as the program has named them."""
+        self.trouble = ""
+        """What became of the last attempt to find a server, in words; nothing once one has accepted the session."""
+        self.refused = ""
+        """That a server has refused credentials of the client, in words, where that has ended it: until it is begun again."""
+        self._process: Optional[int] = None
+        self.is_running = False
+        self.state = State.LOST
+
+    # What the parts above it do.
+
+    def drop(self, now: int, why: str) -> None:
+        """Has the connection closed, for a reason of the host."""
+        raise NotImplementedError
+
+    def refuse(self, words: str, may_have_happened: bool) -> None:
+        """A server does not take who the client is: the session is over, and no server is dialled any more."""
+        raise NotImplementedError
+
+    def _resume(self, why: str) -> None:
+        """Has the same session taken up, which keeps nothing, where the old one is of no use any more."""
+        raise NotImplementedError
+
+    # How it stands.
+
+    def why_over(self, words: str) -> ZookeeperError:
+        """Why no call is taken: that credentials were refused, or else what these words say."""
+        refused = self.refused
+        return AuthFailedError(refused) if refused else ConnectionClosedError(words)
+
+    def check_process(self) -> None:
+        """Raises where this is a forked child of the process in which the client was started."""
+        if not self.is_here():
+            raise ConnectionClosedError("the client was started in another process, before a fork: make one here")
+
+    def is_here(self) -> bool:
+        """Whether this is no forked child of the process in which the client was started."""
+        return self._process in (None, this_process())
+
+    def no_server(self, seconds: Optional[float]) -> str:
+        """That no server was found in this time, and what became of the last attempt, in words."""
+        within = f" in {seconds:g} s" if seconds is not None else ""
+        last = f"; last: {self.trouble}" if self.trouble else ""
+        return f"no server of {self.hosts} accepted the session{within}{last}"
+
+    def timeout(self) -> float:
+        """The timeout of the session in seconds: the one that a server granted last, or the one to ask for."""
+        return self._granted_ms / 1000
+
+    # Those who listen.
+
+    def add_listener(self, listener: Listener) -> None:
+        self._listeners.append(listener)
+
+    def remove_listener(self, listener: Listener) -> None:
+        self._listeners.remove(listener)
+
+    @contextlib.contextmanager
+    def news(self, wake: Callable[[], None], path: Optional[str] = None) -> Iterator[None]:
+        """Within it, `wake` is called at each change of the state, and at each report of a path."""
+        key = object()
+        self._listening.add(path, key, wake)
+        try:
+            yield
+        finally:
+            self._listening.remove(path, key)
+
+    def tell_news(self) -> None:
+        self._wake(None)
+
+    def _enter(self, state: State) -> None:
+        if state is not self.state:
+            self.state = state
+            for listener in list(self._listeners):
+                self._tell(listener, state)
+        self._wake(None)
+
+    def _wake(self, path: Optional[str]) -> None:
+        """Wakes those who wait for news of this path, or all."""
+        for wake in self._listening.all() if path is None else self._listening.of(path):
+            wake()
+
+    # Steps.
+
+    def _step(self, now: int, step: Callable[..., list[Action]], *words: Any) -> None:
+        """A step of the session, with these words. Raises `NoMemory` and `ValueError` where none was made."""
+        if self._saved_at_close is not None:
+            return
+        self._now = now
+        session = self._session
+        try:
+            for action in step(session, now, *words):
+                self._takers[type(action)](self, action)
+                if self._session is not session:
+                    return  # it is closed, and what else it asks for is not done
+        except NoMemory:
+            raise
+        except MemoryError:  # within the step
+            self._resume("the client ran out of memory")
+        except KeyboardInterrupt:  # within an event loop of the main thread
+            self._resume("the client was interrupted")
+            raise
+        fault, self._fault = self._fault, ""
+        if fault:
+            self._cause = library.BAD_PAYLOAD
+            self.drop(now, fault)
+
+    def _recast(self) -> None:
+        """What is due, and when, is another thing than before."""
+        self._is_recast = True
+        if self._saved_at_close is None:
+            self._granted_ms = self._session.timeout_ms()
