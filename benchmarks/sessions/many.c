@@ -5,7 +5,7 @@
  * It prints a line for each part: its name, its wall time and its processor time in milliseconds; and the most memory that the process had, in
  * kilobytes, before the first session and after all. */
 #define _POSIX_C_SOURCE 200809L
-#include "../../clients/c/session.h"
+#include "../../clients/c/src/internal.h"
 #include "../real/measure.h"
 
 #include <stdio.h>

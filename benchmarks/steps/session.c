@@ -2,7 +2,7 @@
  * counts for each row. The server is this program, over a socket of 127.0.0.1; what is counted are dws_wanted and dws_go_on, with the step of the
  * library within them. */
 #define _POSIX_C_SOURCE 200809L
-#include "../../clients/c/session.h"
+#include "../../clients/c/src/internal.h"
 #include "../frames.h"
 
 #include <netinet/in.h>

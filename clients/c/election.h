@@ -43,7 +43,8 @@ struct dws_candidates {
 /* Stands at a path, by a name that says to others who it is. It is dws_lock_take of an exclusive lock, and answers the same. */
 bool dws_stand(dws_session *s, dws_lock *lock, const char *path, const char *name, void (*changed)(dws_session *, dws_lock *));
 
-/* Asks who stands at a path: by one read of its children, and one of each candidate, so of no one moment. Where there is no node, nobody stands. */
+/* Asks who stands at a path: by one read of its children, and one of each candidate, so of no one moment. If there is no node, nobody
+ * stands. */
 void dws_ask_candidates(dws_session *s, dws_candidates *candidates, const char *path);
 
 /* Frees what candidates hold that are answered, or were never asked for. */

@@ -47,40 +47,40 @@ struct dws_place;
 struct dws_lock {
     enum dws_names names; /* set it before dws_lock_take */
     bool is_held;         /* as far as the session knows: dws_lock_check asks the server */
-    int64_t token;        /* where it is held: the zxid at which its place was made, which is greater of each later holder */
+    int64_t token;        /* while it is held: the zxid at which its place was made. That of each later holder is greater */
     int32_t why;          /* why no place can be had, as of a call, or DWS_LOCK_MIXED_NAMES: it is tried no further then, and none is kept */
     void *context;        /* the program's own */
     /* The lock's own. */
     void (*changed)(dws_session *session, dws_lock *lock);
     enum dws_sharing sharing;
     char trouble[1280];           /* the path about which `why` is */
-    struct dws_place *place;      /* NULL where there is none, and none is asked for */
+    struct dws_place *place;      /* NULL if there is none, and none is asked for */
     dws_call removal;
     dws_subject own, before;      /* its place, and the one that it waits for */
     struct dws_bytes listing;     /* the places, by the last listing, and its zxid */
     int64_t listed;
     bool is_listed, is_seen, is_waited_for;
-    bool *is_released;            /* where that is noted while `changed` is called */
+    bool *is_released;            /* at which that is noted while `changed` is called */
 };
 
-/* Begins to wait for the lock of a node; `changed` is called when it is held, when it is lost, and when no place can be had. The data say to others who
- * waits. False where the path has more than 1,023 bytes or the data have more than 255, memory ran out, or the lock was taken before and that is not
- * let go, or not done yet: then nothing is done. */
+/* Begins to wait for the lock of a node. It calls `changed` when the lock is held, when it is lost, and when no place can be had. The data say to others
+ * who waits. It answers false, and does nothing, if the path has more than 1,023 bytes, the data have more than 255, memory ran out, or the lock was
+ * taken before and is not let go yet. */
 bool dws_lock_take(dws_session *s, dws_lock *lock, const char *path, enum dws_sharing sharing, const char *data,
                    void (*changed)(dws_session *, dws_lock *));
 
-/* Asks whether the lock is held: it was, when the server answered, where `why` is 0 and the czxid of the answer is the token. */
+/* Asks the server whether the lock is held. It was when the server answered, if `why` is 0 and the czxid of the answer is the token. */
 dws_call *dws_lock_check(dws_session *s, dws_lock *lock, dws_call *call);
 
-/* Lets the lock go, or one's place in the line. The call that this gives is answered with 0 once no node of it is there: on a later connection, where
- * this one ends. With a code where a server refuses to delete the node, whose path is that of the call: then another dws_lock_let_go asks again. */
+/* Lets the lock go, or one's place in the line. The call that this gives is answered with 0 once no node of it is there: on a later connection if
+ * this one ends. If a server refuses to delete the node, or memory runs out, `why` says so, and the path of the call is that of the node: then another
+ * dws_lock_let_go asks again. */
 dws_call *dws_lock_let_go(dws_session *s, dws_lock *lock);
 
 /* Writes why no place can be had, in words: the reason, the path, and what to do. */
 void dws_lock_words(dws_session *s, const dws_lock *lock, char *room, size_t size);
 
-/* Lets a lock go that was not, and frees what it holds, also where `changed` is called. What is not done then, the session goes on with by itself: the
- * lock may be freed. */
+/* Lets a lock go that was not, and frees what it holds, also while `changed` is called. The session does the rest by itself: the lock may be freed. */
 void dws_lock_release(dws_lock *lock);
 
 #ifdef __cplusplus

@@ -9,9 +9,9 @@
  *     }
  *     dws_walk_release(&walk);
  *
- * A walk begins as zeros, is used by one question at a time, and lives until it is done. Its questions are asked one after the other, and others
- * may change the same nodes meanwhile. One whose answer is lost is asked again, eight times: to make, or to delete, what is so already does no
- * harm. All of this is tested, and not proved. */
+ * A walk begins as zeros, does one thing at a time, and lives until it is done. It asks one question after the other, and others may change the
+ * same nodes meanwhile. It asks a question again if its answer is lost, eight times: to make a node that is there does no harm, nor to delete one
+ * that is gone. All of this is tested, and not proved. */
 #ifndef DIRWOLLEU_PATHS_H
 #define DIRWOLLEU_PATHS_H
 
@@ -21,7 +21,7 @@
 extern "C" {
 #endif
 
-enum { DWS_MOST_LOSSES = 8 /* how often one and the same question is asked again whose answer is lost */ };
+enum { DWS_MOST_LOSSES = 8 /* how often a question whose answer is lost is asked again */ };
 
 typedef struct dws_walk dws_walk;
 
@@ -29,7 +29,7 @@ struct dws_walk {
     void (*then)(dws_session *session, dws_walk *walk); /* called once when it is done, if it is not NULL: set it before it is asked */
     void *context;   /* the program's own */
     int32_t limit_ms; /* how long each of its questions waits, as of a call: 0 is as the options say; below 0 there is no limit */
-    int tries;       /* how often each is asked again where that is safe, as of a call */
+    int tries;       /* how often each is asked again if that is safe, as of a call */
     bool is_done;
     int32_t why;     /* 0, or why it has failed, as of a call: what was done before that stays done */
     size_t count;    /* how many nodes it has made or deleted */
@@ -41,10 +41,10 @@ struct dws_walk {
     int losses;
 };
 
-/* Makes a node and those above it, as far as they are not there, without data and open to all. */
+/* Makes a node, and those above it that are not there. They have no data, and are open to all. */
 void dws_ensure_path(dws_session *s, dws_walk *walk, const char *path);
 
-/* Deletes a node, and all that are below it, from below. It is no failure where there is none. */
+/* Deletes a node, and all that are below it, from below. If there is none, that is no failure. */
 void dws_delete_all(dws_session *s, dws_walk *walk, const char *path);
 
 /* Waits until a walk is done, and gives its `why`. */
@@ -53,7 +53,7 @@ int32_t dws_walk_wait(dws_session *s, dws_walk *walk);
 /* Writes why a walk has failed, in words: the reason, the path, and what to do. */
 void dws_walk_words(dws_session *s, const dws_walk *walk, char *room, size_t size);
 
-/* Frees what a walk holds that is done, or was never asked. */
+/* Frees what a walk holds. It is done, or was never asked. */
 void dws_walk_release(dws_walk *walk);
 
 #ifdef __cplusplus

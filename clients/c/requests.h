@@ -1,6 +1,6 @@
 /* Requests over session.h that the library knows by their numbers alone: transactions, sync, ACLs, creates with an ACL, containers, nodes with a TTL,
  * reads of several nodes at once. Each is a record of zookeeper.jute, which is spelled and read here. The library sends it, orders and bounds it and
- * counts its zxid as that of any call, and asks for it again after a lost connection where it changes nothing. So what a transaction has made stale is
+ * counts its zxid as that of any call, and asks for it again after a lost connection if it changes nothing. So what a transaction has made stale is
  * stale when its `then` is called, and no server that has not got its answer admits the session later: that is proved. What the bytes of a record say
  * is tested alone.
  *
@@ -55,7 +55,7 @@ typedef struct dws_node_read {
     const char *path;  /* the program's own, until it is answered */
     int32_t why;       /* 0, or the server's code for this read, below 0: then nothing else is there */
     dw_stat stat;      /* to a read of data; the protocol has none for names */
-    const char *text;  /* the data, with a 0 after them; NULL where they are null */
+    const char *text;  /* the data, with a 0 after them; NULL if they are null */
     size_t length;     /* of the data */
     char **names;      /* of the children, in an order that means nothing */
     size_t count;      /* how many there are */
@@ -71,7 +71,7 @@ typedef struct dws_request {
     int32_t node_count;    /* of dws_get_all_children_number */
     dws_change *changes;   /* of a transaction: its operations, in their order */
     size_t change_count;
-    size_t refused;        /* the place of the operation that the server has refused, where `why` is its code: nothing has happened then */
+    size_t refused;        /* the place of the operation that the server has refused, if `why` is its code: then nothing has happened */
     /* The session's own. */
     dws_node_read *reads;
     size_t read_count;
@@ -122,12 +122,12 @@ dws_call *dws_get_all_children_number(dws_session *s, dws_request *request, cons
 /* Whom the server takes this session for, as `ids` (ZooKeeper 3.7). */
 dws_call *dws_who_am_i(dws_session *s, dws_request *request);
 
-/* As dws_introduce, with a call that is answered with 0 once a server takes them: on the next connection where there is none. */
+/* As dws_introduce, with a call that is answered with 0 once a server takes them: on the next connection if there is none. */
 dws_call *dws_add_auth(dws_session *s, dws_request *request, const char *scheme, const char *bytes, size_t length);
 
 /* Operations of a transaction, which happen together or not at all, after dws_commit. The first one after that begins the next transaction. */
 
-/* Has a transaction happen only where a node has this version; -1 asks for no more than that it is there. */
+/* Has a transaction happen only if a node has this version; -1 asks for no more than that it is there. */
 void dws_transaction_check(dws_session *s, dws_request *request, const char *path, int32_t version);
 
 /* Sets the data of a node that has this version; -1 is any. Bytes that are NULL are null data. */
@@ -140,10 +140,10 @@ void dws_transaction_create(dws_session *s, dws_request *request, const char *pa
 /* Deletes a node that has this version, and no children; -1 is any. */
 void dws_transaction_delete(dws_session *s, dws_request *request, const char *path, int32_t version);
 
-/* Asks for all operations. `changes` are what each has brought, where `why` is 0. */
+/* Asks for all operations. If `why` is 0, `changes` are what each has brought. */
 dws_call *dws_commit(dws_session *s, dws_request *request);
 
-/* Frees what a request holds that is answered, or was never asked. */
+/* Frees what a request holds. It is answered, or was never asked. */
 void dws_request_release(dws_request *request);
 
 #ifdef __cplusplus

@@ -30,7 +30,7 @@ typedef struct dws_semaphore dws_semaphore;
 
 struct dws_semaphore {
     bool is_held;     /* as far as the session knows: dws_semaphore_check asks the server */
-    int64_t token;    /* where it is held: the zxid at which its lease was made. Others hold beside it: it is of no use to fence */
+    int64_t token;    /* while it is held: the zxid at which its lease was made. Others hold beside it: it is of no use to fence */
     int32_t why;      /* why no lease can be had, as of a call, or DWS_SEMAPHORE_DIFFERS, or as of a lock: it is tried no further then */
     void *context;    /* the program's own */
     /* The semaphore's own. */
@@ -47,23 +47,23 @@ struct dws_semaphore {
     bool is_unsure, is_seen;                /* the lease may be there; it was seen */
 };
 
-/* Begins to wait for a lease, of which there are `most` at a time; `changed` is called when it is held, when it is lost, and when none can be had.
- * The data say to others who holds it. False where the path has more than 1,015 bytes or the data have more than 255, there is to be none, or the
- * semaphore was taken before and is not let go: then nothing is done. */
+/* Begins to wait for a lease, of which there are `most` at a time. It calls `changed` when the lease is held, when it is lost, and when none can be
+ * had. The data say to others who holds it. It answers false, and does nothing, if the path has more than 1,015 bytes, the data have more than 255,
+ * there is to be none, or the semaphore was taken before and is not let go. */
 bool dws_semaphore_take(dws_session *s, dws_semaphore *semaphore, const char *path, int most, const char *data,
                         void (*changed)(dws_session *, dws_semaphore *));
 
-/* Asks whether the lease is held: it was, when the server answered, where `why` is 0 and the czxid of the answer is the token. */
+/* Asks the server whether the lease is held. It was when the server answered, if `why` is 0 and the czxid of the answer is the token. */
 dws_call *dws_semaphore_check(dws_session *s, dws_semaphore *semaphore, dws_call *call);
 
-/* Lets the lease go, or one's place in the line. The call that this gives is answered with 0 once no node of it is there: on a later connection,
- * where this one ends. With a code where a server refuses to delete the node. */
+/* Lets the lease go, or one's place in the line. The call that this gives is answered with 0 once no node of it is there: on a later connection
+ * if this one ends. If a server refuses to delete the node, or memory runs out, `why` says so: then another dws_semaphore_let_go asks again. */
 dws_call *dws_semaphore_let_go(dws_session *s, dws_semaphore *semaphore);
 
 /* Writes why no lease can be had, in words: the reason, the path, and what to do. */
 void dws_semaphore_words(dws_session *s, const dws_semaphore *semaphore, char *room, size_t size);
 
-/* Frees what a semaphore holds that is let go, or was never taken. */
+/* Frees what a semaphore holds. It is let go, or was never taken. */
 void dws_semaphore_release(dws_semaphore *semaphore);
 
 #ifdef __cplusplus

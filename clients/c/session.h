@@ -42,14 +42,14 @@ extern "C" {
 #endif
 
 enum {
-    DWS_TIMEOUT_MS = 10000,  /* of a session, where options name none */
-    DWS_LONGEST_ANSWER = 4194304,  /* the most bytes of a frame that comes, after its length, where options name none */
+    DWS_TIMEOUT_MS = 10000,  /* of a session, if options name none */
+    DWS_LONGEST_ANSWER = 4194304,  /* the most bytes of a frame that comes, after its length, if options name none */
     DWS_LONGEST_REQUEST = 1048575, /* and of one that is sent */
     DWS_LONGEST_SAVED = 256, /* the most bytes of a session that is taken up after memory ran out */
     DWS_LONGEST_LINE = 5120, /* the most bytes of a message with a path */
-    DWS_MOST_NODES = 65536,  /* the most nodes of a tree, where a program says nothing else: as many as the library watches */
+    DWS_MOST_NODES = 65536,  /* the most nodes of a tree, if a program says nothing else: as many as the library watches */
     DWS_LATE = 99,           /* why a call was not answered: its limit has come after it was sent, and it may have happened, or may yet */
-    DWS_REFUSED = 100        /* why a call was not asked: DWS_REFUSED less what the library answered, which is below 0 */
+    DWS_REFUSED = 100        /* why a call was not asked, or a read not kept: DWS_REFUSED less what the library answered, which is below 0 */
 };
 
 typedef struct dws_session dws_session;
@@ -81,11 +81,11 @@ enum dws_observed {
 struct dws_observation {
     enum dws_observed kind;
     enum dws_event event;
-    int32_t cause; /* of DWS_CUT, one of enum dw_cause; 0 where the server or the network has ended the connection */
+    int32_t cause; /* of DWS_CUT, one of enum dw_cause; 0 if the server or the network has ended the connection */
     const char *server, *words;
     const dws_call *call;
-    const char *path; /* about which the call is, as the program has named it; NULL where it is about none */
-    uint64_t took_us; /* since the call was asked; 0 where it was not */
+    const char *path; /* about which the call is, as the program has named it; NULL if it is about none */
+    uint64_t took_us; /* since the call was asked; 0 if it was not */
     size_t bytes;
 };
 
@@ -93,10 +93,10 @@ struct dws_observation {
 struct dws_wire {
     int socket;
     const char *host;             /* the name that was dialled, for certificates */
-    void *state;                  /* the callbacks' own: NULL where the connection begins */
-    void (*release)(void *state); /* called with the state where the connection ends, if it is not NULL */
-    const char *words;            /* why a callback answers -1, where the words of errno do not say it: constant */
-    short wants;                  /* what poll is to wait for, where a callback answers -1 with EAGAIN: POLLIN or POLLOUT; 0 is the usual one */
+    void *state;                  /* the callbacks' own: NULL when the connection begins */
+    void (*release)(void *state); /* called with the state when the connection ends, if it is not NULL */
+    const char *words;            /* why a callback answers -1, if the words of errno do not say it: constant */
+    short wants;                  /* what poll is to wait for, if a callback answers -1 with EAGAIN: POLLIN or POLLOUT; 0 is the usual one */
 };
 
 /* A step of a log-in by SASL, for `log_in` of the options: on each connection the first one has no challenge. */
@@ -118,7 +118,7 @@ typedef struct dws_options {
     size_t longest_answer;  /* the most bytes of a frame that comes, after its length: 4194304 to 1073741823; 0 is the least */
     size_t longest_request; /* and of one that is sent: 1048575 to 1073741823; 0 is the least. The servers' jute.maxbuffer has to be as high */
     bool is_in_order;       /* hosts are dialled as they are listed, and not in random order */
-    bool is_over_at_expiry; /* no new session begins where one has expired */
+    bool is_over_at_expiry; /* no new session begins after one has expired */
     const uint8_t *saved;   /* a session that dws_saved gave, to be taken up; NULL begins one */
     size_t saved_length;
     void (*told)(dws_session *session, enum dws_event event, const char *server, const char *words);
@@ -148,11 +148,11 @@ struct dws_bytes {
 struct dws_call {
     void (*then)(dws_session *session, dws_call *call); /* called once with the answer, if it is not NULL: set it before it is asked */
     void *context;                                      /* the program's own */
-    /* Called once where what a read with a watch has found is another thing, with `event`; 0 is that the watch went with its session. Set it before
-     * it is asked: then the call lives until this is called, or dws_unwatch. It may be asked again there. */
+    /* Called once when what a read with a watch has found is another thing, with `event`; 0 is that the watch went with its session. Set it before
+     * it is asked: then the call lives until this is called, the read fails, or dws_unwatch. It may be asked again there. */
     void (*changed)(dws_session *session, dws_call *call);
     int32_t limit_ms;                                   /* how long it waits in all; 0 is as the options say; below 0 there is no limit */
-    int tries;                                          /* how often it is asked again within its limit where that is safe: dws_may_repeat */
+    int tries;                                          /* how often it is asked again within its limit if that is safe: dws_may_repeat */
     enum dw_event event;                                /* of `changed` */
     /* The answer. */
     bool is_answered;
@@ -228,7 +228,7 @@ struct dws_tree {
     int64_t zxid;             /* at which the servers had just these nodes */
     dws_node *nodes;          /* each node is followed by all that are below it, in the byte order of their names: the first one is the root */
     size_t count;             /* how many there are: 0 before they are known */
-    int32_t why;              /* why there are no newer ones, as of a call, or 0 where they are read still. dws_tree_words has words */
+    int32_t why;              /* why there are no newer ones, as of a call, or 0 while they are read still. dws_tree_words has words */
     void *context;            /* the program's own */
     /* The session's own. */
     void (*shown)(dws_session *session, dws_tree *tree);
@@ -236,16 +236,16 @@ struct dws_tree {
     size_t most, nodes_room;
     struct dws_bytes text;    /* the nodes, as the library spells them */
     struct dws_members members;
-    uint64_t ticket;          /* 0 where the library does not follow it yet */
+    uint64_t ticket;          /* 0 if the library does not follow it yet */
     int32_t fault;            /* why it is not shown whatever is read of its nodes, as of a call, or 0 */
     bool must_look, must_weigh, is_changed; /* it is worth a look; `why` may be another; there is something to be told */
     uint64_t look_at_ms;      /* there is no look before */
     dws_tree *next;
 };
 
-/* Opens a session at these hosts: HOST:PORT,HOST:PORT/CHROOT, of which the port may be left out where it is 2181, and an IPv6 address is in
- * brackets. Names are looked up at each attempt to connect, of which the first is made at the first turn. Options may be NULL. NULL where the
- * text is no such thing, a timeout or a limit is out of range, or memory ran out: then `why`, which has `size` bytes and may be NULL with none, says so. */
+/* Opens a session at these hosts: HOST:PORT,HOST:PORT/CHROOT. A port of 2181 may be left out, and an IPv6 address is in brackets. The session looks
+ * names up at each attempt to connect, and makes the first one at the first turn. Options may be NULL. It answers NULL if the text is no such thing, a
+ * timeout or a limit is out of range, or memory ran out: then `why`, which has `size` bytes and may be NULL with none, says so. */
 dws_session *dws_open(const char *hosts, const dws_options *options, char *why, size_t size);
 
 /* Prints an event on standard error, for `told` of the options: so a program says why it has no session as long as no server can be reached. */
@@ -269,12 +269,13 @@ bool dws_turn(dws_session *s);
 /* Tells what poll is to wait for on behalf of a session, and for how many milliseconds at most; -1 is for ever. */
 int dws_wanted(dws_session *s, struct pollfd *polled);
 
-/* Takes what poll has told of the socket of a session (revents, 0 where nothing), and does what is due. */
+/* Takes what poll has told of the socket of a session (revents, 0 if nothing), and does what is due. */
 void dws_go_on(dws_session *s, short told);
 
 /* Calls. Each gives the call back, so dws_wait(session, dws_get(session, &call, "/a", false)) is why it has failed, or 0. The answer comes by `then`
  * or is looked at. A call waits for its turn and for a connection, and then for its answer, as long as the options say in all. A read that is lost
- * with its connection is asked again; a write is answered DW_OUTCOME_LOST. Where the session expires, calls that wait are answered so. */
+ * with its connection is asked again; a write is answered DW_OUTCOME_LOST, and so is one whose reply finds no memory. When the session expires, calls
+ * that wait are answered so. */
 
 /* What is known of a node. */
 dws_call *dws_exists(dws_session *s, dws_call *call, const char *path, bool watch);
@@ -301,14 +302,14 @@ bool dws_may_repeat(const dws_session *s, const dws_call *call);
 /* Has `changed` of a call be called no more. */
 void dws_unwatch(dws_session *s, dws_call *call);
 
-/* Dials these hosts from the next attempt on, in a new order. A connection that is there stays. False where the text is no such thing or has another
- * chroot than the session, or memory ran out: then nothing is changed, and `why`, which has `size` bytes and may be NULL with none, says so. */
+/* Dials these hosts from the next attempt on, in a new order. A connection that is there stays. It answers false if the text is no such thing or has
+ * another chroot than the session, or memory ran out: then nothing is changed, and `why`, which has `size` bytes and may be NULL with none, says so. */
 bool dws_set_hosts(dws_session *s, const char *hosts, char *why, size_t size);
 
 /* Tells the servers who the session is, in the words of a scheme, as `digest` and `user:password`: this connection at once, and each later one before
- * anything else. Where a server does not take that, DWS_BARRED is told, the session is over, and each call fails with the code -115; where the library
+ * anything else. If a server does not take that, DWS_BARRED is told, the session is over, and each call fails with the code -115; if the library
  * does not, since both have more than 1,048,555 bytes or the scheme is no UTF-8, DWS_FAILED is told. Credentials cross the network as they are: use TLS.
- * The copies of them here and in the library are overwritten before they are freed. False where memory ran out. */
+ * The copies of them here and in the library are overwritten before they are freed. It answers false if memory ran out. */
 bool dws_introduce(dws_session *s, const char *scheme, const char *bytes, size_t length);
 
 /* Waits for the answer of a call, and gives its `why`. */
@@ -322,12 +323,12 @@ void dws_write_result(char *room, size_t size, enum dw_result result, const char
 void dws_write_outcome(char *room, size_t size, enum dw_outcome outcome, const char *path);
 void dws_write_code(char *room, size_t size, int32_t code, const char *path);
 
-/* Frees what a call holds that is answered, or was never asked, and whose `changed` waits for nothing. */
+/* Frees what a call holds. It is answered, or was never asked, and its `changed` waits for nothing. */
 void dws_release(dws_call *call);
 
-/* Follows the data of a node: `changed` is called with what is kept of it, at first and at each change of that or of its mark. So it is
- * after an expiry, and when the session is over: nothing is kept then. DW_OK, DW_NO_MEMORY, DW_NOT_TEXT, DW_NOT_PATH; where it is not DW_OK
- * nothing is followed. */
+/* Follows the data of a node. It calls `changed` with what is kept of it, at first and at each change of that or of its mark: so after an expiry too,
+ * and when the session is over, when nothing is kept. It answers DW_OK, DW_NO_MEMORY, DW_NOT_TEXT or DW_NOT_PATH; if it is not DW_OK, nothing is
+ * followed. */
 enum dw_result dws_follow(dws_session *s, dws_subject *subject, const char *path,
                           void (*changed)(dws_session *, dws_subject *));
 
@@ -341,10 +342,10 @@ void dws_unfollow(dws_session *s, dws_subject *subject);
 /* Whether what is kept of a subject is good. */
 bool dws_is_good(const dws_subject *subject);
 
-/* Follows all nodes at and below a path, of which there are at most `most`; 0 is 65,536. `shown` is called with each subtree that is whole, where
- * tree->why is 0; of several between two turns with the last. It is called too where there is another reason why there is none: DW_CODE_NO_NODE
- * where there is no root, whose making is waited for; a code of the server where it has refused a read, which is asked again after a second;
- * DWS_REFUSED - DW_TOO_MANY where there are more nodes. While nodes change faster than they are read there is no new one, and is_good is false.
+/* Follows all nodes at and below a path, of which there are at most `most`; 0 is 65,536. It calls `shown` with each subtree that is whole, when
+ * tree->why is 0; of several between two turns with the last. It calls it too when there is another reason why there is none: DW_CODE_NO_NODE
+ * if there is no root, whose making it waits for; a code of the server that has refused a read, which is asked again after a second;
+ * DWS_REFUSED - DW_TOO_MANY if there are more nodes. While nodes change faster than they are read there is no new one, and is_good is false.
  * Which nodes are read and shown is the library's word, and proved; when they are shown is tested. At most 960 reads are on their way at a time, so
  * that calls go beside them. Each step takes time with the number of nodes: give a large tree a session of its own. It answers what dws_follow does. */
 enum dw_result dws_follow_tree(dws_session *s, dws_tree *tree, const char *path, size_t most,
@@ -353,17 +354,17 @@ enum dw_result dws_follow_tree(dws_session *s, dws_tree *tree, const char *path,
 /* Follows a tree no longer, and frees what it holds. */
 void dws_unfollow_tree(dws_session *s, dws_tree *tree);
 
-/* The node of a path; NULL where none is shown. */
+/* The node of a path; NULL if none is shown. */
 const dws_node *dws_find_node(const dws_tree *tree, const char *path);
 
-/* The first node right below another one, where `before` is NULL; else the one after that. NULL where there is none. */
+/* The first node right below another one if `before` is NULL, else the one after that. NULL if there is none. */
 const dws_node *dws_next_child(const dws_tree *tree, const dws_node *above, const dws_node *before);
 
 /* Writes why there is no newer subtree, in words: the reason, the path, and what to do. */
 void dws_tree_words(dws_session *s, const dws_tree *tree, char *room, size_t size);
 
 /* Takes a node out of what dw_session_subtree has copied, from this place on, and goes on to the next: for programs with a loop of their own. The
- * texts stay there. False where there is none any more. */
+ * texts stay there. False if there is none any more. */
 bool dws_read_node(uint8_t **at, const uint8_t *end, dws_node *node);
 
 /* Takes a read out of what dw_session_lacking has copied, in the same way. The path is not ended by a 0. */
@@ -379,7 +380,7 @@ int64_t dws_last_zxid(dws_session *s);
  * then. What is followed is followed still. */
 void dws_forget(dws_session *s);
 
-/* How many milliseconds ago the server was heard last, or -1 where it was not yet. What is marked good was so at some moment since then, or later. The
+/* How many milliseconds ago the server was heard last, or -1 if it was not yet. What is marked good was so at some moment since then, or later. The
  * time counts in which the system was suspended, too, on a system with CLOCK_BOOTTIME. */
 int64_t dws_heard_ms(dws_session *s);
 

@@ -53,7 +53,7 @@ char *dws_outer(const dws_session *s, const char *path)
     return outer;
 }
 
-/* What is kept of the data of a node, without them. It is DW_OK where the text is a path that the library takes. */
+/* What is kept of the data of a node, without them. It is DW_OK if the text is a path that the library takes. */
 enum dw_result dws_peek(dws_session *s, const char *path, dw_kept_data *kept)
 {
     uint8_t none;
@@ -116,7 +116,7 @@ static bool dws_keep_names(dws_session *s, dws_call *call, size_t count)
     return true;
 }
 
-/* The call of a ticket, which waits no longer; NULL where none has it. Calls are mostly answered in the order in which they were asked. */
+/* The call of a ticket, which waits no longer; NULL if none has it. Calls are mostly answered in the order in which they were asked. */
 dws_call *dws_answered(dws_session *s, uint64_t ticket)
 {
     dws_call **at = &s->sent.first;
@@ -127,6 +127,12 @@ dws_call *dws_answered(dws_session *s, uint64_t ticket)
         at = &(*at)->next;
     }
     return NULL;
+}
+
+/* Why a call fails when there is no memory for its reply. What it was to change has happened, so it is not told that it was refused. */
+static int32_t dws_why_not_kept(const dws_call *call)
+{
+    return dws_is_read(call) ? DWS_REFUSED - (int32_t)DW_NO_MEMORY : (int32_t)DW_OUTCOME_LOST;
 }
 
 void dws_take_answer(dws_session *s, const dw_output *answer)
@@ -148,13 +154,15 @@ void dws_take_answer(dws_session *s, const dw_output *answer)
         is_kept = dws_keep_names(s, call, answer->names);
     }
     int32_t why = is_reply && answer->reply == DW_REPLY_CODE ? answer->code : (int32_t)answer->outcome;
-    if (is_raw && is_kept) {
+    if (!is_kept) {
+        why = dws_why_not_kept(call);
+    } else if (is_raw) {
         why = call->record->take(s, call);
     }
     if (is_reply) {
         dws_watch(s, call, why);
     }
-    dws_finish(s, call, is_kept ? why : DWS_REFUSED - (int32_t)DW_NO_MEMORY);
+    dws_finish(s, call, why);
 }
 
 /* The limit of a call has come. */

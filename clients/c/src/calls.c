@@ -35,7 +35,7 @@ void dws_call_back(dws_session *s, dws_call *call)
 }
 
 /* Whether a call changes nothing. */
-static bool dws_is_read(const dws_call *call)
+bool dws_is_read(const dws_call *call)
 {
     switch (call->kind) {
     case DWS_EXISTS:
@@ -61,7 +61,7 @@ bool dws_may_repeat(const dws_session *s, const dws_call *call)
     return why == DW_OUTCOME_EXPIRED || why == DW_OUTCOME_NOT_CONNECTED || dws_is_busy(why);
 }
 
-/* Has a call asked again after a pause, where it is to be, that is safe, and there is time for it. */
+/* Has a call asked again after a pause, if it is to be, that is safe, and there is time for it. */
 static bool dws_ask_later(dws_session *s, dws_call *call)
 {
     uint64_t pause_ms = (uint64_t)DWS_PAUSE_MS << (call->tried < 4 ? call->tried : 4);
@@ -112,7 +112,7 @@ void dws_unwatch(dws_session *s, dws_call *call)
     }
 }
 
-/* A read with a watch is answered: where there is one now, it is told. */
+/* A read with a watch is answered: if there is a watch now, the call waits for what it tells. */
 void dws_watch(dws_session *s, dws_call *call, int32_t why)
 {
     bool leaves_watch = why == 0 || (why == DW_CODE_NO_NODE && call->kind == DWS_EXISTS);
@@ -123,7 +123,7 @@ void dws_watch(dws_session *s, dws_call *call, int32_t why)
     }
 }
 
-/* A watch of a path is over, or where that is NULL each one: who waits for it is to be told when the step is whole. */
+/* A watch of a path is over, or each one if that is NULL: who waits for it is to be told when the step is whole. */
 void dws_fire(dws_session *s, const char *path, enum dw_side side, enum dw_event event)
 {
     for (dws_call **at = &s->watching; *at != NULL;) {
@@ -213,7 +213,7 @@ bool dws_is_busy(int32_t code)
     return code == THROTTLED || code == DW_CODE_CONNECTION_LOSS || code == DW_CODE_SESSION_EXPIRED || code == DW_CODE_SESSION_MOVED;
 }
 
-/* How long a call waits, where there is a limit. */
+/* How long a call waits, if there is a limit. */
 uint64_t dws_patience_ms(const dws_session *s, const dws_call *call)
 {
     int32_t said_ms = call->limit_ms > 0 ? call->limit_ms : s->options.patience_ms;
@@ -227,15 +227,21 @@ void dws_begin_call(const dws_session *s, dws_call *call)
     call->why = 0;
     call->count = call->length = 0;
     call->tried = 0;
-    call->asked_us = s->options.observe != NULL ? dws_now_us() : 0;
+    call->asked_us = 0;
     bool is_endless = call->is_patient || call->limit_ms < 0 || (call->limit_ms == 0 && s->options.patience_ms < 0);
     call->until_ms = is_endless ? UINT64_MAX : dws_now_ms() + dws_patience_ms(s, call);
 }
 
-/* Puts a call into the queue. */
+/* Notes the moment for an observer, if there is one. */
+void dws_note_asked(const dws_session *s, dws_call *call)
+{
+    call->asked_us = s->options.observe != NULL ? dws_now_us() : 0;
+}
+
+/* Puts a call into the queue that has begun. */
 void dws_put(dws_session *s, dws_call *call)
 {
-    dws_begin_call(s, call);
+    dws_note_asked(s, call);
     if (s->is_over || s->is_closing) {
         dws_finish(s, call, dws_why_over(s));
     } else {
@@ -243,10 +249,11 @@ void dws_put(dws_session *s, dws_call *call)
     }
 }
 
-/* Asks about a path, with these bytes where they are not NULL. */
+/* Asks about a path, with these bytes if they are not NULL. */
 dws_call *dws_ask(dws_session *s, dws_call *call, enum dws_kind kind, const char *path, const char *bytes, size_t length)
 {
     dws_unwatch(s, call);
+    dws_begin_call(s, call);
     free(call->path);
     call->kind = kind;
     call->path = dws_outer(s, path);

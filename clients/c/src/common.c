@@ -25,7 +25,7 @@ uint64_t dws_elapsed_ms(void)
     return dws_now_ms();
 }
 
-/* A random number of the system's; where it has none, one of the moment and the process. */
+/* A random number of the system's; if it has none, one of the moment and the process. */
 uint64_t dws_chance(const dws_session *s)
 {
     uint64_t number = 0;
@@ -59,7 +59,7 @@ bool dws_reserve(void *place, size_t *room, size_t wanted)
     return true;
 }
 
-/* A copy of a text, or NULL where there is no memory. */
+/* A copy of a text, or NULL if there is no memory. */
 char *dws_copy_of(const char *text)
 {
     size_t size = strlen(text) + 1;
@@ -70,7 +70,18 @@ char *dws_copy_of(const char *text)
     return copy;
 }
 
-/* Adds bytes, and has room for one more, so that there is a block where there are none. Whether there was memory for them. */
+/* The path of a child, or NULL if there is no memory. */
+char *dws_path_below(const char *path, const char *name)
+{
+    size_t size = strlen(path) + strlen(name) + 2;
+    char *below = (char *)malloc(size);
+    if (below != NULL) {
+        snprintf(below, size, "%s/%s", path[1] == 0 ? "" : path, name);
+    }
+    return below;
+}
+
+/* Adds bytes, and has room for one more, so that there is a block even without bytes. Whether there was memory for them. */
 bool dws_put_bytes(struct dws_bytes *bytes, const void *added, size_t length)
 {
     bool is_there = dws_reserve(&bytes->at, &bytes->room, bytes->length + length + 1);

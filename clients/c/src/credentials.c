@@ -17,7 +17,7 @@ void dws_forget_credentials(dws_session *s)
     }
 }
 
-/* A copy of credentials; NULL where there is no memory. */
+/* A copy of credentials; NULL if there is no memory. */
 static struct dws_credentials *dws_copy_credentials(const char *scheme, const char *secret, size_t length)
 {
     size_t named = strlen(scheme) + 1;

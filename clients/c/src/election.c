@@ -38,7 +38,7 @@ static int dws_compare_places(const void *one, const void *other)
     return strcmp(first + strlen(first) - DWS_DIGITS, second + strlen(second) - DWS_DIGITS);
 }
 
-/* Adds a copy of a text. False where there is no memory. */
+/* Adds a copy of a text. False if there is no memory. */
 static bool dws_add_text(char ***texts, size_t *count, size_t *room, const char *text)
 {
     char *copy = dws_copy_of(text);

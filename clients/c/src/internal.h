@@ -39,12 +39,12 @@ enum {
 };
 
 /* Credentials, at their places in the library; those that it has not been handed yet are the last ones. They are kept for the machine that takes the
- * session up where memory ran out. */
+ * session up when memory ran out. */
 struct dws_credentials {
     char *text; /* the scheme, a 0, and the secret */
     size_t length;
     bool is_handed;
-    dws_call *call; /* that waits for the answer; NULL where none does */
+    dws_call *call; /* that waits for the answer; NULL if none does */
     struct dws_credentials *next;
 };
 
@@ -75,7 +75,7 @@ struct dws_gone {
     bool is_tree;
 };
 
-/* What was said of what is followed by a ticket: why its read was refused, or 0 where what is kept of it is good. */
+/* What was said of what is followed by a ticket: why its read was refused, or 0 if what is kept of it is good. */
 struct dws_seen {
     uint64_t ticket;
     int32_t why;
@@ -84,7 +84,7 @@ struct dws_seen {
 /* How requests.h reads the reply to what the library knows by its number alone, and says why it was refused. */
 struct dws_record {
     int32_t (*take)(dws_session *s, dws_call *call); /* reads the reply, which is the call's text, and gives its `why` */
-    bool (*write_words)(const dws_call *call, char *room, size_t size); /* false where it has no words of its own */
+    bool (*write_words)(const dws_call *call, char *room, size_t size); /* false if it has no words of its own */
 };
 
 /* What a session goes on with by itself, until it is done or the session is freed: a place of lock.h. */
@@ -108,7 +108,7 @@ struct dws_session {
     dws_options options;
     struct dws_credentials *credentials;
     int32_t barred;                    /* the code of the server that does not take the credentials */
-    char *hosts_text, *root;           /* the connection string, and the chroot in it: nothing where there is none */
+    char *hosts_text, *root;           /* the connection string, and the chroot in it: empty if there is none */
     struct dws_host *hosts;
     size_t host_count, place, dials;   /* which one is to be dialled, and how many times one was */
     char server[DWS_LONGEST_HOST + 8]; /* the one that was dialled last */
@@ -142,7 +142,7 @@ struct dws_session {
     size_t chain_count, subject_count;
     dws_tree *trees;
     struct dws_gone *gone;
-    struct dws_seen *seen;             /* at this step, where there are trees */
+    struct dws_seen *seen;             /* at this step, if there are trees */
     size_t gone_count, gone_room, seen_count, seen_room;
     enum dw_result result;
 };
@@ -183,6 +183,7 @@ uint64_t dws_elapsed_ms(void);
 uint64_t dws_chance(const dws_session *s);
 bool dws_reserve(void *place, size_t *room, size_t wanted);
 char *dws_copy_of(const char *text);
+char *dws_path_below(const char *path, const char *name);
 bool dws_put_bytes(struct dws_bytes *bytes, const void *added, size_t length);
 void dws_wipe(void *at, size_t length);
 
@@ -214,6 +215,7 @@ void dws_take_late(dws_session *s, const dw_output *late);
 void dws_append(struct dws_line *line, dws_call *call);
 dws_call *dws_remove(struct dws_line *line, dws_call **at);
 void dws_call_back(dws_session *s, dws_call *call);
+bool dws_is_read(const dws_call *call);
 void dws_queue_again(dws_session *s);
 uint64_t dws_again_due(const dws_session *s);
 void dws_watch(dws_session *s, dws_call *call, int32_t why);
@@ -225,6 +227,7 @@ uint64_t dws_deadline(dws_session *s);
 bool dws_is_busy(int32_t code);
 uint64_t dws_patience_ms(const dws_session *s, const dws_call *call);
 void dws_begin_call(const dws_session *s, dws_call *call);
+void dws_note_asked(const dws_session *s, dws_call *call);
 void dws_put(dws_session *s, dws_call *call);
 dws_call *dws_ask(dws_session *s, dws_call *call, enum dws_kind kind, const char *path, const char *bytes, size_t length);
 

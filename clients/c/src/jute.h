@@ -42,14 +42,14 @@ static inline void dws_put_text(struct dws_bytes *bytes, const char *text)
 
 /* ---- How they are read, in the place where a reply is kept. ---- */
 
-/* What is read from this place on. Where something is not there, the whole does not read. */
+/* What is read from this place on. If something is not there, the whole does not read. */
 struct dws_cursor {
     uint8_t *at;
     const uint8_t *end;
     bool is_over;
 };
 
-/* These bytes, or where they are not there a number of zeros. */
+/* These bytes, or zeros if they are not there. */
 static inline const uint8_t *dws_take_bytes(struct dws_cursor *cursor, size_t count)
 {
     static const uint8_t none[8] = {0};
@@ -83,7 +83,7 @@ static inline size_t dws_take_count(struct dws_cursor *cursor, size_t least)
     return (size_t)count;
 }
 
-/* A buffer with a 0 after it, for which it moves to where its length was. NULL where it is null, or is not there. */
+/* A buffer with a 0 after it: it moves over its own length, which makes room for that. NULL if it is null, or is not there. */
 static inline char *dws_take_buffer(struct dws_cursor *cursor, size_t *length)
 {
     int32_t spelled = dws_take_int(cursor);

@@ -51,7 +51,7 @@ static bool dws_place_is_own(const struct dws_place *place, const char *name)
     return strncmp(name, place->tag, strlen(place->tag)) == 0;
 }
 
-/* The first name that this finds among those that are listed; NULL where there is none. */
+/* The first name that this finds among those that are listed; NULL if there is none. */
 static const char *dws_lock_find(const dws_call *listed, const struct dws_place *place, bool (*is_found)(const struct dws_place *, const char *))
 {
     for (size_t i = 0; i < listed->count; i++) {
@@ -213,18 +213,11 @@ static void dws_place_settle(dws_session *s, struct dws_place *place, int32_t wh
     }
 }
 
-/* What was sent before has happened when this is answered, or never does: so what is listed after it is all. */
-static void dws_place_synced(dws_session *s, dws_call *call)
-{
-    struct dws_place *place = (struct dws_place *)call->context;
-    place->is_asked = false;
-    place->is_synced = !dws_place_passes(call->why);
-    dws_place_go_on(s, place);
-}
+static void dws_place_synced(dws_session *s, dws_call *call);
 
 static void dws_place_listed(dws_session *s, dws_call *call);
 
-/* Lists the places. Where it is not known whether one's own was made, the server is to have caught up before. */
+/* Lists the places. If it is not known whether one's own was made, the server is to have caught up before. */
 static void dws_place_list(dws_session *s, struct dws_place *place)
 {
     if (place->is_synced || !place->is_unsure) {
@@ -258,15 +251,11 @@ static void dws_place_forget(struct dws_place *place)
     place->node = NULL;
 }
 
-/* Its node is the one of this name. False where there is no memory. */
+/* Its node is the one of this name. False if there is no memory. */
 static bool dws_place_know(struct dws_place *place, const char *name)
 {
-    size_t room = strlen(place->path) + strlen(name) + 2;
     dws_place_forget(place);
-    place->node = (char *)malloc(room);
-    if (place->node != NULL) {
-        snprintf(place->node, room, "%s/%s", place->path, name);
-    }
+    place->node = dws_path_below(place->path, name);
     return place->node != NULL;
 }
 
@@ -282,6 +271,22 @@ static void dws_place_leave_after(dws_session *s, struct dws_place *place, int32
         dws_place_leave(s, place);
     } else {
         dws_place_settle(s, place, why);
+    }
+}
+
+/* What was sent before has happened when this is answered, or never does: so what is listed after it is all. If it was refused, nothing is listed: the
+ * node of a lost create may come after that. */
+static void dws_place_synced(dws_session *s, dws_call *call)
+{
+    struct dws_place *place = (struct dws_place *)call->context;
+    place->is_asked = false;
+    place->is_synced = call->why == 0;
+    if (call->why == 0 || dws_place_passes(call->why)) {
+        dws_place_go_on(s, place);
+    } else if (place->is_left) {
+        dws_place_leave_after(s, place, call->why);
+    } else {
+        dws_lock_fail(s, place->lock, call->why, place->path);
     }
 }
 
@@ -408,7 +413,7 @@ static void dws_lock_listed(dws_session *s, dws_lock *lock, const dws_call *call
     }
 }
 
-/* The node of the lock is made where it is not there. */
+/* The node of the lock is made if it is not there. */
 static void dws_lock_made(dws_session *s, dws_lock *lock, const dws_call *call, bool is_of_lock)
 {
     struct dws_place *place = lock->place;
@@ -437,7 +442,7 @@ static size_t dws_lock_spell_markers(const dws_lock *lock, uint8_t *at)
     return end;
 }
 
-/* Where the place stands, is the library's word: the token is written, or the name of the place before it that is waited for. */
+/* The library says where the place stands: it writes the token, or the name of the place before it that is waited for. */
 static enum dw_result dws_lock_standing(dws_session *s, const dws_lock *lock, int64_t *token, char *before, size_t room, size_t *length)
 {
     uint8_t markers[(1 + DWS_KINDS) * 16];
@@ -453,7 +458,7 @@ static enum dw_result dws_lock_standing(dws_session *s, const dws_lock *lock, in
     return result;
 }
 
-/* Looks whether the lock is held. The place before one's own is watched, and the places are listed again where that is gone. */
+/* Looks whether the lock is held. The place before one's own is watched, and the places are listed again when that is gone. */
 static void dws_lock_judge(dws_session *s, dws_lock *lock)
 {
     struct dws_place *place = lock->place;
@@ -476,7 +481,7 @@ static void dws_lock_judge(dws_session *s, dws_lock *lock)
     }
 }
 
-/* Does what is next. A place is lost where it is gone, or nothing is kept of it any more, as where the session has expired or is over. */
+/* Does what is next. A place is lost if it is gone, or nothing is kept of it any more, as when the session has expired or is over. */
 static void dws_lock_go_on(dws_session *s, dws_lock *lock)
 {
     bool is_gone = dws_is_good(&lock->own) && lock->own.kind == DW_KEPT_ABSENT;

@@ -26,7 +26,7 @@ static void dws_walk_pop(dws_walk *walk)
     free(walk->paths[--walk->left]);
 }
 
-/* The node above the last one is next. False where there is no memory. */
+/* The node above the last one is next. False if there is no memory. */
 static bool dws_walk_rise(dws_walk *walk)
 {
     char *above = dws_copy_of(dws_walk_path(walk));
@@ -40,21 +40,17 @@ static bool dws_walk_rise(dws_walk *walk)
     return is_kept;
 }
 
-/* The nodes of these names below the last one are next. False where there is no memory. */
+/* The nodes of these names below the last one are next. False if there is no memory. */
 static bool dws_walk_descend(dws_walk *walk, const dws_call *listed)
 {
-    const char *above = dws_copy_of(dws_walk_path(walk));
+    char *above = dws_copy_of(dws_walk_path(walk));
     bool is_kept = above != NULL;
     for (size_t i = 0; i < listed->count && is_kept; i++) {
-        size_t size = strlen(above) + strlen(listed->names[i]) + 2;
-        char *path = (char *)malloc(size);
-        if (path != NULL) {
-            snprintf(path, size, "%s/%s", above[1] == 0 ? "" : above, listed->names[i]);
-        }
+        char *path = dws_path_below(above, listed->names[i]);
         is_kept = path != NULL && dws_walk_push(walk, path);
         free(path);
     }
-    free((char *)(uintptr_t)above);
+    free(above);
     return is_kept;
 }
 
@@ -155,6 +151,7 @@ static void dws_walk_listed(dws_session *s, dws_call *call)
 
 static void dws_walk_begin(dws_session *s, dws_walk *walk, const char *path, bool deletes)
 {
+    dws_release(&walk->call); /* so that words name no path of an earlier walk */
     walk->is_done = walk->makes = false;
     walk->why = walk->losses = 0;
     walk->count = 0;

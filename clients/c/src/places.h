@@ -14,11 +14,11 @@ extern "C" {
 struct dws_place {
     struct dws_errand errand;
     dws_session *session;
-    dws_lock *lock;      /* NULL where that was released */
+    dws_lock *lock;      /* NULL if that was released */
     dws_call call, removal;
     dws_request sync;
     char path[1024], data[256], tag[DWS_LONGEST_TAG];
-    char *node;          /* the path of its node, where it is known */
+    char *node;          /* the path of its node, if it is known */
     bool is_asked, is_of_lock;  /* `call` or `sync` waits; the node of the lock is made */
     bool is_deleting, is_left;  /* `removal` waits; the place is given up */
     bool is_unsure, is_synced;  /* a node may be there; a listing shows whether */

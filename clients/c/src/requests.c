@@ -44,7 +44,7 @@ static void dws_put_operation(struct dws_bytes *bytes, int32_t type, bool is_end
 
 /* ---- How a reply is read, in the place where it is kept. ---- */
 
-/* Adds texts to the names of a call. False where there is no memory. */
+/* Adds texts to the names of a call. False if there is no memory. */
 static bool dws_take_names(struct dws_cursor *cursor, dws_call *call)
 {
     size_t count = dws_take_count(cursor, 4);
@@ -116,7 +116,7 @@ static void dws_take_end(struct dws_cursor *cursor)
     cursor->is_over = cursor->is_over || !is_end;
 }
 
-/* What each operation of a transaction has brought. Where one was refused, that is why. */
+/* What each operation of a transaction has brought. If one was refused, that is why. */
 static void dws_take_changes(dws_session *s, struct dws_cursor *cursor, dws_request *request)
 {
     for (size_t i = 0; i < request->change_count; i++) {
@@ -137,7 +137,7 @@ static void dws_take_changes(dws_session *s, struct dws_cursor *cursor, dws_requ
     dws_take_end(cursor);
 }
 
-/* What a read of several has brought. False where there is no memory for it. */
+/* What a read of several has brought. False if there is no memory for it. */
 static bool dws_take_read(struct dws_cursor *cursor, dws_call *call, dws_node_read *read)
 {
     int32_t type = dws_take_type(cursor), wanted = read->side == DW_SIDE_DATA ? DWS_TYPE_GET_DATA : DWS_TYPE_GET_CHILDREN;
@@ -190,7 +190,7 @@ static void dws_take_made(dws_session *s, struct dws_cursor *cursor, dws_call *c
     }
 }
 
-/* Reads the reply to a request. False where there is no memory for it. */
+/* Reads the reply to a request. False if there is no memory for it. */
 static bool dws_take_brought(dws_session *s, struct dws_cursor *cursor, dws_request *request)
 {
     switch (request->call.number) {
@@ -305,6 +305,7 @@ void dws_begin_question(dws_request *request, int32_t operation)
 /* Asks a question whose body is spelled, unless it has a fault. */
 dws_call *dws_ask_question(dws_session *s, dws_request *request)
 {
+    dws_begin_call(s, &request->call);
     if (request->call.body.is_short) {
         dws_note_fault(request, DW_NO_MEMORY);
     }
@@ -429,6 +430,7 @@ dws_call *dws_add_auth(dws_session *s, dws_request *request, const char *scheme,
     dws_call *call = &request->call;
     dws_begin_question(request, 0);
     dws_begin_call(s, call);
+    dws_note_asked(s, call);
     enum dw_result result = s->is_over || s->is_closing ? DW_CLOSED : dws_keep_credentials(s, scheme, bytes, length, call);
     if (result != DW_OK) {
         dws_finish(s, call, result == DW_CLOSED ? dws_why_over(s) : DWS_REFUSED - (int32_t)result);
@@ -436,7 +438,7 @@ dws_call *dws_add_auth(dws_session *s, dws_request *request, const char *scheme,
     return call;
 }
 
-/* Begins the next transaction where the last one was committed, or there is none. */
+/* Begins the next transaction if the last one was committed, or there is none. */
 static void dws_begin_transaction(dws_request *request)
 {
     if (request->call.number != DW_OPERATION_MULTI || request->is_committed) {

@@ -29,6 +29,13 @@ static void dws_semaphore_tell(dws_session *s, dws_semaphore *one, bool is_held,
     }
 }
 
+/* Answers the call that waits until no node of it is there. */
+static void dws_semaphore_settle(dws_session *s, dws_semaphore *one, int32_t why)
+{
+    one->removal.why = why;
+    dws_call_back(s, &one->removal);
+}
+
 static void dws_semaphore_unfollow(dws_session *s, dws_subject *subject)
 {
     if (subject->path != NULL) {
@@ -36,7 +43,7 @@ static void dws_semaphore_unfollow(dws_session *s, dws_subject *subject)
     }
 }
 
-/* Follows a side; false where that can not be. */
+/* Follows a side; false if that can not be. */
 static bool dws_semaphore_follow(dws_session *s, dws_semaphore *one, dws_subject *subject, const char *path, enum dw_side side,
                                  void (*changed)(dws_session *, dws_subject *))
 {
@@ -131,8 +138,6 @@ static void dws_semaphore_locked(dws_session *s, dws_lock *lock)
     dws_semaphore_go_on(s, one);
 }
 
-static void dws_semaphore_settle(dws_session *s, dws_semaphore *one, int32_t why);
-
 static void dws_semaphore_unlocked(dws_session *s, dws_call *call)
 {
     dws_semaphore *one = (dws_semaphore *)call->context;
@@ -157,13 +162,13 @@ static void dws_semaphore_unlock(dws_session *s, dws_semaphore *one)
     dws_lock_let_go(s, &one->lock);
 }
 
-/* The lease is made, or may be. Where the lock was lost meanwhile, none was. */
+/* The lease is made, or may be. If the lock was lost meanwhile, none was. */
 static void dws_semaphore_made(dws_session *s, dws_call *call)
 {
     dws_semaphore *one = (dws_semaphore *)call->context;
     bool is_there = call->why == 0 || call->why == DW_CODE_NODE_EXISTS;
     one->is_asked = false;
-    one->is_unsure = is_there || call->why == DW_OUTCOME_LOST || call->why == DWS_LATE;
+    one->is_unsure = one->is_unsure || is_there || call->why == DW_OUTCOME_LOST || call->why == DWS_LATE; /* one that was lost before, too */
     if (!is_there && call->why != DW_CODE_NO_NODE && !dws_semaphore_passes(call->why)) {
         dws_semaphore_tell(s, one, false, call->why);
     } else if (is_there && one->own.path == NULL && !one->is_left) {
@@ -180,7 +185,7 @@ static void dws_semaphore_make(dws_session *s, dws_semaphore *one)
     dws_commit(s, &one->made);
 }
 
-/* Looks at one's own lease: whether it is held. Where it is gone, another one is waited for. */
+/* Looks at one's own lease: whether it is held. If it is gone, another one is waited for. */
 static void dws_semaphore_judge(dws_session *s, dws_semaphore *one)
 {
     bool is_own = dws_is_good(&one->own) && one->own.kind == DW_KEPT_FULL && one->own.stat.ephemeral_owner == dws_id(s);
@@ -200,7 +205,18 @@ static void dws_semaphore_judge(dws_session *s, dws_semaphore *one)
     }
 }
 
-/* Takes a lease within the lock, where there is room for one. */
+/* Whether one's own lease is there already: the answer to the transaction that made it was lost. */
+static bool dws_semaphore_is_listed(const dws_semaphore *one)
+{
+    const char *name = strrchr(one->lease, '/') + 1;
+    size_t i = 0;
+    while (i < one->leases.count && strcmp(one->leases.names[i], name) != 0) {
+        i++;
+    }
+    return i < one->leases.count;
+}
+
+/* Takes a lease within the lock, if there is room for one. */
 static void dws_semaphore_enter(dws_session *s, dws_semaphore *one)
 {
     if (one->leases.path == NULL) {
@@ -208,7 +224,7 @@ static void dws_semaphore_enter(dws_session *s, dws_semaphore *one)
     } else if (one->leases.kind == DW_KEPT_ABSENT && dws_is_good(&one->leases)) {
         one->is_agreed = false;
         dws_semaphore_unlock(s, one);
-    } else if (dws_is_good(&one->leases) && (one->is_unsure || one->leases.count < (size_t)one->most)) {
+    } else if (dws_is_good(&one->leases) && (one->leases.count < (size_t)one->most || dws_semaphore_is_listed(one))) {
         dws_semaphore_make(s, one);
     }
 }
@@ -271,12 +287,6 @@ dws_call *dws_semaphore_check(dws_session *s, dws_semaphore *one, dws_call *call
 
 /* ---- How it is let go. ---- */
 
-static void dws_semaphore_settle(dws_session *s, dws_semaphore *one, int32_t why)
-{
-    one->removal.why = why;
-    dws_call_back(s, &one->removal);
-}
-
 static void dws_semaphore_deleted(dws_session *s, dws_call *call)
 {
     dws_semaphore *one = (dws_semaphore *)call->context;
@@ -293,12 +303,10 @@ static void dws_semaphore_deleted(dws_session *s, dws_call *call)
 static void dws_semaphore_synced(dws_session *s, dws_call *call)
 {
     dws_semaphore *one = (dws_semaphore *)call->context;
-    one->is_asked = false;
     if (call->why == 0 && !s->is_over) {
         dws_delete(s, dws_semaphore_call(one, &one->call, dws_semaphore_deleted), one->lease, -1);
     } else {
-        one->is_unsure = one->is_unsure && dws_semaphore_passes(call->why);
-        dws_semaphore_leave(s, one);
+        dws_semaphore_deleted(s, call); /* it was not */
     }
 }
 

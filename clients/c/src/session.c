@@ -93,7 +93,10 @@ void dws_end(dws_session *s)
         dws_answer_rest(s);
         return;
     }
-    dws_ask(s, &s->close, DWS_CLOSE, "/", NULL, 0);
+    s->close.kind = DWS_CLOSE;
+    s->close.path = dws_outer(s, "/"); /* for observers: it is closed without one too, if there is no memory */
+    dws_begin_call(s, &s->close);
+    dws_put(s, &s->close);
     s->close.until_ms = dws_now_ms() + DWS_CLOSE_MS;
     s->is_closing = true;
 }

@@ -34,7 +34,7 @@ void dws_finish_credentials(dws_session *s, uint64_t until_ms, int32_t why)
     }
 }
 
-/* Answers all calls of a session that is over: those that were asked may have happened, where there is a connection. Shows what is lost. */
+/* Answers all calls of a session that is over: those that were asked may have happened, if there is a connection. Shows what is lost. */
 void dws_answer_rest(dws_session *s)
 {
     if (s->is_over) {
@@ -121,7 +121,7 @@ static void dws_take_state(dws_session *s, enum dw_state state)
     }
 }
 
-/* The connection is given up. Where it was over already, it was told why. */
+/* The connection is given up. If it was over already, it was told why. */
 static void dws_take_drop(dws_session *s, const dw_output *drop)
 {
     char words[256];
@@ -136,7 +136,7 @@ static void dws_take_drop(dws_session *s, const dw_output *drop)
     dws_tell(s, DWS_CUT, result == DW_OK ? words : dw_result_words(result));
 }
 
-/* The connection is to be closed. Where it was not said why, the attempt took too long, or a server has told that the session is not its own. */
+/* The connection is to be closed. If it was not said why, the attempt took too long, or a server has told that the session is not its own. */
 static void dws_take_hang_up(dws_session *s)
 {
     if (s->is_connecting || s->is_dial_due) {
@@ -267,7 +267,29 @@ enum dw_result dws_make_machine(dws_session *s, const uint8_t *saved, size_t len
                                          length);
 }
 
-/* Memory ran out within a step, so the library goes no further: another one takes its session up, and follows what was followed. Reads are asked
+/* The machine that takes the session up has been handed none of what was followed, nor any credentials. */
+static void dws_hand_over_again(dws_session *s)
+{
+    s->gone_count = 0;
+    for (dws_subject *one = dws_next_subject(s, NULL), *next; one != NULL; one = next) {
+        next = dws_next_subject(s, one);
+        if (one->keys[DWS_BY_TICKET] != 0) {
+            dws_unchain(s, one, DWS_BY_TICKET);
+            one->keys[DWS_BY_TICKET] = 0;
+            dws_move(s, one, DWS_NEW);
+        }
+    }
+    for (dws_tree *tree = s->trees; tree != NULL; tree = tree->next) {
+        tree->ticket = 0;
+        dws_free_members(&tree->members);
+    }
+    for (struct dws_credentials *one = s->credentials; one != NULL; one = one->next) {
+        one->is_handed = false;
+        s->must_introduce = true;
+    }
+}
+
+/* Memory ran out within a step, so the library goes no further: another machine takes its session up, and follows what was followed. Reads are asked
  * again; whether writes have happened is not known. */
 void dws_resume(dws_session *s)
 {
@@ -287,24 +309,8 @@ void dws_resume(dws_session *s)
     }
     s->is_resumed = s->must_follow = true;
     s->is_dial_due = s->is_due_known = false;
-    s->gone_count = 0;
     dws_lose_kept(s);
-    for (dws_subject *one = dws_next_subject(s, NULL), *next; one != NULL; one = next) {
-        next = dws_next_subject(s, one);
-        if (one->keys[DWS_BY_TICKET] != 0) {
-            dws_unchain(s, one, DWS_BY_TICKET);
-            one->keys[DWS_BY_TICKET] = 0;
-            dws_move(s, one, DWS_NEW);
-        }
-    }
-    for (dws_tree *tree = s->trees; tree != NULL; tree = tree->next) {
-        tree->ticket = 0;
-        dws_free_members(&tree->members);
-    }
-    for (struct dws_credentials *one = s->credentials; one != NULL; one = one->next) {
-        one->is_handed = false;
-        s->must_introduce = true;
-    }
+    dws_hand_over_again(s);
     struct dws_line rest = dws_ask_again(s, &s->sent);
     dws_hang_up(s);
     dws_tell(s, DWS_CUT, dw_result_words(DW_HALTED));

@@ -33,7 +33,7 @@ dws_subject *dws_next_subject(const dws_session *s, const dws_subject *before)
     return next;
 }
 
-/* Where the chain of subjects begins that have keys like this one. */
+/* The beginning of the chain of subjects that have keys like this one. */
 static dws_subject **dws_chain_of(const dws_session *s, int by, uint64_t key)
 {
     return &s->chains[(size_t)by * s->chain_count + (key & (s->chain_count - 1))];
@@ -177,7 +177,7 @@ static bool dws_look_at_node(dws_session *s, dws_subject *subject, enum dw_resul
     return true;
 }
 
-/* The same of names. Where there is no node, that is kept of its data. */
+/* The same of names. If there is no node, that is kept of its data. */
 static bool dws_look_at_children(dws_session *s, dws_subject *subject, enum dw_result *result)
 {
     dw_kept_names kept;
@@ -219,7 +219,7 @@ void dws_mark(dws_session *s)
     }
 }
 
-/* Shows a subject of which another thing is kept, where there is one. */
+/* Shows a subject of which another thing is kept, if there is one. */
 bool dws_show_next(dws_session *s)
 {
     dws_subject *one = s->subjects[DWS_CHANGED].first;
@@ -279,7 +279,7 @@ static void dws_begin_subject(dws_session *s, dws_subject *subject, uint64_t now
                                              : dw_session_follow_names(&s->machine, now_ms, ticket, path, strlen(path)));
 }
 
-/* Has the library follow a tree that it does not follow yet. False where there is none. */
+/* Has the library follow a tree that it does not follow yet. False if there is none. */
 static bool dws_begin_tree(dws_session *s, uint64_t now_ms)
 {
     dws_tree *tree = s->trees;

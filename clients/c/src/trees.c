@@ -80,7 +80,7 @@ const dws_node *dws_next_child(const dws_tree *tree, const dws_node *above, cons
     return next < end && dws_is_below(next->path, above->path) ? next : NULL;
 }
 
-/* Why a tree has no newer nodes: it is told where it is another reason. */
+/* Why a tree has no newer nodes: it is told if it is another reason. */
 static void dws_trouble_tree(dws_session *s, dws_tree *tree, int32_t why, const char *path)
 {
     bool is_news = tree->why != why || tree->trouble == NULL || strcmp(tree->trouble, path) != 0;
@@ -112,7 +112,7 @@ static bool dws_has_no_root(dws_session *s, const dws_tree *tree)
     return dws_peek(s, tree->path, &kept) == DW_OK && kept.kind == DW_KEPT_ABSENT && kept.mark == DW_MARK_GOOD;
 }
 
-/* Leaves out the members that were let go, where they are the most. */
+/* Leaves out the members that were let go, if they are the most. */
 static void dws_close_up(struct dws_members *members)
 {
     if (members->left <= members->count / 2) {
@@ -146,7 +146,7 @@ static void dws_take_on(dws_session *s, struct dws_members *members, const dw_ou
     member->why = 0;
 }
 
-/* The member of a ticket; NULL where there is none. */
+/* The member of a ticket; NULL if there is none. */
 static struct dws_member *dws_find_member(const struct dws_members *members, uint64_t ticket)
 {
     size_t low = 0, high = members->count;
@@ -254,7 +254,7 @@ void dws_see_trees(dws_session *s)
     s->seen_count = 0;
 }
 
-/* What was good of a path has ended. A tree that has it is whole again only where that is said after this. */
+/* What was good of a path has ended. A tree that has it is whole again only if that is said after this. */
 void dws_take_report(dws_session *s, const dw_output *report)
 {
     char path[DWS_LONGEST_LINE];
@@ -337,7 +337,7 @@ static enum dw_result dws_collect(dws_session *s, dws_tree *tree)
     return result;
 }
 
-/* Shows a tree where it is whole. Where it is not, DW_OK means that it is lacking reads, and another result that no read makes it whole. */
+/* Shows a tree if it is whole. If it is not, DW_OK means that it is lacking reads, and another result that no read makes it whole. */
 static enum dw_result dws_learn(dws_session *s, dws_tree *tree)
 {
     uint8_t none;
@@ -367,7 +367,7 @@ static void dws_look_at_tree(dws_session *s, dws_tree *tree)
     tree->look_at_ms = (ended_us + (ended_us - begun_us) * DWS_SHARE) / 1000;
 }
 
-/* Shows a tree of which there is something to be told, where there is one. */
+/* Shows a tree of which there is something to be told, if there is one. */
 static bool dws_show_next_tree(dws_session *s)
 {
     for (dws_tree *tree = s->trees; tree != NULL; tree = tree->next) {
@@ -389,7 +389,7 @@ static uint64_t dws_look_due(const dws_tree *tree)
     return tree->must_look ? tree->look_at_ms : UINT64_MAX;
 }
 
-/* Looks at trees that are worth it, where a server has accepted the session, and shows what is to be told. */
+/* Looks at trees that are worth it, if a server has accepted the session, and shows what is to be told. */
 void dws_look_at_trees(dws_session *s)
 {
     bool is_connected = s->trees != NULL && dws_is_connected(s) && !s->is_closing;

@@ -39,7 +39,7 @@ static void dws_miss(dws_session *s, const char *why)
     }
 }
 
-/* Dials the host that the library has named; or, where they are dialled in order, the next one. */
+/* Dials the host that the library has named; or, if they are dialled in order, the next one. */
 void dws_dial(dws_session *s)
 {
     struct dws_host *host = &s->hosts[s->options.is_in_order ? s->dials++ % s->host_count : s->place % s->host_count];

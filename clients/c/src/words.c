@@ -87,7 +87,7 @@ static const char *dws_advice_of_code(int32_t code)
 }
 /* end of what is made */
 
-/* Why the library takes a text that is UTF-8 for no path of a node, or NULL where this function sees no reason. */
+/* Why the library takes a text that is UTF-8 for no path of a node, or NULL if this function sees no reason. */
 const char *dws_words_of_path(const char *path)
 {
     static const size_t longest = 4096;
@@ -130,7 +130,7 @@ void dws_end_cut(char *room, size_t size, int length)
     }
 }
 
-/* How many bytes the first character of a text has; 0 where it is a control character, or no UTF-8. */
+/* How many bytes the first character of a text has; 0 if it is a control character, or no UTF-8. */
 static size_t dws_length_of_shown(const char *text)
 {
     static const uint32_t least[] = {0, ' ', 0xa0, 0x800, 0x10000};
@@ -167,7 +167,7 @@ static const char *dws_show_path(char *room, size_t size, const char *path)
     return room;
 }
 
-/* Writes a reason, with the path where it is not NULL and what to do where there is something, as far as there is room. */
+/* Writes a reason, with the path if it is not NULL and what to do if there is something, as far as there is room. */
 void dws_write_words(char *room, size_t size, const char *reason, const char *path, const char *advice)
 {
     char shown[DWS_LONGEST_LINE];
@@ -176,7 +176,7 @@ void dws_write_words(char *room, size_t size, const char *reason, const char *pa
     dws_end_cut(room, size, snprintf(room, size, "%s%s%s%s%s", reason, before, path, after, advice));
 }
 
-/* Writes what a function of the library answered about a path, or about none where that is NULL. */
+/* Writes what a function of the library answered about a path, or about none if that is NULL. */
 void dws_write_result(char *room, size_t size, enum dw_result result, const char *path)
 {
     if (result == DW_NOT_PATH && path != NULL) {

@@ -6,3 +6,4 @@ pub mod Stages
 pub mod Helds
 pub mod Wishes
 pub mod Watches
+pub mod Listings

@@ -7,4 +7,5 @@ pub mod Settling
 pub mod Standings
 pub mod Contenders
 pub mod Nodes
+pub mod Listings
 pub mod inner

@@ -1,6 +1,7 @@
 //! What follows of contenders, over definitions alone. The functions do nothing: their contracts are the laws.
 
 ghost use Rattle.zk_contend.specs.Contenders.{WatchesOne};
+ghost use Rattle.zk_contend.specs.Listings.{ListingsAreHeard};
 ghost use Rattle.zk_contend.specs.Nodes.{GivenUpAsks, NothingIsLeft, OneIsThere};
 ghost use Rattle.zk_contend.specs.Standings.{HeldIsTrue};
 
@@ -10,6 +11,12 @@ use std::alloc::Allocator;
 /// client was answered, and numbers rise with creation. It may have lost its place since.
 pub fn held_is_true<A: Allocator>()
     ensures { HeldIsTrue A }
+{}
+
+/// The listing of a contender is an answer that it heard, with these names at this zxid. So whoever gives it what the client was answered
+/// meets the premise of [`held_is_true`].
+pub fn listings_are_heard<A: Allocator>()
+    ensures { ListingsAreHeard A }
 {}
 
 /// A call of a contender leaves a watch on its place or on the last rival before it alone, and only if the client does not show that

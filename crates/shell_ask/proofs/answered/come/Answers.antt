@@ -1,5 +1,5 @@
 -- The call is heard in a session from its beginning on: what `begin` and `answered` ensure, with the engine that `now` leaves the same.
-use Rattle.std.proofs.Common.{ap, subst, None}
+use Rattle.std.proofs.Common.{ap, subst, None, of_z, to_z, w32}
 use Rattle.std.specs.Prelude.{unsigned_abs}
 use Rattle.zk_conversation.specs.Views.{call_view}
 use Rattle.zk_agent.specs.Telling.{told_by}
@@ -19,7 +19,7 @@ returns-in-Ok-came g c =
     let until = c.saturating_add-until.result in
     let last = course_of c.answered-came.new.driver.engine None in
     record {
-      timeout = unsigned_abs c.timeout_for-timeout_ms.result;
+      timeout = unsigned_abs (to_z w32 (of_z w32 c.timeout_for-timeout_ms.result));
       until = until;
       start = course_of c.in-Ok.driver.engine None;
       last = last;

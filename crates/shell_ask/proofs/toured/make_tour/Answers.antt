@@ -1,6 +1,6 @@
 -- The tour begins with a new session and no connection, and walks as `walked` ensures, rewritten by what `now` and `saturating_add` ensure;
 -- a call at which it stops is not done (`undone`).
-use Rattle.std.proofs.Common.{ℕ, ap, subst, None}
+use Rattle.std.proofs.Common.{ℕ, ap, subst, None, of_z, to_z, w32}
 use Rattle.std.specs.Prelude.{unsigned_abs}
 use Rattle.zk_agent.specs.Telling.{told_by}
 use Rattle.zk_driver.specs.Flowing.{flow_of}
@@ -22,7 +22,7 @@ returns-in-Ok-tour-clause-tours g c =
     = subst (λ (e : Engine g.row.A.Denot g.row.D-Stream.Denot).
     WalksFrom (know e) until scope (ending_view tour.ending) tour.printed.items) c.now.ensures.engine c.in-Ok-tour.ensures in
     record {
-      timeout = unsigned_abs c.timeout_for-timeout_ms.result;
+      timeout = unsigned_abs (to_z w32 (of_z w32 c.timeout_for-timeout_ms.result));
       start = start;
       begins = c.in-Ok.ensures.client;
       parted = c.in-Ok.ensures.channel;

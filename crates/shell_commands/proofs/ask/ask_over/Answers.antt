@@ -2,8 +2,9 @@
 -- of it (`never_more`).
 use Rattle.std.proofs.Common.{◌≡◌, ◌≢◌, true, false, ap, sym, refl}
 use Rattle.shell_ask.specs.Asking.{Coming, Answered, Late}
-use Rattle.shell_ask.specs.Printing.{end_of, told}
+use Rattle.shell_ask.specs.Printing.{end_of, is_read, told}
 use Rattle.shell_ask.specs.declared.end.CallEnd.TheVariants as ends
+use Rattle.zk_conversation.specs.Views.{call_view}
 use Rattle.zk_conversation.specs.Results.{NoNode, Refused, Found, Read, Listing, Made, Done, Brought}
 use Rattle.zk_turns.specs.Turns.{Replied, ConnectionLoss, SessionExpired, SessionClosed, NotConnected, TooManyWatches, TooLarge}
 use Rattle.zk_turns.specs.Turns.{TooManyPending}
@@ -43,7 +44,7 @@ returns-in-Done-clause-done g c = λ _.
 pub returns-in-NoNode-clause-undone : goal.returns-in-NoNode-clause-undone
 returns-in-NoNode-clause-undone g c = λ _.
     let why = c.in-NoNode.ensures.told tt in (
-      told c.args.plan.name.now why.0,
+      told (is_read (call_view c.args.plan.call)) c.args.plan.name.now why.0,
       record { coming = why.0; comes = why.1; ends = ap status_of why.2; tells = refl },
       why.3,
       why.4,
@@ -52,7 +53,7 @@ returns-in-NoNode-clause-undone g c = λ _.
 pub returns-in-Refused-clause-undone : goal.returns-in-Refused-clause-undone
 returns-in-Refused-clause-undone g c = λ _.
     let why = c.in-Refused.ensures.told tt in (
-      told c.args.plan.name.now why.0,
+      told (is_read (call_view c.args.plan.call)) c.args.plan.name.now why.0,
       record { coming = why.0; comes = why.1; ends = ap status_of why.2; tells = refl },
       why.3,
       why.4,
@@ -61,7 +62,7 @@ returns-in-Refused-clause-undone g c = λ _.
 pub returns-in-Unconnected-clause-undone : goal.returns-in-Unconnected-clause-undone
 returns-in-Unconnected-clause-undone g c = λ _.
     let why = c.in-Unconnected.ensures.told tt in (
-      told c.args.plan.name.now why.0,
+      told (is_read (call_view c.args.plan.call)) c.args.plan.name.now why.0,
       record { coming = why.0; comes = why.1; ends = ap status_of why.2; tells = refl },
       why.3,
       why.4,
@@ -70,7 +71,7 @@ returns-in-Unconnected-clause-undone g c = λ _.
 pub returns-in-Unanswered-clause-undone : goal.returns-in-Unanswered-clause-undone
 returns-in-Unanswered-clause-undone g c = λ _.
     let why = c.in-Unanswered.ensures.told tt in (
-      told c.args.plan.name.now why.0,
+      told (is_read (call_view c.args.plan.call)) c.args.plan.name.now why.0,
       record { coming = why.0; comes = why.1; ends = ap status_of why.2; tells = refl },
       why.3,
       why.4,
