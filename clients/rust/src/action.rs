@@ -264,6 +264,18 @@ impl<'a> Action<'a> {
                 ticket,
                 reason: Refusal::of(flat)?,
             },
+            kind::CREDENTIAL => Action::Credential {
+                place: flat.names,
+                code: Code(flat.code),
+            },
+            _ => return Action::of_tree(flat, bytes),
+        })
+    }
+
+    /// An action of a tree.
+    fn of_tree(flat: &ffi::Output, bytes: Bytes<'a>) -> Result<Action<'a>, UnknownNumber> {
+        let ticket = flat.ticket;
+        Ok(match flat.kind {
             kind::TAKEN_ON => Action::TakenOn {
                 tree: flat.names as u64,
                 ticket,
@@ -279,10 +291,6 @@ impl<'a> Action<'a> {
                 is_bounded: flat.is_null,
             },
             kind::WHOLE => Action::Whole { tree: ticket },
-            kind::CREDENTIAL => Action::Credential {
-                place: flat.names,
-                code: Code(flat.code),
-            },
             other => return Err(UnknownNumber::of("output", other)),
         })
     }

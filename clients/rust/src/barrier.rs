@@ -1,8 +1,8 @@
 //! What holds clients back. Tested, and not proved.
 
+use crate::cache::Mark;
 use crate::error::Error;
 use crate::fault::Code;
-use crate::kept::Mark;
 use crate::node::ANY_VERSION;
 use crate::request::Request;
 use crate::session::Session;

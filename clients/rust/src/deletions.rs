@@ -1,9 +1,9 @@
 //! Places that are given up, until they are gone.
 
+use crate::answer::Outcome;
 use crate::error::ErrorKind;
 use crate::fault::{Code, NoReply};
 use crate::moment::Moment;
-use crate::told::Outcome;
 use std::mem;
 use std::time::Duration;
 
@@ -124,7 +124,7 @@ impl Deletions {
     }
 
     /// A call is answered. Nothing happens where it was not asked for a place.
-    pub(crate) fn hear(&mut self, now: Moment, ticket: u64, outcome: &Outcome) {
+    pub(crate) fn call_answered(&mut self, now: Moment, ticket: u64, outcome: &Outcome) {
         let asked = self
             .waiting
             .iter()
@@ -134,8 +134,8 @@ impl Deletions {
         deletion.asked = None;
         match outcome {
             Ok(_) if deletion.step == Step::Sync => deletion.step = Step::List,
-            Ok(found) => self.is_done(asked, &found.names.texts()),
-            Err(ErrorKind::Server(Code::NO_NODE)) => self.is_done(asked, &[]),
+            Ok(found) => self.finish(asked, &found.names.texts()),
+            Err(ErrorKind::Server(Code::NO_NODE)) => self.finish(asked, &[]),
             Err(ErrorKind::NoReply(NoReply::ConnectionLoss | NoReply::NotConnected)) => {
                 deletion.begin_again(now);
             }
@@ -145,13 +145,13 @@ impl Deletions {
             Err(kind) => {
                 let refused = (deletion.number, kind.clone());
                 self.refused.extend(deletion.is_awaited.then_some(refused));
-                self.is_done(asked, &[]);
+                self.finish(asked, &[]);
             }
         }
     }
 
     /// What was asked for a place is done. Of a listing these are the names.
-    fn is_done(&mut self, asked: usize, names: &[String]) {
+    fn finish(&mut self, asked: usize, names: &[String]) {
         let done = self.waiting.swap_remove(asked);
         self.is_news = true;
         if let Place::Tagged { directory, tag } = done.place {
@@ -186,11 +186,11 @@ impl Deletion {
 #[cfg(test)]
 mod tests {
     use super::{Deletions, Place, Step};
+    use crate::answer::Answer;
+    use crate::buffer::TextList;
     use crate::error::ErrorKind;
     use crate::fault::{Code, NoReply};
-    use crate::looking::Spelled;
     use crate::moment::Moment;
-    use crate::told::Found;
 
     fn lost() -> ErrorKind {
         NoReply::ConnectionLoss.into()
@@ -207,13 +207,13 @@ mod tests {
         let number = deletions.add(node("/a/b"), true);
         assert_eq!(deletions.ask(now, 7), Some((Step::Delete, node("/a/b"))));
         assert_eq!(deletions.ask(now, 8), None);
-        deletions.hear(now, 7, &Err(lost()));
+        deletions.call_answered(now, 7, &Err(lost()));
         assert!(deletions.ask(now, 9).is_some() && !deletions.takes_news());
-        deletions.hear(now, 9, &Err(Code::THROTTLED.into()));
+        deletions.call_answered(now, 9, &Err(Code::THROTTLED.into()));
         assert_eq!(deletions.ask(now, 10), None);
         let later = Moment::from_millis(1_001);
         assert!(deletions.ask(later, 11).is_some() && deletions.is_left(number));
-        deletions.hear(later, 11, &Err(Code::NO_NODE.into()));
+        deletions.call_answered(later, 11, &Err(Code::NO_NODE.into()));
         assert!(!deletions.is_left(number) && deletions.takes_news());
         assert_eq!(deletions.take_refusal(number), None);
     }
@@ -224,7 +224,7 @@ mod tests {
         let number = deletions.add(node("/a"), true);
         deletions.ask(Moment::default(), 1);
         let refused = ErrorKind::Server(Code::NOT_EMPTY);
-        deletions.hear(Moment::default(), 1, &Err(refused.clone()));
+        deletions.call_answered(Moment::default(), 1, &Err(refused.clone()));
         assert!(!deletions.is_left(number));
         assert_eq!(deletions.take_refusal(number), Some(refused));
     }
@@ -239,20 +239,20 @@ mod tests {
         };
         let number = deletions.add(place.clone(), false);
         assert_eq!(deletions.ask(now, 1), Some((Step::Sync, place.clone())));
-        deletions.hear(now, 1, &Ok(Found::default()));
+        deletions.call_answered(now, 1, &Ok(Answer::default()));
         assert_eq!(deletions.ask(now, 2), Some((Step::List, place.clone())));
-        deletions.hear(now, 2, &Err(lost()));
+        deletions.call_answered(now, 2, &Err(lost()));
         assert_eq!(deletions.ask(now, 3), Some((Step::Sync, place.clone())));
-        deletions.hear(now, 3, &Ok(Found::default()));
+        deletions.call_answered(now, 3, &Ok(Answer::default()));
         assert_eq!(deletions.ask(now, 4), Some((Step::List, place)));
-        let found = Found {
-            names: Spelled::of(&["x1", "y1", "x2"]),
-            ..Found::default()
+        let found = Answer {
+            names: TextList::of(&["x1", "y1", "x2"]),
+            ..Answer::default()
         };
-        deletions.hear(now, 4, &Ok(found));
+        deletions.call_answered(now, 4, &Ok(found));
         assert_eq!(deletions.ask(now, 5), Some((Step::Delete, node("/a/x1"))));
         assert_eq!(deletions.ask(now, 6), Some((Step::Delete, node("/a/x2"))));
-        deletions.hear(now, 5, &Ok(Found::default()));
+        deletions.call_answered(now, 5, &Ok(Answer::default()));
         assert!(deletions.is_left(number));
         deletions.clear();
         assert!(!deletions.is_left(number));

@@ -1,29 +1,31 @@
-//! A session without what it reads from and without what it waits on: a machine, the half of the connection that is written, and who
-//! waits for what the machine tells. What is decided of the session is decided by the machine.
+//! A session without its reader and timer: a machine, the half of the connection that it writes to, and the callers that wait. The machine
+//! decides; the engine does what it says.
 
-mod asking;
-mod deleting;
-mod following;
-mod introducing;
-mod stepping;
+mod calls;
+mod connection;
+mod credentials;
+mod deletions;
+mod steps;
+mod subjects;
 mod trees;
 
-use crate::calls::Calls;
+use self::subjects::Subjects;
 use crate::chroot::Chroot;
 use crate::credentials::{Credential, Credentials};
 use crate::deletions::Deletions;
+use crate::dispatch::Dispatcher;
 use crate::error::{Error, ErrorKind, Search};
+use crate::events::Event;
 use crate::fault::{Code, Fault, NoReply};
-use crate::followed::Followed;
-use crate::growing::{Growing, Look};
-use crate::hosts::{chance, Host, Hosts, Order, Places};
+use crate::hosts::{random, DialOrder, Host, Hosts, Places};
 use crate::machine::{Limits, Machine, State};
 use crate::moment::{Clock, Moment};
 use crate::outbox::Outbox;
+use crate::pending::PendingCalls;
 use crate::saved::SavedSession;
 use crate::stats::{ConnectionEnd, Observation, Stats, Tally};
-use crate::ticket::{Ending, Slot};
-use crate::told::{Event, Told};
+use crate::ticket::{CallResult, Slot};
+use crate::tree_view::{FollowedTree, TreeCopy};
 use std::collections::BTreeMap;
 use std::mem;
 use std::net::SocketAddr;
@@ -33,18 +35,18 @@ use std::time::Duration;
 /// How long the admission of a session is waited for at a time: a call that was asked meanwhile may have a limit.
 const LOOK_ROUND: Duration = Duration::from_millis(250);
 
-/// The most reasons that are told for which no server was found.
+/// The most reasons in the message that no server was found.
 const MOST_REASONS: usize = 16;
 
 /// The moment that never comes.
 pub(crate) const NEVER: Moment = Moment::from_millis(u64::MAX);
 
-/// What is to be done next, outside of the engine.
+/// The driver's next task.
 #[derive(Clone, Copy, Debug, PartialEq, Eq)]
 pub(crate) enum Plan {
     /// Nothing, ever.
     Stop,
-    /// Nothing, until this moment, or until something is changed.
+    /// Nothing, until this moment or the next change.
     Rest(Moment),
     /// To tell the moment.
     Tick,
@@ -56,19 +58,19 @@ pub(crate) enum Plan {
     HandIn,
 }
 
-/// Whether a session goes on.
+/// Whether a session is running, or how it has ended.
 #[derive(Clone, Debug, PartialEq, Eq)]
-enum Course {
-    GoesOn,
-    /// It has expired and is not to renew itself, or it is closed. The machine is asked nothing any more.
+enum Phase {
+    Running,
+    /// It has expired and does not renew itself, or it is closed. The engine asks the machine nothing more.
     Ended(State),
-    /// The machine has no use any more: memory ran out within a step, or the library is of another version.
+    /// The machine has halted: memory ran out within a step, or the library has another version.
     Halted(Fault),
-    /// The servers do not take its credentials.
-    Barred,
-    /// Its program has let it go.
+    /// A server has refused its credentials.
+    Unauthorized,
+    /// Its program has dropped it.
     Stopped,
-    /// What dials, reads or writes for it has panicked.
+    /// Its dialler or its connection has panicked.
     Panicked,
 }
 
@@ -81,16 +83,27 @@ pub(crate) struct Attempt {
     pub(crate) until: Moment,
 }
 
-/// How a session begins.
-pub(crate) struct Beginning {
+/// The options of a session.
+pub(crate) struct EngineOptions {
     pub(crate) timeout: Duration,
     pub(crate) limits: Limits,
     pub(crate) hosts: Hosts,
-    pub(crate) order: Order,
+    pub(crate) order: DialOrder,
     pub(crate) saved: Option<SavedSession>,
     pub(crate) renews: bool,
     pub(crate) limit: Option<Duration>,
     pub(crate) credentials: Vec<Credential>,
+}
+
+impl EngineOptions {
+    /// The first machine of the session, which takes up the saved one if there is one.
+    fn machine(&self) -> Result<Machine, Fault> {
+        let (timeout, count, limits) = (self.timeout, self.hosts.len(), self.limits);
+        match &self.saved {
+            Some(saved) => Machine::resume_with_limits(timeout, count, random(), saved, limits),
+            None => Machine::open_with_limits(timeout, count, random(), limits),
+        }
+    }
 }
 
 /// A machine, its connection, and the calls that wait.
@@ -106,84 +119,79 @@ pub(crate) struct Engine {
     hosts: Hosts,
     places: Places,
     chroot: Chroot,
-    calls: Calls,
-    told: Told,
-    followed: Followed,
+    calls: PendingCalls,
+    dispatcher: Dispatcher,
+    subjects: Subjects,
     /// The trees that are followed, by the tickets that the machine has for them.
-    trees: BTreeMap<u64, Growing>,
-    looks: Vec<Look>,
+    trees: BTreeMap<u64, FollowedTree>,
+    tree_copies: Vec<TreeCopy>,
     /// The attempts that the machine has asked for, and the one that is to be begun or is on its way.
     attempts: u64,
     wanted: Option<Attempt>,
     dialling: Option<u64>,
-    line: Option<Arc<Outbox>>,
-    /// Those to which something was put, or which are over: to be written without the lock.
+    outbox: Option<Arc<Outbox>>,
+    /// Those that have frames to write, or have ended: written without the lock.
     outboxes: Vec<Arc<Outbox>>,
-    /// The server that the connection was made to last.
+    /// The server of the last connection.
     address: Option<SocketAddr>,
-    /// Why no server was found since the session was connected last: the last reason of each address.
+    /// Why no server was found since the last accepted session: the last reason of each address.
     reasons: Vec<String>,
-    /// What there was no memory for, of what came from the server.
+    /// Bytes of the server that there was no memory for.
     inbox: Vec<u8>,
     credentials: Credentials,
     deletions: Deletions,
     tally: Tally,
-    /// Why the connection is over that is closed next, where it is known.
+    /// Why the connection will be closed, if that is known.
     ending: Option<ConnectionEnd>,
-    /// The call that is to end the session, where one was asked.
+    /// The call that closes the session, if one was asked.
     closing: Option<u64>,
-    course: Course,
+    phase: Phase,
 }
 
-/// How it begins, goes on with another machine, and ends.
+/// Begin, renewal and end.
 impl Engine {
-    pub(crate) fn new(beginning: Beginning) -> Result<Engine, Fault> {
-        let (timeout, count) = (beginning.timeout, beginning.hosts.len());
-        let (seed, limits) = (chance(), beginning.limits);
-        let machine = match &beginning.saved {
-            Some(saved) => Machine::resume_with_limits(timeout, count, seed, saved, limits)?,
-            None => Machine::open_with_limits(timeout, count, seed, limits)?,
-        };
-        let chroot = beginning.hosts.root().clone();
+    pub(crate) fn new(options: EngineOptions) -> Result<Engine, Fault> {
+        let machine = options.machine()?;
+        let chroot = options.hosts.root().clone();
         let mut engine = Engine {
             deadline: machine.deadline().unwrap_or(NEVER),
             machine,
-            asked_timeout: timeout,
-            limits,
-            renews: beginning.renews,
-            limit: beginning.limit,
+            asked_timeout: options.timeout,
+            limits: options.limits,
+            renews: options.renews,
+            limit: options.limit,
             clock: Clock::start(),
-            places: Places::new(beginning.order),
-            hosts: beginning.hosts,
-            told: Told::below(chroot.clone()),
+            places: Places::new(options.order),
+            hosts: options.hosts,
+            dispatcher: Dispatcher::new(chroot.clone()),
             chroot,
-            calls: Calls::default(),
-            followed: Followed::default(),
+            calls: PendingCalls::default(),
+            subjects: Subjects::default(),
             trees: BTreeMap::new(),
-            looks: Vec::new(),
+            tree_copies: Vec::new(),
             attempts: 0,
             wanted: None,
             dialling: None,
-            line: None,
+            outbox: None,
             outboxes: Vec::new(),
             address: None,
             reasons: Vec::new(),
             inbox: Vec::new(),
-            credentials: Credentials::of(beginning.credentials),
+            credentials: Credentials::of(options.credentials),
             deletions: Deletions::default(),
             tally: Tally::default(),
             ending: None,
             closing: None,
-            course: Course::GoesOn,
+            phase: Phase::Running,
         };
         engine.note_hosts();
-        engine.introduce_again()?;
+        engine.send_credentials_again()?;
         Ok(engine)
     }
 
-    /// Goes on with a new machine: of a new session where this one is over, and else of the same session.
+    /// Goes on with a new machine: of a new session if this one is over, and else of the same session.
     pub(crate) fn renew(&mut self) -> Result<(), Fault> {
-        if self.course == Course::Panicked {
+        if self.phase == Phase::Panicked {
             return Err(Fault::Panicked);
         }
         let renewed = self.machine_of(&self.saved_for_renewal()?)?;
@@ -195,12 +203,12 @@ impl Engine {
         self.note_deadline();
         self.places.begin_again();
         self.deletions.begin_again();
-        self.trees.values_mut().for_each(Growing::begin_again);
-        if self.course != Course::Stopped {
-            self.course = Course::GoesOn;
-            self.introduce_again()?;
+        self.trees.values_mut().for_each(FollowedTree::begin_again);
+        if self.phase != Phase::Stopped {
+            self.phase = Phase::Running;
+            self.send_credentials_again()?;
             self.follow_again();
-            self.plant_again();
+            self.follow_trees_again();
         }
         Ok(())
     }
@@ -208,14 +216,17 @@ impl Engine {
     /// Another machine, which takes up this session.
     fn machine_of(&self, saved: &SavedSession) -> Result<Machine, Fault> {
         let (timeout, count) = (self.asked_timeout, self.hosts.len());
-        Machine::resume_with_limits(timeout, count, chance(), saved, self.limits)
+        Machine::resume_with_limits(timeout, count, random(), saved, self.limits)
     }
 
-    /// What the next machine is to take up. After a close, or where credentials were refused, it is another session, which begins at the
-    /// greatest zxid seen; after an expiry the machine has it already.
+    /// The session that the next machine takes up. After a close, and if credentials were refused, it is another session, which begins at the
+    /// greatest zxid seen. After an expiry the machine has it already.
     fn saved_for_renewal(&self) -> Result<SavedSession, Fault> {
         let saved = self.machine.saved()?;
-        if !matches!(self.course, Course::Ended(State::Closed) | Course::Barred) {
+        if !matches!(
+            self.phase,
+            Phase::Ended(State::Closed) | Phase::Unauthorized
+        ) {
             return Ok(saved);
         }
         Ok(saved.for_another())
@@ -238,7 +249,7 @@ impl Engine {
         self.note_hosts();
         let (now, count) = (self.now(), self.hosts.len());
         if !self.is_over() {
-            // A machine that halts tells it to whoever asks next.
+            // If the machine halts, the next caller gets the fault.
             let _ = self.step(now, |machine, now| machine.set_addresses(now, count));
         }
         Ok(())
@@ -251,31 +262,31 @@ impl Engine {
         }
     }
 
-    /// It is over with everything: each call is answered. That something has panicked is told still.
+    /// Ends everything, and answers each call. A panic before it is still reported.
     pub(crate) fn stop(&mut self) {
-        if self.course != Course::Panicked {
-            self.let_go(Course::Stopped);
+        if self.phase != Phase::Panicked {
+            self.shut_down(Phase::Stopped);
         }
     }
 
-    /// The same, since what it is kept alive by has panicked.
+    /// The same, since its dialler or its connection has panicked.
     pub(crate) fn panicked(&mut self) {
-        if self.course != Course::Stopped {
-            self.let_go(Course::Panicked);
+        if self.phase != Phase::Stopped {
+            self.shut_down(Phase::Panicked);
         }
     }
 
-    fn let_go(&mut self, course: Course) {
+    fn shut_down(&mut self, phase: Phase) {
         self.ending = Some(ConnectionEnd::Dropped);
-        let reason = match course {
+        let reason = match phase {
             _ if self.machine.state() == State::Connected => NoReply::ConnectionLoss.into(),
-            Course::Panicked => Fault::Panicked.into(),
+            Phase::Panicked => Fault::Panicked.into(),
             _ => NoReply::NotConnected.into(),
         };
         // Memory that ran out leaves calls without an answer.
         let _ = self.end();
         self.hang_up();
-        self.course = course;
+        self.phase = phase;
         self.calls.end_all(&reason);
     }
 }
@@ -294,20 +305,20 @@ impl Engine {
         self.clock
     }
 
-    /// The state, and none where something was due so long ago that nobody has done: then nobody knows.
+    /// The state, and none if a task is overdue by more than this: then nobody knows.
     pub(crate) fn state(&self, lateness: Duration) -> Option<State> {
-        match self.course {
-            Course::Ended(state) => return Some(state),
-            Course::Barred => return Some(State::Closed),
-            Course::Panicked => return None,
+        match self.phase {
+            Phase::Ended(state) => return Some(state),
+            Phase::Unauthorized => return Some(State::Closed),
+            Phase::Panicked => return None,
             _ => {}
         }
         let late = self.due().saturating_add(lateness);
-        let is_served = self.line.is_none() || self.clock.now() < late;
+        let is_served = self.outbox.is_none() || self.clock.now() < late;
         is_served.then(|| self.machine.state())
     }
 
-    /// How long ago the server was heard last, where it was.
+    /// How long ago the server sent something, if it has.
     pub(crate) fn age(&self) -> Option<Duration> {
         let heard_at = self.machine.heard_at()?;
         Some(self.clock.now().saturating_duration_since(heard_at))
@@ -315,7 +326,7 @@ impl Engine {
 
     /// Whether nothing more happens before it is renewed.
     pub(crate) fn is_over(&self) -> bool {
-        self.course != Course::GoesOn
+        self.phase != Phase::Running
     }
 
     /// Whether a server has accepted the session, so that calls are sent.
@@ -323,7 +334,7 @@ impl Engine {
         self.machine.state() == State::Connected && !self.is_over()
     }
 
-    /// Why no server has accepted the session, which was waited for for so long. None where one has.
+    /// Why no server has accepted the session, after a wait of so long. None if one has.
     pub(crate) fn fault_of_opening(&self, waited: Duration) -> Option<Error> {
         if self.is_connected() {
             return None;
@@ -336,57 +347,57 @@ impl Engine {
         })
     }
 
-    /// Why a session is over that was not closed.
+    /// Why the session is over, unless it was closed.
     pub(crate) fn fault_of_end(&self) -> Option<ErrorKind> {
-        match &self.course {
-            Course::Ended(State::Closed) | Course::Stopped => None,
+        match &self.phase {
+            Phase::Ended(State::Closed) | Phase::Stopped => None,
             _ => self.refusal_of_all(),
         }
     }
 
-    /// Why no call is asked any more.
+    /// Why new calls are refused.
     fn refusal_of_all(&self) -> Option<ErrorKind> {
-        Some(match &self.course {
-            Course::GoesOn => return None,
-            Course::Ended(State::Closed) => NoReply::SessionClosed.into(),
-            Course::Ended(_) => NoReply::SessionExpired.into(),
-            Course::Halted(fault) => fault.clone().into(),
-            Course::Barred => ErrorKind::Server(Code::AUTH_FAILED),
-            Course::Stopped => NoReply::NotConnected.into(),
-            Course::Panicked => Fault::Panicked.into(),
+        Some(match &self.phase {
+            Phase::Running => return None,
+            Phase::Ended(State::Closed) => NoReply::SessionClosed.into(),
+            Phase::Ended(_) => NoReply::SessionExpired.into(),
+            Phase::Halted(fault) => fault.clone().into(),
+            Phase::Unauthorized => ErrorKind::Server(Code::AUTH_FAILED),
+            Phase::Stopped => NoReply::NotConnected.into(),
+            Phase::Panicked => Fault::Panicked.into(),
         })
     }
 
-    /// Why calls have no answer that wait where the session ends. What a machine has sent that has halted may have happened.
+    /// Why pending calls get no answer at the end of the session. After a halt, those that were sent may have happened.
     fn reason_of_end(&self) -> Option<ErrorKind> {
-        match &self.course {
-            Course::Halted(_) => Some(NoReply::ConnectionLoss.into()),
+        match &self.phase {
+            Phase::Halted(_) => Some(NoReply::ConnectionLoss.into()),
             _ => self.refusal_of_all(),
         }
     }
 
-    /// It fails where the machine has halted, or what keeps the session alive has panicked.
+    /// Fails if the machine has halted, or the dialler or the connection has panicked.
     pub(crate) fn halt(&self) -> Result<(), Fault> {
-        match &self.course {
-            Course::Halted(fault) => Err(fault.clone()),
-            Course::Panicked => Err(Fault::Panicked),
+        match &self.phase {
+            Phase::Halted(fault) => Err(fault.clone()),
+            Phase::Panicked => Err(Fault::Panicked),
             _ => Ok(()),
         }
     }
 
     pub(crate) fn next_event(&mut self) -> Option<Event> {
-        self.told.next_event()
+        self.dispatcher.next_event()
     }
 
-    /// Whether who waits for events, or for news, has something to look at.
+    /// Whether those that wait for events or updates have something to look at.
     pub(crate) fn has_event(&mut self) -> bool {
-        let is_news = self.takes_tree_news() | self.followed.takes_news();
+        let is_news = self.takes_tree_news() | self.subjects.takes_updates();
         let is_news = self.deletions.takes_news() | is_news;
-        is_news || self.told.has_event() || self.is_over()
+        is_news || self.dispatcher.has_event() || self.is_over()
     }
 
     /// The answers that are to be handed out.
-    pub(crate) fn take_answers(&mut self) -> Vec<(Arc<Slot>, Ending)> {
+    pub(crate) fn take_answers(&mut self) -> Vec<(Arc<Slot>, CallResult)> {
         let answers = self.calls.take_answers();
         for (slot, ending) in &answers {
             let (kind, outcome, took) = slot.came(ending);
@@ -398,20 +409,20 @@ impl Engine {
         answers
     }
 
-    /// What the observer is to be told.
+    /// The observations for the observer.
     pub(crate) fn take_seen(&mut self) -> Vec<Observation> {
         self.tally.take_seen()
     }
 
-    /// There is an observer.
+    /// The session has an observer.
     pub(crate) fn is_observed(&mut self) {
         self.tally.is_observed = true;
     }
 
-    /// What was counted, and what the session holds.
+    /// The counts of the session, and what it holds.
     pub(crate) fn stats(&self) -> Stats {
         let mut stats = self.tally.stats.clone();
-        let trees = self.trees.values().filter_map(Growing::latest);
+        let trees = self.trees.values().filter_map(FollowedTree::latest);
         stats.age = self.age();
         stats.trees = self.trees.len();
         (stats.nodes, stats.kept_bytes) = self.followed_bytes();
@@ -419,9 +430,9 @@ impl Engine {
         stats
     }
 
-    /// What was copied of trees, to be shown.
-    pub(crate) fn take_looks(&mut self) -> Vec<Look> {
-        mem::take(&mut self.looks)
+    /// The copies of trees that are to be read and shown.
+    pub(crate) fn take_tree_copies(&mut self) -> Vec<TreeCopy> {
+        mem::take(&mut self.tree_copies)
     }
 
     /// The first moment at which something is due, as the machine has it.
@@ -434,25 +445,25 @@ impl Engine {
         self.deadline = self.machine.deadline().unwrap_or(NEVER);
     }
 
-    /// The first moment at which something is due, also of what the machine does not know.
+    /// The first moment at which something is due, also for calls that the machine does not know.
     fn due(&self) -> Moment {
         self.deadline().min(self.credentials.deadline())
     }
 
     /// Whether something is due on the connection already.
     pub(crate) fn is_late(&self) -> bool {
-        self.line.is_some() && self.due() <= self.clock.now()
+        self.outbox.is_some() && self.due() <= self.clock.now()
     }
 
     /// Whether there is a connection.
     pub(crate) fn is_open(&self) -> bool {
-        self.line.is_some()
+        self.outbox.is_some()
     }
 
-    /// The connection, where something waits to be written to it.
+    /// The connection, if something waits to be written to it.
     pub(crate) fn unwritten(&self) -> Option<Arc<Outbox>> {
-        let line = self.line.as_ref()?;
-        (line.waiting() > 0).then(|| Arc::clone(line))
+        let outbox = self.outbox.as_ref()?;
+        (outbox.waiting() > 0).then(|| Arc::clone(outbox))
     }
 
     /// The connections that are to be written to, or to be closed.
@@ -460,7 +471,7 @@ impl Engine {
         mem::take(&mut self.outboxes)
     }
 
-    /// Notes what became of the last attempt to find a server, for calls that wait for one. The last reason of each address is told.
+    /// Notes how the last attempt to find a server ended, for the errors of calls that wait for one: the last reason of each address.
     fn note_attempt(&mut self, last: String) {
         let place = |reason: &str| reason.split_once(": ").map(|it| String::from(it.0));
         let of = place(&last);
@@ -479,11 +490,11 @@ impl Engine {
     }
 }
 
-/// What is to be done.
+/// Tasks and moments.
 impl Engine {
-    /// What is to be done next, until this moment at most.
+    /// The driver's next task, until this moment at most.
     pub(crate) fn plan(&mut self, until: Moment) -> Plan {
-        if matches!(self.course, Course::Stopped | Course::Panicked) {
+        if matches!(self.phase, Phase::Stopped | Phase::Panicked) {
             return Plan::Stop;
         }
         if self.is_over() {
@@ -493,7 +504,7 @@ impl Engine {
             return Plan::Dial;
         }
         let due = self.due();
-        match &self.line {
+        match &self.outbox {
             Some(_) if !self.inbox.is_empty() => Plan::HandIn,
             Some(_) => Plan::Listen(self.listens_until(until.min(due))),
             None if due <= self.clock.now() => Plan::Tick,
@@ -503,33 +514,33 @@ impl Engine {
 
     /// Until when the connection is read, before something else is to be looked at.
     fn listens_until(&self, until: Moment) -> Moment {
-        let until = until.min(self.growth());
+        let until = until.min(self.tree_deadline());
         if self.machine.state() == State::Connected {
             return until;
         }
         until.min(self.clock.now().saturating_add(LOOK_ROUND))
     }
 
-    /// Tells the moment that it is.
+    /// Hands the present moment in.
     pub(crate) fn tick(&mut self) -> Result<(), Fault> {
         self.tick_at(self.clock.now())
     }
 
-    /// Tells a moment, up to which all that came was handed in.
+    /// Hands in a moment, up to which all bytes were handed in.
     pub(crate) fn tick_at(&mut self, now: Moment) -> Result<(), Fault> {
         self.step(now, Machine::tick)?;
-        self.end_late(now);
+        self.expire_credential_calls(now);
         Ok(())
     }
 
-    /// The limit of a call has come. It is told, unless something was due on the connection before: that is for whoever reads it.
-    pub(crate) fn pass(&mut self, limit: Moment) {
+    /// The limit of a call has come. The machine gets it, unless something was due on the connection before: that is for its reader.
+    pub(crate) fn expire_calls(&mut self, limit: Moment) {
         let now = self.clock.now();
         if self.is_over() || now < limit {
             return;
         }
-        let now = if self.line.is_none() { now } else { limit };
-        if self.line.is_none() || limit <= self.due() {
+        let now = if self.outbox.is_none() { now } else { limit };
+        if self.outbox.is_none() || limit <= self.due() {
             // A machine that halts answers each call.
             let _ = self.tick_at(now);
         }
@@ -538,16 +549,18 @@ impl Engine {
 
 #[cfg(test)]
 mod tests {
-    use super::{Beginning, Engine, ErrorKind, Fault, Hosts, NoReply, Order, Plan, Slot, NEVER};
+    use super::{
+        DialOrder, Engine, EngineOptions, ErrorKind, Fault, Hosts, NoReply, Plan, Slot, NEVER,
+    };
     use crate::action::Refusal;
+    use crate::connection::Outgoing;
+    use crate::dispatch::{SubjectUpdate, TreeUpdate};
     use crate::jute::Writer;
     use crate::machine::Limits;
     use crate::machine::State;
     use crate::node::ANY_VERSION;
     use crate::request::Request;
     use crate::stats::CallKind;
-    use crate::stream::Outgoing;
-    use crate::told::{Shows, TreeNews};
     use std::io;
     use std::net::SocketAddr;
     use std::sync::Arc;
@@ -570,11 +583,11 @@ mod tests {
     }
 
     fn engine() -> Engine {
-        Engine::new(Beginning {
+        Engine::new(EngineOptions {
             timeout: Duration::from_secs(10),
             limits: Limits::default(),
             hosts: Hosts::from(address()),
-            order: Order::Shuffled,
+            order: DialOrder::Shuffled,
             saved: None,
             renews: true,
             limit: None,
@@ -658,13 +671,13 @@ mod tests {
     #[test]
     fn a_refusal_is_of_the_node_that_is_told_after_it() {
         let mut engine = connected();
-        let shown = engine.plant("/t", 10).unwrap();
+        let shown = engine.open_tree("/t", 10).unwrap();
         let (tree, ticket) = (*engine.trees.keys().next().unwrap(), 1 << 63 | 1);
-        let refused = Shows::Refused(Refusal::TooManyWatches);
+        let refused = SubjectUpdate::Refused(Refusal::TooManyWatches);
         let path = String::from("/t/a");
-        engine.told.news.shown.push((ticket, refused));
-        let taken_on = TreeNews::TakenOn { ticket, path };
-        engine.told.news.trees.push((tree, taken_on));
+        engine.dispatcher.update.shown.push((ticket, refused));
+        let taken_on = TreeUpdate::MemberAdded { ticket, path };
+        engine.dispatcher.update.trees.push((tree, taken_on));
         engine.settle(NEVER, Ok(())).unwrap();
         let trouble = shown.trouble().unwrap();
         let kind = ErrorKind::from(Refusal::TooManyWatches);

@@ -3,7 +3,7 @@
 use crate::action::Refusal;
 use crate::fault::{Code, Fault, NoReply};
 use crate::lock::LockNames;
-use crate::path_fault::Shown;
+use crate::path_fault::Escaped;
 use std::error;
 use std::fmt;
 use std::time::Duration;
@@ -123,7 +123,7 @@ impl fmt::Display for ErrorKind {
             ErrorKind::MixedNames { names, place } => write!(
                 f,
                 "{} contends by other names than those of {}",
-                Shown(place),
+                Escaped(place),
                 names.word()
             ),
             ErrorKind::NotNumber => f.write_str("it is no whole number of 64 bits"),
@@ -314,7 +314,7 @@ impl fmt::Display for Error {
         }
         write!(f, "{}", self.kind)?;
         if let Some(path) = &self.path {
-            write!(f, ": {}", Shown(path))?;
+            write!(f, ": {}", Escaped(path))?;
         }
         match self.kind.advice() {
             "" => Ok(()),

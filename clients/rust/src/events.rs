@@ -1,15 +1,63 @@
-//! What happens to a session, for who polls.
+//! The events of a session, and their stream.
 
 use crate::engine::Engine;
 use crate::fault::Fault;
-use crate::keeper::{Poller, Shared};
-use crate::told::Event;
+use crate::machine::State;
+use crate::node::{NodeEvent, Side};
+use crate::output::Cause;
+use crate::shared::{Poller, Shared};
 use std::fmt;
 use std::sync::Arc;
 use std::task::{Context, Poll};
 
-/// What happens to a session, of [`Session::events`](crate::Session::events): a stream of no runtime. It keeps the waker of its last poll,
-/// until it is dropped.
+/// An event of a session: a change that no call asked for.
+///
+/// ```no_run
+/// use dirwolleu::{Event, Session, State};
+/// use std::time::Duration;
+///
+/// # fn main() -> Result<(), Box<dyn std::error::Error>> {
+/// let session = Session::open("127.0.0.1:2181", Duration::from_secs(10))?;
+/// while let Some(event) = session.next_event(None)? {
+///     match event {
+///         Event::State(State::Expired) => session.renew()?,
+///         Event::Report { path, .. } => println!("{path} is to be read again"),
+///         other => println!("{other:?}"),
+///     }
+/// }
+/// # Ok(())
+/// # }
+/// ```
+#[derive(Clone, Debug, PartialEq, Eq)]
+#[non_exhaustive]
+pub enum Event {
+    /// The state has changed.
+    State(State),
+    /// A watch has fired: the kept answer of this side of the path is stale. Read it again, with a watch.
+    Report {
+        /// The path that was watched.
+        path: String,
+        /// The side that was watched.
+        side: Side,
+        /// The change.
+        event: NodeEvent,
+    },
+    /// A server has refused credentials of the session, which is over: [`SessionOptions::auth`](crate::SessionOptions::auth) says how.
+    CredentialsRefused,
+    /// The connection was given up. The next one is dialled.
+    Dropped {
+        /// Why.
+        cause: Cause,
+        /// Why, in words.
+        words: String,
+    },
+    /// This many events are lost, those that had waited longest, since 1,024 wait at most. Those that wait still come next. Marks are right
+    /// all the same: ask the client for its state, and for what is kept of the paths that you watch.
+    Missed(u64),
+}
+
+/// The events of a session, of [`Session::events`](crate::Session::events): a stream that needs no runtime. It keeps the waker of its last
+/// poll until it is dropped.
 #[must_use = "it tells nothing before it is polled"]
 pub struct Events {
     shared: Arc<Shared>,
@@ -50,7 +98,7 @@ impl Events {
     }
 }
 
-/// The next event, where one waits or none comes any more.
+/// The next event if one waits, or the end if the session is over.
 fn next_of(engine: &mut Engine) -> Poll<Option<Result<Event, Fault>>> {
     if let Some(event) = engine.next_event() {
         return Poll::Ready(Some(Ok(event)));

@@ -1,7 +1,7 @@
 //! Why something was not done: by the library, on the way to the server, or by the server.
 
 use crate::numbers::{advice, result, words, VERSION};
-use crate::path_fault::{PathFault, Shown};
+use crate::path_fault::{Escaped, PathFault};
 use std::error;
 use std::fmt;
 
@@ -177,8 +177,8 @@ impl fmt::Display for Fault {
             Fault::NotPath {
                 path,
                 reason: Some(reason),
-            } => write!(f, "{} is no path: {reason}", Shown(path)),
-            Fault::NotPath { path, reason: None } => write!(f, "{} is no path", Shown(path)),
+            } => write!(f, "{} is no path: {reason}", Escaped(path)),
+            Fault::NotPath { path, reason: None } => write!(f, "{} is no path", Escaped(path)),
             Fault::OtherVersion { library } => write!(
                 f,
                 "the library is of version {}, and this crate of {}; {}",

@@ -2,9 +2,9 @@
 
 use crate::engine::Engine;
 use crate::error::Error;
-use crate::keeper::Poller;
 use crate::node::DataStat;
 use crate::session::Session;
+use crate::shared::Poller;
 use std::fmt;
 use std::iter::FusedIterator;
 use std::task::{Context, Poll};
@@ -34,7 +34,7 @@ pub struct KeptNode {
 }
 
 /// What is told of a node.
-type Told = Result<Option<KeptNode>, Error>;
+type FollowedNode = Result<Option<KeptNode>, Error>;
 
 /// What a node holds, at first and at each change, and none where there is no node: of [`Session::follow`]. It is an iterator, which
 /// waits, and by [`poll_next`](Follow::poll_next) a stream of no runtime. The node is followed until this is dropped.
@@ -85,9 +85,9 @@ impl<'a> Follow<'a> {
     }
 
     /// What is new of the node of this ticket, where something is; why the session is over, or none where it is closed.
-    fn take(&mut self, ticket: u64, engine: &mut Engine) -> Poll<Option<Told>> {
+    fn take(&mut self, ticket: u64, engine: &mut Engine) -> Poll<Option<FollowedNode>> {
         let about = |kind| Error::about(Some(&self.path), kind);
-        if let Some(found) = engine.take_news(ticket) {
+        if let Some(found) = engine.take_update(ticket) {
             return Poll::Ready(Some(found.map_err(about)));
         }
         if !engine.is_over() {
@@ -117,7 +117,7 @@ impl<'a> Follow<'a> {
     /// # Errors
     ///
     /// As the iterator: [`Session::follow`] says which.
-    pub fn poll_next(&mut self, context: &mut Context<'_>) -> Poll<Option<Told>> {
+    pub fn poll_next(&mut self, context: &mut Context<'_>) -> Poll<Option<FollowedNode>> {
         if self.is_over {
             return Poll::Ready(None);
         }
@@ -151,9 +151,9 @@ impl fmt::Debug for Follow<'_> {
 }
 
 impl Iterator for Follow<'_> {
-    type Item = Told;
+    type Item = FollowedNode;
 
-    fn next(&mut self) -> Option<Told> {
+    fn next(&mut self) -> Option<FollowedNode> {
         if self.is_over {
             return None;
         }
@@ -163,7 +163,7 @@ impl Iterator for Follow<'_> {
         };
         let session = self.session;
         loop {
-            session.wait_for_news(ticket);
+            session.wait_for_update(ticket);
             if let Poll::Ready(found) = session.change(|engine| self.take(ticket, engine)) {
                 return found;
             }

@@ -1,8 +1,8 @@
 //! Which servers there are, and where they are.
 
 use crate::chroot::Chroot;
+use crate::connection;
 use crate::fault::Fault;
-use crate::stream;
 use std::collections::hash_map::RandomState;
 use std::collections::HashSet;
 use std::convert::Infallible;
@@ -18,7 +18,7 @@ use std::vec;
 const USUAL_PORT: u16 = 2181;
 
 /// A random number, seeded by the system.
-pub(crate) fn chance() -> u64 {
+pub(crate) fn random() -> u64 {
     RandomState::new().build_hasher().finish()
 }
 
@@ -226,7 +226,7 @@ impl TryFrom<String> for Hosts {
 
 /// In which order hosts are dialled.
 #[derive(Clone, Copy, Debug, PartialEq, Eq)]
-pub(crate) enum Order {
+pub(crate) enum DialOrder {
     /// At random.
     Shuffled,
     /// As the list has them.
@@ -237,12 +237,12 @@ pub(crate) enum Order {
 /// hosts are to be dialled as the list has them, each place gets the next host when it is named first.
 #[derive(Debug)]
 pub(crate) struct Places {
-    order: Order,
+    order: DialOrder,
     named: Vec<usize>,
 }
 
 impl Places {
-    pub(crate) fn new(order: Order) -> Places {
+    pub(crate) fn new(order: DialOrder) -> Places {
         let named = Vec::new();
         Places { order, named }
     }
@@ -255,8 +255,8 @@ impl Places {
     /// The host of this list at a place that the machine names.
     pub(crate) fn host(&mut self, hosts: &Hosts, place: usize) -> Option<Host> {
         let index = match self.order {
-            Order::Shuffled => place,
-            Order::AsListed => self.index_of(place),
+            DialOrder::Shuffled => place,
+            DialOrder::AsListed => self.index_of(place),
         };
         hosts.hosts.get(index).cloned()
     }
@@ -273,12 +273,12 @@ impl Places {
 /// The addresses of hosts. Where a name has several, each is dialled in turn.
 #[derive(Debug)]
 pub(crate) struct Addresses {
-    order: Order,
+    order: DialOrder,
     dialled: HashSet<SocketAddr>,
 }
 
 impl Addresses {
-    pub(crate) fn new(order: Order) -> Addresses {
+    pub(crate) fn new(order: DialOrder) -> Addresses {
         let dialled = HashSet::new();
         Addresses { order, dialled }
     }
@@ -286,23 +286,23 @@ impl Addresses {
     /// An address of a host that is to be dialled now, after its name was looked up.
     pub(crate) fn of(&mut self, host: &Host) -> io::Result<SocketAddr> {
         let found = host.look_up();
-        let found = found.map_err(|fault| stream::fault_of(host, &fault))?;
-        let chance = match self.order {
-            Order::Shuffled => chance(),
-            Order::AsListed => 0,
+        let found = found.map_err(|fault| connection::fault_of(host, &fault))?;
+        let random = match self.order {
+            DialOrder::Shuffled => random(),
+            DialOrder::AsListed => 0,
         };
-        let address = self.next_of(&found, chance);
+        let address = self.next_of(&found, random);
         address.ok_or_else(|| io::Error::new(ErrorKind::NotFound, format!("{host}: no address")))
     }
 
     /// One of these that was not dialled since all of them were. It is dialled from now on.
-    fn next_of(&mut self, found: &[SocketAddr], chance: u64) -> Option<SocketAddr> {
+    fn next_of(&mut self, found: &[SocketAddr], random: u64) -> Option<SocketAddr> {
         if found.iter().all(|address| self.dialled.contains(address)) {
             self.dialled.retain(|address| !found.contains(address));
         }
         let new = found.iter().filter(|one| !self.dialled.contains(one));
         let new: Vec<SocketAddr> = new.copied().collect();
-        let index = usize::try_from(chance).unwrap_or_default() % new.len().max(1);
+        let index = usize::try_from(random).unwrap_or_default() % new.len().max(1);
         let address = *new.get(index)?;
         self.dialled.insert(address);
         Some(address)
@@ -311,7 +311,7 @@ impl Addresses {
 
 #[cfg(test)]
 mod tests {
-    use super::{Addresses, Hosts, HostsFault, Order, Places};
+    use super::{Addresses, DialOrder, Hosts, HostsFault, Places};
     use std::net::SocketAddr;
 
     #[test]
@@ -346,7 +346,7 @@ mod tests {
         assert_eq!(fault, Err(HostsFault::NotPath("//x".into())));
     }
 
-    fn named(hosts: &Hosts, order: Order, places: &[usize]) -> Vec<String> {
+    fn named(hosts: &Hosts, order: DialOrder, places: &[usize]) -> Vec<String> {
         let mut of_places = Places::new(order);
         let mut host = |place: &usize| of_places.host(hosts, *place).unwrap().name;
         places.iter().map(&mut host).collect()
@@ -356,11 +356,11 @@ mod tests {
     fn a_place_is_that_of_the_list_or_the_next_of_the_list() {
         let hosts = "a:1,b:1,c:1".parse().unwrap();
         let places = [2, 0, 1, 2, 0];
-        let shuffled = named(&hosts, Order::Shuffled, &places);
+        let shuffled = named(&hosts, DialOrder::Shuffled, &places);
         assert_eq!(shuffled, ["c", "a", "b", "c", "a"]);
-        let listed = named(&hosts, Order::AsListed, &places);
+        let listed = named(&hosts, DialOrder::AsListed, &places);
         assert_eq!(listed, ["a", "b", "c", "a", "b"]);
-        let mut none = Places::new(Order::AsListed);
+        let mut none = Places::new(DialOrder::AsListed);
         assert_eq!(none.host(&Hosts::default(), 0), None);
     }
 
@@ -369,11 +369,11 @@ mod tests {
         let found: Vec<_> = [1, 2, 3]
             .map(|last| SocketAddr::from(([10, 0, 0, last], 1)))
             .into();
-        let mut addresses = Addresses::new(Order::AsListed);
+        let mut addresses = Addresses::new(DialOrder::AsListed);
         let listed: Vec<_> = (0..4).map(|_| addresses.next_of(&found, 0)).collect();
         let in_turn = [found[0], found[1], found[2], found[0]].map(Some);
         assert_eq!(listed, in_turn);
-        let mut addresses = Addresses::new(Order::Shuffled);
+        let mut addresses = Addresses::new(DialOrder::Shuffled);
         for round in 0..5_u64 {
             let mut dialled: Vec<_> = (0..3)
                 .map(|turn| addresses.next_of(&found, round * 7 + turn).unwrap())
@@ -387,7 +387,7 @@ mod tests {
     #[test]
     fn an_address_is_looked_up_as_it_is() {
         let hosts: Hosts = "127.0.0.1:7".parse().unwrap();
-        let mut addresses = Addresses::new(Order::Shuffled);
+        let mut addresses = Addresses::new(DialOrder::Shuffled);
         let address = addresses.of(&hosts.hosts[0]).unwrap();
         assert_eq!(address, SocketAddr::from(([127, 0, 0, 1], 7)));
     }

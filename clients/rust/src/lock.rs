@@ -1,10 +1,10 @@
 //! Locks and elections, over the calls of a session. The core decides which contender comes first; the rest is tested, and not proved.
 
+use crate::cache::Mark;
 use crate::deletions::{child_of, Place};
 use crate::error::{Error, ErrorKind};
 use crate::fault::Code;
-use crate::hosts::chance;
-use crate::kept::Mark;
+use crate::hosts::random;
 use crate::node::Mode;
 use crate::request::Request;
 use crate::session::Session;
@@ -112,7 +112,7 @@ impl LockNames {
 
     /// The beginning of a name that nobody else has: the tag tells a place from others where the answer to its create is lost.
     fn new_tag(self, sharing: Sharing) -> String {
-        let (one, other) = (chance(), chance());
+        let (one, other) = (random(), random());
         let marker = self.marker(sharing);
         match self {
             LockNames::Kazoo => format!("{one:016x}{other:016x}{marker}"),

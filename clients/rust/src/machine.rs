@@ -1,19 +1,14 @@
 //! A session as a machine.
 
+mod look_ups;
+
 use crate::action::Actions;
-use crate::fault::{done, Fault};
-use crate::ffi::{Call, Handle, KeptData, Settings};
-use crate::kept::{mark_of, Children, DataAnswer, Kept, Mark};
-use crate::looking::{for_each_call, look_ups_of_handle, steps_of_handle};
-use crate::looking::{no_path_among, texts_in, timeout_ms, whole, whole_in, whole_text};
+use crate::fault::Fault;
+use crate::ffi::{Call, Handle, Settings};
 use crate::moment::Moment;
 use crate::node::{Mode, Side, Watch};
-use crate::numbers::result;
 use crate::raw::RawOperation;
 use crate::saved::SavedSession;
-use crate::snapshot::{snapshot_in, Snapshot};
-use crate::standing::{spelled, Contender, Standing};
-use crate::subtree::{lacking_in, nodes_in, Lacking, Subtree};
 use std::fmt;
 use std::time::Duration;
 
@@ -165,6 +160,11 @@ impl Machine {
     }
 }
 
+/// The number of milliseconds of a timeout, in whole ones.
+fn timeout_ms(timeout: Duration) -> Result<i32, Fault> {
+    i32::try_from(timeout.as_millis()).map_err(|_| Fault::BadTimeout)
+}
+
 /// How a machine begins, as the library is told.
 fn settings(
     timeout: Duration,
@@ -210,7 +210,39 @@ impl Machine {
         self.step(|handle| handle.cut(now))
     }
 
-    steps_of_handle! { Machine, Handle, Actions }
+    fn of(handle: Handle) -> Result<Machine, Fault> {
+        let state = State::try_from(handle.state())?;
+        Ok(Machine { handle, state })
+    }
+
+    /// Takes a step. The state is noted, also where the step has failed.
+    fn step(
+        &mut self,
+        step: impl FnOnce(&mut Handle) -> Result<(), Fault>,
+    ) -> Result<Actions<'_>, Fault> {
+        let done = step(&mut self.handle);
+        self.state = State::try_from(self.handle.state())?;
+        done?;
+        Ok(Actions::of(self))
+    }
+
+    /// A moment, and nothing else: at the latest at the [`deadline`](Self::deadline).
+    ///
+    /// # Errors
+    ///
+    /// [`Fault::Halted`] and [`Fault::UnknownNumber`].
+    pub fn tick(&mut self, now: Moment) -> Result<Actions<'_>, Fault> {
+        self.step(|handle| handle.moment(now))
+    }
+
+    /// Bytes came from the server, in any pieces.
+    ///
+    /// # Errors
+    ///
+    /// [`Fault::Halted`], [`Fault::UnknownNumber`], and [`Fault::NoMemory`]: then the same bytes can be handed in again.
+    pub fn bytes(&mut self, now: Moment, bytes: &[u8]) -> Result<Actions<'_>, Fault> {
+        self.step(|handle| handle.bytes(now, bytes))
+    }
 
     /// The list of addresses is another one, of this many, and they are dialled in a new order. A connection that is there stays.
     ///
@@ -338,7 +370,26 @@ macro_rules! calls {
 /// a write is answered [`ConnectionLoss`](crate::NoReply::ConnectionLoss). No other call or subject has or had the ticket. What is to be
 /// kept good is [followed](Machine::follow).
 impl Machine {
-    for_each_call! { calls }
+    calls! {
+        /// Asks whether there is a node, and what is known of it.
+        exists(watch: Watch);
+
+        /// Asks for the data of a node. Where there is no node it leaves no watch: [`exists`](Self::exists) does.
+        get_data(watch: Watch);
+
+        /// Asks for the names of the children of a node. Where there is no node it leaves no watch.
+        get_children(watch: Watch);
+
+        /// Asks to set the data of a node: none are null data. The version is the one that the node has to have, or
+        /// [`ANY_VERSION`](crate::ANY_VERSION).
+        set_data(data: Option<&[u8]>, version: i32);
+
+        /// Asks to make a node, with these data: none are null data.
+        create(data: Option<&[u8]>, mode: Mode);
+
+        /// Asks to delete a node. The version is as of [`set_data`](Self::set_data).
+        delete(version: i32);
+    }
 
     /// Asks for another operation, with what stands after the header of its request, as `zookeeper.jute` spells its record. The core adds the
     /// header, and reads none of these bytes: 8 less than [`Limits::longest_request`] at most, else it is answered [`TooLarge`](crate::NoReply::TooLarge). A reply without
@@ -372,41 +423,6 @@ impl Machine {
     ) -> Result<Actions<'_>, Fault> {
         let call = call(now, ticket, until, "");
         self.step(|handle| handle.close_session(call))
-    }
-}
-
-/// Look-ups. They ask nobody, and serve after [`Fault::Halted`] too, when nothing is kept.
-impl Machine {
-    /// The first moment at which something is due: a ping, the end of an attempt, a dial, a read, a limit. None where nothing ever is. It
-    /// changes with each step.
-    pub fn deadline(&self) -> Option<Moment> {
-        self.handle.deadline()
-    }
-
-    /// The moment at which the server was heard last, on any connection, and none where it was not heard yet. What is kept and good was so
-    /// at some moment from then on, or was reported after it.
-    pub fn heard_at(&self) -> Option<Moment> {
-        self.handle.heard_at()
-    }
-
-    look_ups_of_handle! {}
-
-    /// What a [`subtree`](Machine::subtree) has, as the library spells it. A tree that is looked at again is mostly as long as it was: it
-    /// is given more room than that.
-    pub(crate) fn spelled_subtree(
-        &self,
-        path: &str,
-        most: usize,
-        room: &mut usize,
-    ) -> Result<Option<Vec<u8>>, Fault> {
-        match whole_in(*room, |room| self.handle.subtree(path, most, room)) {
-            Ok(spelled) => {
-                *room = (*room).max(spelled.len() + spelled.len() / 8);
-                Ok(Some(spelled))
-            }
-            Err(Fault::NotWhole) => Ok(None),
-            Err(other) => Err(other),
-        }
     }
 }
 

@@ -1,20 +1,21 @@
 //! How a session is opened.
 
+use crate::connection::{Dial, Tcp};
 use crate::credentials::Credential;
-use crate::engine::{Beginning, Engine};
+use crate::driver::Driver;
+use crate::engine::{Engine, EngineOptions};
 use crate::error::Error;
 use crate::fault::Fault;
-use crate::hosts::{Hosts, HostsFault, Order};
-use crate::keeper::{Keeper, Shared};
-use crate::local::LocalSession;
+use crate::hosts::{DialOrder, Hosts, HostsFault};
+use crate::local_session::LocalSession;
 use crate::machine::Limits;
 use crate::outbox::Writer;
 use crate::retry::Retry;
 use crate::sasl::{Begin, LogIn, LoggingIn};
 use crate::saved::SavedSession;
 use crate::session::Session;
+use crate::shared::Shared;
 use crate::stats::{Observation, Observer};
-use crate::stream::{Dial, Tcp};
 use std::convert::Infallible;
 use std::error;
 use std::fmt;
@@ -107,7 +108,7 @@ impl From<Infallible> for OpenError {
 #[must_use = "it opens nothing by itself"]
 pub struct SessionOptions {
     timeout: Duration,
-    order: Order,
+    order: DialOrder,
     renews: bool,
     pub(crate) retry: Retry,
     pub(crate) limit: Option<Duration>,
@@ -128,7 +129,7 @@ impl SessionOptions {
     pub fn new(timeout: Duration) -> SessionOptions {
         SessionOptions {
             timeout,
-            order: Order::Shuffled,
+            order: DialOrder::Shuffled,
             renews: false,
             retry: Retry::never(),
             limit: None,
@@ -146,9 +147,9 @@ impl SessionOptions {
     /// many clients spread over many servers. Of a name that has several addresses each is dialled in turn.
     pub fn shuffles(mut self, shuffles: bool) -> SessionOptions {
         self.order = if shuffles {
-            Order::Shuffled
+            DialOrder::Shuffled
         } else {
-            Order::AsListed
+            DialOrder::AsListed
         };
         self
     }
@@ -294,8 +295,8 @@ impl SessionOptions {
         OpenError: From<H::Error>,
     {
         let (retry, limit, renews) = (self.retry, self.limit, self.renews);
-        let keeper = self.keeper(hosts.try_into()?, Writer::Passing)?;
-        Session::kept_by(keeper, retry, limit, renews).map_err(OpenError::Thread)
+        let driver = self.driver(hosts.try_into()?, Writer::Passing)?;
+        Session::driven_by(driver, retry, limit, renews).map_err(OpenError::Thread)
     }
 
     /// Opens a session without a thread, for a loop of the program's own. It dials at the first call.
@@ -309,12 +310,12 @@ impl SessionOptions {
         OpenError: From<H::Error>,
     {
         let (retry, limit, renews) = (self.retry, self.limit, self.renews);
-        let keeper = self.keeper(hosts.try_into()?, Writer::Alone)?;
-        Ok(LocalSession::kept_by(keeper, retry, limit, renews))
+        let driver = self.driver(hosts.try_into()?, Writer::Alone)?;
+        Ok(LocalSession::driven_by(driver, retry, limit, renews))
     }
 
-    fn keeper(self, hosts: Hosts, writer: Writer) -> Result<Keeper, Fault> {
-        let engine = Engine::new(Beginning {
+    fn driver(self, hosts: Hosts, writer: Writer) -> Result<Driver, Fault> {
+        let engine = Engine::new(EngineOptions {
             timeout: self.timeout,
             limits: self.limits,
             hosts,
@@ -334,7 +335,7 @@ impl SessionOptions {
             }),
             None => dial,
         };
-        Ok(Keeper::new(shared, dial, self.order))
+        Ok(Driver::new(shared, dial, self.order))
     }
 }
 

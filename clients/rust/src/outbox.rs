@@ -1,6 +1,6 @@
 //! Frames that wait to be written to a server. One thread at a time writes them, without the lock of the session.
 
-use crate::stream::{is_late, Outgoing};
+use crate::connection::{is_late, Outgoing};
 use std::io;
 use std::mem;
 use std::sync::{Arc, Mutex, MutexGuard, PoisonError};
@@ -179,7 +179,7 @@ impl Outbox {
 #[cfg(test)]
 mod tests {
     use super::{Outbox, Writer, Written};
-    use crate::stream::Outgoing;
+    use crate::connection::Outgoing;
     use std::io::{self, ErrorKind};
     use std::sync::{Arc, Mutex};
     use std::time::Duration;

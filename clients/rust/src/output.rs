@@ -1,8 +1,8 @@
 //! What the actions of a machine bring: bytes, texts and names, which stay in the library until they are copied.
 
+use crate::buffer::{copy_whole, copy_whole_in, text_of, TextList};
 use crate::fault::{Code, Fault, NoReply, UnknownNumber};
 use crate::ffi::{self, Handle};
-use crate::looking::{whole, whole_in, whole_text, Spelled};
 use crate::node::Stat;
 use crate::numbers::{brought, cause, outcome};
 use std::convert::Infallible;
@@ -255,7 +255,7 @@ impl Text<'_> {
 
 impl From<Text<'_>> for String {
     fn from(text: Text<'_>) -> String {
-        whole_text(text.bytes.to_vec())
+        text_of(text.bytes.to_vec())
     }
 }
 
@@ -271,7 +271,7 @@ impl fmt::Debug for Text<'_> {
     }
 }
 
-/// The room that each of many names is given at first.
+/// The least room for each of many names, with its length, before it is known how much they need.
 const ROOM_OF_NAME: usize = 32;
 
 /// Names of children, which stay in the library until they are copied.
@@ -324,20 +324,21 @@ impl<'a> Names<'a> {
         Ok(self.spelled()?.texts())
     }
 
-    /// The same, before they are read.
-    pub(crate) fn spelled(&self) -> Result<Spelled, Fault> {
-        let room = self.count * ROOM_OF_NAME;
-        let bytes = whole_in(room, |room| self.handle.names(room))?;
+    /// The same, before they are read. The session waits meanwhile, so they are copied once: the names of a lock are as long as the first.
+    pub(crate) fn spelled(&self) -> Result<TextList, Fault> {
+        let of_first = self.handle.name(0, &mut []) + 4;
+        let room = self.count * of_first.max(ROOM_OF_NAME);
+        let bytes = copy_whole_in(room, |room| self.handle.names(room))?;
         let count = self.count;
-        Ok(Spelled { count, bytes })
+        Ok(TextList { count, bytes })
     }
 
     /// Copies of them, in the order of the reply, by a call for each.
     pub fn iter(&self) -> impl Iterator<Item = String> + 'a {
         let handle = self.handle;
         (0..self.count).map(move |index| {
-            let name = whole(|room| Ok::<usize, Infallible>(handle.name(index, room)));
-            whole_text(name.unwrap_or_else(|never| match never {}))
+            let name = copy_whole(|room| Ok::<usize, Infallible>(handle.name(index, room)));
+            text_of(name.unwrap_or_else(|never| match never {}))
         })
     }
 }
@@ -431,6 +432,6 @@ impl GivenUp<'_> {
     /// [`Fault::NoMemory`] where there is no memory for them.
     pub fn words(&self) -> Result<String, Fault> {
         let handle = self.code.bytes.handle;
-        whole(|room| handle.words(room)).map(whole_text)
+        copy_whole(|room| handle.words(room)).map(text_of)
     }
 }

@@ -79,9 +79,9 @@ impl fmt::Display for PathFault {
 }
 
 /// A path as an error prints it: control characters are spelled out, and no more of it is there than is read.
-pub(crate) struct Shown<'a>(pub(crate) &'a str);
+pub(crate) struct Escaped<'a>(pub(crate) &'a str);
 
-impl fmt::Display for Shown<'_> {
+impl fmt::Display for Escaped<'_> {
     fn fmt(&self, f: &mut fmt::Formatter<'_>) -> fmt::Result {
         if self.0.is_empty() {
             return f.write_str("\"\"");
@@ -102,7 +102,7 @@ impl fmt::Display for Shown<'_> {
 
 #[cfg(test)]
 mod tests {
-    use super::{PathFault, Shown};
+    use super::{Escaped, PathFault};
 
     #[test]
     fn the_first_fault_is_told() {
@@ -138,13 +138,13 @@ mod tests {
 
     #[test]
     fn a_path_is_shown_on_one_line() {
-        assert_eq!(Shown("/a b/ä").to_string(), "/a b/ä");
-        assert_eq!(Shown("/a\nb\0").to_string(), "/a\\nb\\u{0}");
-        assert_eq!(Shown("").to_string(), "\"\"");
+        assert_eq!(Escaped("/a b/ä").to_string(), "/a b/ä");
+        assert_eq!(Escaped("/a\nb\0").to_string(), "/a\\nb\\u{0}");
+        assert_eq!(Escaped("").to_string(), "\"\"");
         let name = "ä".repeat(255);
-        assert_eq!(Shown(&format!("/{name}")).to_string(), format!("/{name}"));
+        assert_eq!(Escaped(&format!("/{name}")).to_string(), format!("/{name}"));
         assert_eq!(
-            Shown(&format!("/{name}x")).to_string(),
+            Escaped(&format!("/{name}x")).to_string(),
             format!("/{name}..")
         );
     }

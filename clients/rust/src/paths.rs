@@ -1,17 +1,17 @@
 //! Nodes with all that are above them, or below.
 
-use crate::both::Asks;
 use crate::deletions::child_of;
 use crate::error::Error;
 use crate::fault::{Code, NoReply};
 use crate::node::{Mode, ANY_VERSION};
 use crate::request::Request;
+use crate::session_methods::Caller;
 
 /// How often a request is asked again whose answer was lost: to make, or to delete, what is so already does no harm.
 const MOST_LOSSES: usize = 8;
 
 /// Asks, and again where the answer is lost.
-fn surely<T>(session: &mut impl Asks, request: &Request<T>) -> Result<T, Error> {
+fn surely<T>(session: &mut impl Caller, request: &Request<T>) -> Result<T, Error> {
     for _ in 0..MOST_LOSSES {
         match session.answer(request.clone()) {
             Err(error) if error.no_reply() == Some(NoReply::ConnectionLoss) => {}
@@ -31,7 +31,7 @@ pub(crate) fn parent_of(path: &str) -> Option<&str> {
 }
 
 /// Makes a node without data, and those above it, as far as they are not there.
-pub(crate) fn ensure(session: &mut impl Asks, path: &str) -> Result<(), Error> {
+pub(crate) fn ensure(session: &mut impl Caller, path: &str) -> Result<(), Error> {
     let mut missing = Vec::new();
     let mut next = Some(path);
     while let Some(path) = next {
@@ -56,7 +56,7 @@ pub(crate) fn ensure(session: &mut impl Asks, path: &str) -> Result<(), Error> {
 }
 
 /// Deletes a node and all that are below it, from below: how many.
-pub(crate) fn delete_all(session: &mut impl Asks, path: &str) -> Result<usize, Error> {
+pub(crate) fn delete_all(session: &mut impl Caller, path: &str) -> Result<usize, Error> {
     let mut left = vec![String::from(path)];
     let mut count = 0;
     while let Some(path) = left.pop() {

@@ -1,10 +1,10 @@
 //! Entries that each go to one of those that take them. Tested, and not proved.
 
+use crate::cache::Mark;
 use crate::deletions::child_of;
 use crate::error::Error;
 use crate::fault::Code;
-use crate::hosts::chance;
-use crate::kept::Mark;
+use crate::hosts::random;
 use crate::node::Mode;
 use crate::request::Request;
 use crate::session::Session;
@@ -88,7 +88,7 @@ impl<'a> Queue<'a> {
     ///
     /// As [`put`](Queue::put).
     pub fn put_with_priority(&self, data: &[u8], priority: u16) -> Result<String, Error> {
-        let (one, other) = (chance(), chance());
+        let (one, other) = (random(), random());
         let priority = priority.min(LAST_PRIORITY);
         let tag = format!("entry-{priority:03}-{one:016x}{other:016x}-");
         let place = child_of(&self.path, &tag);

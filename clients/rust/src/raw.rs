@@ -1,13 +1,13 @@
 //! Calls whose records this crate spells and reads, as `zookeeper.jute` has them. The core carries them, and looks at no byte of them.
 
 use crate::acl::Acl;
+use crate::answer::{Answer, Outcome, RawAnswer};
 use crate::chroot::Chroot;
 use crate::fault::Fault;
 use crate::jute::{Reader, Writer};
 use crate::multi_read::{self, Read};
 use crate::node::Mode;
 use crate::numbers::operation;
-use crate::told::{Found, Outcome, Records};
 use crate::transaction::{self, Operation};
 use std::time::Duration;
 
@@ -203,7 +203,7 @@ impl RawCall {
     /// What stands after the header of its reply. None where that does not read.
     pub(crate) fn read(&self, body: &[u8], root: &Chroot) -> Option<Outcome> {
         let mut reply = Reader::new(body);
-        let (mut found, mut records) = (Found::default(), Records::default());
+        let (mut found, mut records) = (Answer::default(), RawAnswer::default());
         match self {
             RawCall::Sync => drop(reply.text()?),
             RawCall::Acls => {
@@ -238,11 +238,11 @@ impl RawCall {
 mod tests {
     use super::{Lifetime, RawCall};
     use crate::acl::{Acl, Id, Permissions};
+    use crate::answer::{Answer, RawAnswer};
     use crate::chroot::Chroot;
     use crate::fault::{Code, Fault};
     use crate::multi_read::{Read, ReadAnswer};
     use crate::node::{Mode, Node, Stat};
-    use crate::told::{Found, Records};
     use crate::transaction::{Change, Operation};
     use std::time::Duration;
 
@@ -379,9 +379,9 @@ mod tests {
     }
 
     /// Each call, a body of a reply, and what it says.
-    fn answers() -> Vec<(RawCall, Vec<u8>, Found, Records)> {
-        let (none, records) = (Found::default, Records::default);
-        let with_stat = || Found {
+    fn answers() -> Vec<(RawCall, Vec<u8>, Answer, RawAnswer)> {
+        let (none, records) = (Answer::default, RawAnswer::default);
+        let with_stat = || Answer {
             stat: stat(),
             ..none()
         };
@@ -402,8 +402,8 @@ mod tests {
     }
 
     /// The same, of those that bring records alone.
-    fn answers_of_records() -> Vec<(RawCall, Vec<u8>, Found, Records)> {
-        let (none, records) = (Found::default, Records::default);
+    fn answers_of_records() -> Vec<(RawCall, Vec<u8>, Answer, RawAnswer)> {
+        let (none, records) = (Answer::default, RawAnswer::default);
         let (data, stat) = (None, stat());
         let (mut changes, mut answers, mut count, mut ids) =
             (records(), records(), records(), records());
@@ -437,7 +437,7 @@ mod tests {
         for (call, body, found, records) in answers().into_iter().chain(answers_of_records()) {
             let number = call.operation().number();
             let records = Some(Box::new(records));
-            let told = Found { records, ..found };
+            let told = Answer { records, ..found };
             assert_eq!(call.read(&body, &app()), Some(Ok(told)), "{number}");
         }
     }

@@ -1,8 +1,8 @@
 //! A node that says that a process is there. Tested, and not proved.
 
+use crate::cache::Mark;
 use crate::error::Error;
 use crate::fault::{Code, NoReply};
-use crate::kept::Mark;
 use crate::node::{Mode, ANY_VERSION};
 use crate::request::Request;
 use crate::session::SharedSession;
@@ -37,13 +37,13 @@ const BETWEEN_REFUSALS: Duration = Duration::from_secs(1);
 #[derive(Debug)]
 #[must_use = "to drop it gives the registration up"]
 pub struct Registration {
-    keeper: Keeper,
+    registrar: Registrar,
     thread: Option<JoinHandle<Result<(), Error>>>,
 }
 
 /// What the thread of a registration has.
 #[derive(Clone, Debug)]
-struct Keeper {
+struct Registrar {
     session: SharedSession,
     path: String,
     data: Vec<u8>,
@@ -57,22 +57,24 @@ impl Registration {
     ///
     /// That the system has not made a thread.
     pub fn begin(session: &SharedSession, path: &str, data: &[u8]) -> io::Result<Registration> {
-        let keeper = Keeper {
+        let registrar = Registrar {
             session: session.clone(),
             path: String::from(path),
             data: data.to_vec(),
             is_over: Arc::default(),
         };
-        let kept = keeper.clone();
+        let kept = registrar.clone();
         let thread = Builder::new().name(String::from("dirwolleu"));
         let thread = Some(thread.spawn(move || kept.keep())?);
-        Ok(Registration { keeper, thread })
+        Ok(Registration { registrar, thread })
     }
 
     /// Whether the node is there and is of this session, as far as the session knows.
     #[must_use]
     pub fn is_registered(&self) -> bool {
-        self.keeper.session.view(|view| self.keeper.is_mine(view))
+        self.registrar
+            .session
+            .view(|view| self.registrar.is_mine(view))
     }
 
     /// Gives the registration up: the node is deleted, where it is of this session.
@@ -81,7 +83,7 @@ impl Registration {
     ///
     /// Why it could not be kept, or not be deleted. It goes with the session at the latest.
     pub fn end(mut self) -> Result<(), Error> {
-        self.keeper.stop();
+        self.registrar.stop();
         let thread = self.thread.take();
         let ended = thread.map(JoinHandle::join);
         ended.and_then(Result::ok).unwrap_or(Ok(()))
@@ -90,11 +92,11 @@ impl Registration {
 
 impl Drop for Registration {
     fn drop(&mut self) {
-        self.keeper.stop();
+        self.registrar.stop();
     }
 }
 
-impl Keeper {
+impl Registrar {
     fn stop(&self) {
         self.is_over.store(true, Ordering::SeqCst);
         self.session.wake();

@@ -2,6 +2,7 @@
 
 use crate::acl::{Acl, Id};
 use crate::action::Actions;
+use crate::answer::Answer;
 use crate::credentials::Credential;
 use crate::error::Error;
 use crate::fault::{Code, Fault};
@@ -10,8 +11,7 @@ use crate::moment::Moment;
 use crate::multi_read::{Read, ReadAnswer};
 use crate::node::{Mode, Node, Stat, Watch};
 use crate::raw::{Lifetime, RawCall};
-use crate::ticket::Ending;
-use crate::told::Found;
+use crate::ticket::CallResult;
 use std::fmt;
 use std::time::Duration;
 
@@ -116,11 +116,15 @@ impl Asked {
 #[must_use = "it is not sent before it is asked"]
 pub struct Request<T> {
     pub(crate) asked: Asked,
-    pub(crate) read: fn(Ending) -> Result<T, Error>,
+    pub(crate) read: fn(CallResult) -> Result<T, Error>,
 }
 
 impl<T> Request<T> {
-    pub(crate) fn new(path: &str, call: Call, read: fn(Ending) -> Result<T, Error>) -> Request<T> {
+    pub(crate) fn new(
+        path: &str,
+        call: Call,
+        read: fn(CallResult) -> Result<T, Error>,
+    ) -> Request<T> {
         let (path, limit) = (String::from(path), None);
         Request {
             asked: Asked { path, call, limit },
@@ -182,7 +186,7 @@ impl Request<Node> {
     /// The data of a node. Where there is none the answer is [`Code::NO_NODE`].
     pub fn get(path: &str) -> Request<Node> {
         Request::new(path, Call::Core(CoreCall::Data(Watch::No)), |ending| {
-            let Found { data, stat, .. } = ending?;
+            let Answer { data, stat, .. } = ending?;
             Ok(Node { data, stat })
         })
     }

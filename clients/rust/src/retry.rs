@@ -2,7 +2,7 @@
 
 use crate::error::Error;
 use crate::fault::NoReply;
-use crate::hosts::chance;
+use crate::hosts::random;
 use crate::request::Request;
 use std::time::{Duration, Instant};
 
@@ -13,10 +13,10 @@ const FIRST_PAUSE: Duration = Duration::from_millis(100);
 const LONGEST_PAUSE: Duration = Duration::from_secs(1);
 
 /// By chance between a half of this duration and the whole, in milliseconds.
-fn spread(longest: Duration, chance: u64) -> Duration {
+fn spread(longest: Duration, random: u64) -> Duration {
     let whole = u64::try_from(longest.as_millis()).unwrap_or(u64::MAX);
     let half = whole / 2;
-    Duration::from_millis(half + chance % (whole - half + 1))
+    Duration::from_millis(half + random % (whole - half + 1))
 }
 
 /// How often a call is asked again that has failed for a reason that passes ([`Error::is_passing`](crate::Error::is_passing)).
@@ -50,7 +50,7 @@ impl Retry {
     /// The pauses before a call is asked again.
     pub(crate) fn pauses(self) -> impl Iterator<Item = Duration> {
         let longest = |time: u32| FIRST_PAUSE.saturating_mul(1 << time.min(8));
-        (0..self.times).map(move |time| spread(longest(time).min(LONGEST_PAUSE), chance()))
+        (0..self.times).map(move |time| spread(longest(time).min(LONGEST_PAUSE), random()))
     }
 }
 

@@ -1,8 +1,8 @@
 //! SASL: a session says who it is by challenges and tokens, on each connection before anything else is asked over it. What the server has
 //! said of the session is kept back meanwhile, so that to the machine the server was slow to accept.
 
+use crate::connection::{Connection, Dial, Incoming, Outgoing, Server};
 use crate::jute::{Reader, Writer};
-use crate::stream::{Connection, Dial, Incoming, Outgoing, Server};
 use std::error::Error;
 use std::fmt;
 use std::io;
@@ -141,7 +141,7 @@ impl Half {
             match self.write(&bytes[written..], WRITE_WAIT) {
                 Ok(0) => return Err(io::ErrorKind::WriteZero.into()),
                 Ok(count) => written += count,
-                Err(fault) if crate::stream::is_late(&fault) && Instant::now() < until => {}
+                Err(fault) if crate::connection::is_late(&fault) && Instant::now() < until => {}
                 Err(fault) => return Err(fault),
             }
         }
@@ -160,8 +160,8 @@ impl Outgoing for Held {
         if self.half.is_over.load(Ordering::Acquire) {
             return self.half.write(bytes, wait);
         }
-        let whole = bytes.get(..4).and_then(|length| length.try_into().ok());
-        let frame = whole.map_or(bytes.len(), |length| {
+        let copy_whole = bytes.get(..4).and_then(|length| length.try_into().ok());
+        let frame = copy_whole.map_or(bytes.len(), |length| {
             4 + u32::from_be_bytes(length) as usize
         });
         let left = *self.left.get_or_insert(frame);

@@ -1,10 +1,10 @@
 //! A lock that several hold at a time. The core decides who takes the next lease; the rest is tested, and not proved.
 
+use crate::cache::Mark;
 use crate::deletions::{child_of, Place};
 use crate::error::{Error, ErrorKind};
 use crate::fault::Code;
-use crate::hosts::chance;
-use crate::kept::Mark;
+use crate::hosts::random;
 use crate::lock::{Claim, Lock, LockNames, LockOptions};
 use crate::node::{Mode, ANY_VERSION};
 use crate::paths::parent_of;
@@ -184,7 +184,7 @@ impl<'a> Semaphore<'a> {
         data: &[u8],
         until: Option<Instant>,
     ) -> Result<Option<Lease<'a>>, Error> {
-        let name = format!("{:016x}{:016x}", chance(), chance());
+        let name = format!("{:016x}{:016x}", random(), random());
         let mut claim = Claim::none(self.session);
         loop {
             match self.session.watch_children(&self.path) {

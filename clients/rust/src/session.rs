@@ -1,15 +1,15 @@
 //! A session that a thread of its own keeps alive.
 
 use crate::acl::{Acl, Id};
-use crate::both::{calls, look_ups, watch, Asks};
+use crate::cache::{Children, DataAnswer, Kept, Mark};
+use crate::driver::Driver;
 use crate::engine::Engine;
 use crate::error::Error;
+use crate::events::Event;
 use crate::events::Events;
 use crate::fault::{Code, Fault};
 use crate::follow::Follow;
 use crate::hosts::Hosts;
-use crate::keeper::{ask, Keeper, Poller, Shared};
-use crate::kept::{Children, DataAnswer, Kept, Mark};
 use crate::machine::State;
 use crate::multi_read::{Read, ReadAnswer};
 use crate::node::{Mode, Node, Stat};
@@ -18,10 +18,11 @@ use crate::paths;
 use crate::request::Request;
 use crate::retry::{is_expired, Retry, Tries};
 use crate::saved::SavedSession;
+use crate::session_methods::{calls, look_ups, watch, Caller};
+use crate::shared::{ask, Poller, Shared};
 use crate::snapshot::Snapshot;
 use crate::stats::Stats;
 use crate::ticket::Ticket;
-use crate::told::Event;
 use crate::transaction::Transaction;
 use crate::tree::{Tree, MOST_NODES};
 use crate::view::View;
@@ -95,15 +96,15 @@ impl Session {
     }
 
     /// A session whose keeper runs in a thread.
-    pub(crate) fn kept_by(
-        keeper: Keeper,
+    pub(crate) fn driven_by(
+        driver: Driver,
         retry: Retry,
         limit: Option<Duration>,
         renews: bool,
     ) -> io::Result<Session> {
-        let shared = Arc::clone(keeper.shared());
+        let shared = Arc::clone(driver.shared());
         let thread = Builder::new().name(String::from("dirwolleu"));
-        thread.spawn(move || keeper.run())?;
+        thread.spawn(move || driver.run())?;
         Ok(Session {
             shared,
             retry,
@@ -211,7 +212,7 @@ impl Session {
     }
 }
 
-impl Asks for &Session {
+impl Caller for &Session {
     fn answer<T>(&mut self, request: Request<T>) -> Result<T, Error> {
         self.call(request)
     }
@@ -256,8 +257,8 @@ impl Session {
     }
 
     /// Waits until there are news of what is followed by this ticket, or the session is over.
-    pub(crate) fn wait_for_news(&self, ticket: u64) {
-        self.wait_while(None, |engine| !engine.has_news(ticket));
+    pub(crate) fn wait_for_update(&self, ticket: u64) {
+        self.wait_while(None, |engine| !engine.has_update(ticket));
     }
 
     /// One that polls.
@@ -325,7 +326,7 @@ impl Session {
     ///
     /// As [`tree`](Session::tree).
     pub fn bounded_tree(&self, path: &str, most: usize) -> Result<Tree, Fault> {
-        let shown = self.shared.with(|engine| engine.plant(path, most))?;
+        let shown = self.shared.with(|engine| engine.open_tree(path, most))?;
         Ok(Tree::new(Arc::clone(&self.shared), shown))
     }
 

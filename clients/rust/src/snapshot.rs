@@ -1,9 +1,9 @@
 //! What is kept of several paths, all of it of one moment.
 
+use crate::buffer::texts_in;
+use crate::cache::{Children, DataAnswer};
 use crate::fault::UnknownNumber;
 use crate::jute::Reader;
-use crate::kept::{Children, DataAnswer};
-use crate::looking::texts_in;
 use crate::numbers::kept;
 use crate::subtree::{buffer, data_stat};
 

@@ -75,14 +75,3 @@ pub enum Standing {
     /// Neither is shown: read the session's node with a watch, or list again.
     Unsure,
 }
-
-/// Texts, each after its length in four bytes.
-pub(crate) fn spelled<'a>(texts: impl Iterator<Item = &'a str>) -> Vec<u8> {
-    let mut bytes = Vec::new();
-    for text in texts {
-        let length = u32::try_from(text.len()).unwrap_or(u32::MAX);
-        bytes.extend(length.to_be_bytes());
-        bytes.extend(text.as_bytes());
-    }
-    bytes
-}

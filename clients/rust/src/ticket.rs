@@ -1,10 +1,10 @@
 //! Tickets for answers that are still to come.
 
+use crate::answer::{Answer, Outcome};
 use crate::error::{Error, ErrorKind, Search};
 use crate::moment::{Clock, Moment};
-use crate::signal::Signal;
+use crate::notify::Notify;
 use crate::stats::{CallKind, CallOutcome, Observation};
-use crate::told::{Found, Outcome};
 use std::fmt;
 use std::future::Future;
 use std::mem;
@@ -19,13 +19,13 @@ enum Stage {
     /// There is no answer yet. The waker is that of the last poll.
     Waits(Option<Waker>),
     /// There is one.
-    Told(Ending),
+    Answered(CallResult),
     /// It was taken.
     Taken,
 }
 
 /// How a call ends.
-pub(crate) type Ending = Result<Found, Error>;
+pub(crate) type CallResult = Result<Answer, Error>;
 
 /// Where the answer to a call is put.
 #[derive(Debug)]
@@ -34,7 +34,7 @@ pub(crate) struct Slot {
     kind: CallKind,
     asked_at: Instant,
     stage: Mutex<Stage>,
-    is_told: Signal,
+    answered: Notify,
 }
 
 impl Slot {
@@ -45,7 +45,7 @@ impl Slot {
             kind,
             asked_at: Instant::now(),
             stage: Mutex::new(Stage::Waits(None)),
-            is_told: Signal::default(),
+            answered: Notify::default(),
         })
     }
 
@@ -54,7 +54,7 @@ impl Slot {
     }
 
     /// How the call ends with this outcome, after this search for a server where there was one.
-    pub(crate) fn ending(&self, outcome: Outcome, search: Option<&Search>) -> Ending {
+    pub(crate) fn ending(&self, outcome: Outcome, search: Option<&Search>) -> CallResult {
         outcome.map_err(|kind| {
             let error = Error::about(self.node.as_deref(), kind);
             match search {
@@ -65,13 +65,13 @@ impl Slot {
     }
 
     /// What the call was about, what has come of it where it ends so, and the time since it was asked.
-    pub(crate) fn came(&self, ending: &Ending) -> (CallKind, CallOutcome, Duration) {
+    pub(crate) fn came(&self, ending: &CallResult) -> (CallKind, CallOutcome, Duration) {
         let outcome = CallOutcome::of(ending.as_ref().err().map(Error::kind));
         (self.kind, outcome, self.asked_at.elapsed())
     }
 
     /// What is observed of the call where it ends so.
-    pub(crate) fn observed(&self, ending: &Ending) -> Observation {
+    pub(crate) fn observed(&self, ending: &CallResult) -> Observation {
         let (kind, outcome, took) = self.came(ending);
         Observation::Answered {
             kind,
@@ -84,9 +84,9 @@ impl Slot {
     }
 
     /// Puts the answer there, and wakes who waits for it.
-    pub(crate) fn tell(&self, ending: Ending) {
-        let before = mem::replace(&mut *self.stage(), Stage::Told(ending));
-        self.is_told.tell_all();
+    pub(crate) fn tell(&self, ending: CallResult) {
+        let before = mem::replace(&mut *self.stage(), Stage::Answered(ending));
+        self.answered.notify_all();
         if let Stage::Waits(Some(waker)) = before {
             waker.wake();
         }
@@ -97,12 +97,12 @@ impl Slot {
         self.asked_at
     }
 
-    pub(crate) fn is_told(&self) -> bool {
+    pub(crate) fn answered(&self) -> bool {
         !matches!(*self.stage(), Stage::Waits(_))
     }
 
     /// The answer, once it is there. None where it is not there by this instant.
-    pub(crate) fn wait(&self, until: Option<Instant>) -> Option<Ending> {
+    pub(crate) fn wait(&self, until: Option<Instant>) -> Option<CallResult> {
         let mut stage = self.stage();
         loop {
             if let Some(ending) = take(&mut stage) {
@@ -112,11 +112,11 @@ impl Slot {
                 Some(until) => Some(until.checked_duration_since(Instant::now())?),
                 None => None,
             };
-            stage = self.is_told.wait(stage, left);
+            stage = self.answered.wait(stage, left);
         }
     }
 
-    fn poll(&self, context: &Context<'_>) -> Poll<Ending> {
+    fn poll(&self, context: &Context<'_>) -> Poll<CallResult> {
         let mut stage = self.stage();
         if let Some(ending) = take(&mut stage) {
             return Poll::Ready(ending);
@@ -130,9 +130,9 @@ impl Slot {
     }
 }
 
-fn take(stage: &mut Stage) -> Option<Ending> {
+fn take(stage: &mut Stage) -> Option<CallResult> {
     match mem::replace(stage, Stage::Taken) {
-        Stage::Told(ending) => Some(ending),
+        Stage::Answered(ending) => Some(ending),
         other => {
             *stage = other;
             None
@@ -143,20 +143,20 @@ fn take(stage: &mut Stage) -> Option<Ending> {
 /// How long a call is waited for before its session is asked again that is late to tell its limit.
 const BETWEEN_LOOKS: Duration = Duration::from_millis(10);
 
-/// What tells calls that their limit has come.
-pub(crate) trait KeepsTime: Send + Sync {
+/// Ends calls whose limit has come.
+pub(crate) trait ExpireCalls: Send + Sync {
     /// The limit of a call has come, which was this moment.
-    fn pass(&self, limit: Moment);
+    fn expire_calls(&self, limit: Moment);
 }
 
 /// To which moment a call waits, by the clock of its session.
-pub(crate) struct Limit {
+pub(crate) struct CallLimit {
     pub(crate) moment: Moment,
     pub(crate) clock: Clock,
-    pub(crate) session: Weak<dyn KeepsTime>,
+    pub(crate) session: Weak<dyn ExpireCalls>,
 }
 
-impl Limit {
+impl CallLimit {
     /// The limit, or soon where it has come.
     fn next(&self) -> Option<Instant> {
         let left = self.moment.saturating_duration_since(self.clock.now());
@@ -164,9 +164,9 @@ impl Limit {
     }
 
     /// Has the session tell what is late.
-    fn pass(&self) {
+    fn expire(&self) {
         if let Some(session) = self.session.upgrade() {
-            session.pass(self.moment);
+            session.expire_calls(self.moment);
         }
     }
 }
@@ -193,15 +193,15 @@ impl Limit {
 #[must_use = "the answer comes by the ticket"]
 pub struct Ticket<T> {
     slot: Arc<Slot>,
-    read: fn(Ending) -> Result<T, Error>,
-    limit: Limit,
+    read: fn(CallResult) -> Result<T, Error>,
+    limit: CallLimit,
 }
 
 impl<T> Ticket<T> {
     pub(crate) fn new(
         slot: Arc<Slot>,
-        read: fn(Ending) -> Result<T, Error>,
-        limit: Limit,
+        read: fn(CallResult) -> Result<T, Error>,
+        limit: CallLimit,
     ) -> Ticket<T> {
         Ticket { slot, read, limit }
     }
@@ -228,7 +228,7 @@ impl<T> Ticket<T> {
     }
 
     /// How the call ends, or that it has not by this instant.
-    fn ending(&self, until: Option<Instant>) -> Ending {
+    fn ending(&self, until: Option<Instant>) -> CallResult {
         loop {
             if let Some(ending) = take(&mut self.slot.stage()) {
                 return ending; // without a look at the clock
@@ -240,13 +240,13 @@ impl<T> Ticket<T> {
             if until.is_some_and(|until| until <= Instant::now()) {
                 return self.slot.ending(Err(ErrorKind::TimedOut), None);
             }
-            self.limit.pass();
+            self.limit.expire();
         }
     }
 
     /// Whether the answer is there, so that [`wait`](Ticket::wait) does not wait.
     pub fn is_answered(&self) -> bool {
-        self.slot.is_told()
+        self.slot.answered()
     }
 }
 

@@ -3,9 +3,9 @@
 use crate::engine::Engine;
 use crate::error::{Error, ErrorKind};
 use crate::fault::NoReply;
-use crate::growing::Shown;
-use crate::keeper::{Poller, Shared};
+use crate::shared::{Poller, Shared};
 use crate::tree_snapshot::TreeSnapshot;
+use crate::tree_view::TreeView;
 use std::fmt;
 use std::iter::FusedIterator;
 use std::sync::Arc;
@@ -16,7 +16,7 @@ use std::time::{Duration, Instant};
 pub(crate) const MOST_NODES: usize = 65_536;
 
 /// News of a tree: a snapshot, or why there is no newer one.
-pub(crate) type News = Result<TreeSnapshot, Error>;
+pub(crate) type SnapshotResult = Result<TreeSnapshot, Error>;
 
 /// All nodes at and below a path, kept as the servers have them: of [`Session::tree`](crate::Session::tree). The session reads all of it
 /// with watches, and reads again what changes, through lost connections and, where it [renews](crate::SessionOptions::renews) itself, new
@@ -55,7 +55,7 @@ pub(crate) type News = Result<TreeSnapshot, Error>;
 /// ```
 pub struct Tree {
     session: Arc<Shared>,
-    shown: Arc<Shown>,
+    shown: Arc<TreeView>,
 }
 
 /// What is shown of a tree. It asks nobody, and does not wait for the session.
@@ -89,7 +89,7 @@ macro_rules! shown_of {
 
 /// What is shown asks nobody, and does not wait for the session.
 impl Tree {
-    pub(crate) fn new(session: Arc<Shared>, shown: Arc<Shown>) -> Tree {
+    pub(crate) fn new(session: Arc<Shared>, shown: Arc<TreeView>) -> Tree {
         Tree { session, shown }
     }
 
@@ -172,7 +172,7 @@ pub struct Snapshots<'a> {
 
 impl Snapshots<'_> {
     /// What is new, where something is; why the session is over, or none where it is closed.
-    fn take(&mut self, engine: &Engine) -> Poll<Option<News>> {
+    fn take(&mut self, engine: &Engine) -> Poll<Option<SnapshotResult>> {
         if let Some((number, news)) = self.tree.shown.news_after(self.told) {
             self.told = number;
             return Poll::Ready(Some(news));
@@ -209,11 +209,11 @@ impl Snapshots<'_> {
     /// # Errors
     ///
     /// As the iterator gives them, and [`ErrorKind::NotWhole`] where the limit has passed.
-    pub fn next_within(&mut self, limit: Duration) -> Option<News> {
+    pub fn next_within(&mut self, limit: Duration) -> Option<SnapshotResult> {
         self.next_until(Instant::now().checked_add(limit))
     }
 
-    fn next_until(&mut self, until: Option<Instant>) -> Option<News> {
+    fn next_until(&mut self, until: Option<Instant>) -> Option<SnapshotResult> {
         if self.is_over {
             return None;
         }
@@ -246,7 +246,7 @@ impl Snapshots<'_> {
     /// # Errors
     ///
     /// As the iterator gives them: [`Tree::snapshots`] says which.
-    pub fn poll_next(&mut self, context: &mut Context<'_>) -> Poll<Option<News>> {
+    pub fn poll_next(&mut self, context: &mut Context<'_>) -> Poll<Option<SnapshotResult>> {
         if self.is_over {
             return Poll::Ready(None);
         }
@@ -268,9 +268,9 @@ impl fmt::Debug for Snapshots<'_> {
 }
 
 impl Iterator for Snapshots<'_> {
-    type Item = News;
+    type Item = SnapshotResult;
 
-    fn next(&mut self) -> Option<News> {
+    fn next(&mut self) -> Option<SnapshotResult> {
         self.next_until(None)
     }
 }
@@ -298,20 +298,20 @@ impl FusedIterator for Snapshots<'_> {}
 /// # }
 /// ```
 pub struct LocalTree {
-    shown: Arc<Shown>,
+    shown: Arc<TreeView>,
     told: u64,
 }
 
 /// What is shown asks nobody, and does not wait for the session.
 impl LocalTree {
-    pub(crate) fn new(shown: Arc<Shown>) -> LocalTree {
+    pub(crate) fn new(shown: Arc<TreeView>) -> LocalTree {
         LocalTree { shown, told: 0 }
     }
 
     shown_of! {}
 
     /// What is new since this was asked.
-    pub(crate) fn take_news(&mut self) -> Option<News> {
+    pub(crate) fn take_news(&mut self) -> Option<SnapshotResult> {
         let (number, news) = self.shown.news_after(self.told)?;
         self.told = number;
         Some(news)

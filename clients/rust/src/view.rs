@@ -1,8 +1,8 @@
 //! Look-ups of one moment.
 
+use crate::cache::{Children, DataAnswer, Kept, Mark};
 use crate::engine::Engine;
 use crate::fault::Fault;
-use crate::kept::{Children, DataAnswer, Kept, Mark};
 use crate::machine::Machine;
 use crate::saved::SavedSession;
 use crate::snapshot::Snapshot;

@@ -1,28 +1,28 @@
-//! The trees of a session, as subjects of the machine.
+//! The trees that a session follows.
 
 use super::{Engine, NEVER};
+use crate::dispatch::{SubjectUpdate, TreeUpdate};
 use crate::fault::Fault;
-use crate::growing::{Growing, Shown};
 use crate::moment::Moment;
-use crate::told::{Shows, TreeNews};
+use crate::tree_view::{FollowedTree, TreeView};
 use std::sync::Arc;
 
 /// Which trees the machine follows.
 impl Engine {
-    /// Follows the tree at a path, for as long as somebody has what is shown of it.
-    pub(crate) fn plant(&mut self, path: &str, most: usize) -> Result<Arc<Shown>, Fault> {
+    /// Follows the tree at a path, for as long as someone has a handle of its view.
+    pub(crate) fn open_tree(&mut self, path: &str, most: usize) -> Result<Arc<TreeView>, Fault> {
         let root = self.chroot.outer(path)?.into_owned();
-        let looked = self.machine.data_mark(&root);
-        looked.map_err(|fault| fault.at(path))?;
-        let (shown, ticket) = (Arc::new(Shown::of(path)), self.calls.next_ticket());
-        let tree = Growing::new(Arc::downgrade(&shown), ticket, root.clone(), most);
+        let checked = self.machine.data_mark(&root);
+        checked.map_err(|fault| fault.at(path))?;
+        let (shown, ticket) = (Arc::new(TreeView::of(path)), self.calls.next_ticket());
+        let tree = FollowedTree::new(Arc::downgrade(&shown), ticket, root.clone(), most);
         self.trees.insert(ticket, tree);
         match self.follow_tree(ticket, &root, most) {
             Err(fault) if !fault.is_final() => {
                 self.trees.remove(&ticket);
                 Err(fault.at(path))
             }
-            // A machine that halts tells it to whoever asks next, and the next one follows the tree.
+            // If the machine halts, the next caller gets the fault, and the next machine follows the tree.
             Ok(()) | Err(_) => Ok(shown),
         }
     }
@@ -37,19 +37,19 @@ impl Engine {
     }
 
     /// Another machine follows the trees of the one before.
-    pub(super) fn plant_again(&mut self) {
+    pub(super) fn follow_trees_again(&mut self) {
         let trees = self.trees.iter();
         let roots: Vec<_> = trees
             .map(|(ticket, tree)| (*ticket, tree.root.clone(), tree.most))
             .collect();
         for (ticket, root, most) in roots {
-            // A machine that halts tells it to whoever asks next.
+            // If the machine halts, the next caller gets the fault.
             let _ = self.follow_tree(ticket, &root, most);
         }
     }
 
-    /// The machine follows the trees no more that nobody has any more.
-    fn uproot(&mut self) {
+    /// Stops following the trees that have no handle left.
+    fn unfollow_unwanted_trees(&mut self) {
         let trees = self.trees.iter();
         let unwanted: Vec<_> = trees
             .filter(|(_, tree)| !tree.is_wanted())
@@ -58,7 +58,7 @@ impl Engine {
         for ticket in unwanted {
             self.trees.remove(&ticket);
             if !self.is_over() {
-                // A machine that halts tells it to whoever asks next.
+                // If the machine halts, the next caller gets the fault.
                 let _ = self.step(self.now(), |machine, now| {
                     machine.unfollow_tree(now, ticket)
                 });
@@ -67,33 +67,33 @@ impl Engine {
     }
 }
 
-/// What is told of them, and shown.
+/// Their updates and copies.
 impl Engine {
-    /// The machine tells news of the tree of this ticket.
-    pub(super) fn hear_tree(&mut self, ticket: u64, news: TreeNews) {
+    /// The machine reports a change of the tree of this ticket.
+    pub(super) fn update_tree(&mut self, ticket: u64, news: TreeUpdate) {
         if let Some(tree) = self.trees.get_mut(&ticket) {
-            tree.hear(news);
+            tree.update(news);
         }
     }
 
-    /// The machine tells something of what is followed by this ticket.
-    pub(super) fn see_trees(&mut self, ticket: u64, shows: Shows) {
+    /// The machine reports a change of the subject of this ticket, which may be a member of a tree.
+    pub(super) fn update_tree_members(&mut self, ticket: u64, shows: SubjectUpdate) {
         for tree in self.trees.values_mut() {
-            tree.see(ticket, shows, &self.machine);
+            tree.update_member(ticket, shows, &self.machine);
         }
     }
 
-    /// Looks at the trees that are worth it.
-    pub(crate) fn grow(&mut self) {
-        self.uproot();
+    /// Copies the trees that are complete and due.
+    pub(crate) fn update_trees(&mut self) {
+        self.unfollow_unwanted_trees();
         let (is_over, may_look) = (self.is_over(), self.may_look());
         for tree in self.trees.values_mut() {
             if is_over {
-                tree.is_past();
+                tree.invalidate();
             }
             if may_look {
-                let look = tree.look(&self.machine, &self.chroot, self.clock);
-                self.looks.extend(look);
+                let copy = tree.copy_if_due(&self.machine, &self.chroot, self.clock);
+                self.tree_copies.extend(copy);
             }
         }
     }
@@ -102,14 +102,14 @@ impl Engine {
         self.is_connected() && !self.is_closing()
     }
 
-    /// When a tree is to be looked at, though nothing comes from the server.
-    pub(super) fn growth(&self) -> Moment {
-        let deadlines = self.trees.values().filter_map(Growing::deadline);
+    /// When a tree is to be copied, though nothing comes from the server.
+    pub(super) fn tree_deadline(&self) -> Moment {
+        let deadlines = self.trees.values().filter_map(FollowedTree::deadline);
         let deadline = self.may_look().then(|| deadlines.min());
         deadline.flatten().unwrap_or(NEVER)
     }
 
-    /// Whether a tree has something to tell since this was asked.
+    /// Whether a tree has news since the last call of this.
     pub(super) fn takes_tree_news(&mut self) -> bool {
         let trees = self.trees.values_mut();
         trees.fold(false, |is_news, tree| tree.takes_news() | is_news)

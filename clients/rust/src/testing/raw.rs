@@ -74,7 +74,7 @@ impl Asking<'_> {
             number::GET_ACL => self.get_acl(&mut fields),
             number::SET_ACL => self.set_acl(&mut fields),
             number::MULTI => self.transact(&mut fields, trial),
-            _ => introduce(&mut fields),
+            _ => send_credential(&mut fields),
         }
     }
 
@@ -204,7 +204,7 @@ fn sync(fields: &mut Reader<'_>) -> Body {
 }
 
 /// Takes credentials.
-fn introduce(fields: &mut Reader<'_>) -> Body {
+fn send_credential(fields: &mut Reader<'_>) -> Body {
     read(fields.int())?;
     if read(fields.text())? == "digest" {
         Ok(Vec::new())

@@ -1,11 +1,11 @@
-//! Connections, as a session sees them: what dials, and the two halves of what it makes.
+//! Connections: the dialler, the two halves of a connection, and TCP.
 
 use std::fmt::Display;
 use std::io::{self, ErrorKind, Read, Write};
 use std::net::{Shutdown, SocketAddr, TcpStream};
 use std::time::Duration;
 
-/// The shortest time that the system takes for a bound on a wait.
+/// The shortest timeout that the system takes.
 const SHORTEST_WAIT: Duration = Duration::from_millis(1);
 
 /// The server that is dialled.
@@ -190,8 +190,8 @@ impl Dial for Tcp {
         let stream = TcpStream::connect_timeout(&server.address, within)?;
         stream.set_nodelay(true)?;
         Ok(Connection {
-            incoming: Box::new(Bounded::new(stream.try_clone()?)),
-            outgoing: Box::new(Bounded::new(stream)),
+            incoming: Box::new(TimedStream::new(stream.try_clone()?)),
+            outgoing: Box::new(TimedStream::new(stream)),
         })
     }
 }
@@ -203,41 +203,40 @@ impl Incoming for TcpStream {
     }
 }
 
-/// A stream that is read or written, and the bound on a wait that the system knows. Most reads are to wait for about as long as the one
-/// before, and so are most writes: they do not tell it again.
-struct Bounded {
+/// A stream, and the timeout that its socket has. Most reads and writes wait for about as long as the one before, and leave it.
+struct TimedStream {
     stream: TcpStream,
-    bound: Duration,
+    timeout: Duration,
 }
 
-impl Bounded {
-    fn new(stream: TcpStream) -> Bounded {
-        let bound = Duration::ZERO;
-        Bounded { stream, bound }
+impl TimedStream {
+    fn new(stream: TcpStream) -> TimedStream {
+        let timeout = Duration::ZERO;
+        TimedStream { stream, timeout }
     }
 
-    /// Has a wait last for so long at most, and for half of that at least. The system is told so by this function.
-    fn bind(
+    /// Has the next wait last for so long at most, and for half of that at least. This function sets the timeout of the socket.
+    fn set_timeout(
         &mut self,
         wait: Duration,
         tell: fn(&TcpStream, Option<Duration>) -> io::Result<()>,
     ) -> io::Result<()> {
-        if self.bound > wait || self.bound.saturating_mul(2) < wait {
+        if self.timeout > wait || self.timeout.saturating_mul(2) < wait {
             tell(&self.stream, Some(wait))?;
-            self.bound = wait;
+            self.timeout = wait;
         }
         Ok(())
     }
 }
 
-impl Incoming for Bounded {
+impl Incoming for TimedStream {
     fn read(&mut self, room: &mut [u8], wait: Duration) -> io::Result<usize> {
         let mut left = wait.max(SHORTEST_WAIT);
         loop {
-            self.bind(left, TcpStream::set_read_timeout)?;
+            self.set_timeout(left, TcpStream::set_read_timeout)?;
             match Read::read(&mut self.stream, room) {
-                Err(fault) if is_past(&fault) && self.bound < left => {
-                    left = left.saturating_sub(self.bound);
+                Err(fault) if is_past(&fault) && self.timeout < left => {
+                    left = left.saturating_sub(self.timeout);
                 }
                 read => return read,
             }
@@ -257,9 +256,9 @@ impl Outgoing for TcpStream {
     }
 }
 
-impl Outgoing for Bounded {
+impl Outgoing for TimedStream {
     fn write(&mut self, bytes: &[u8], wait: Duration) -> io::Result<usize> {
-        self.bind(wait.max(SHORTEST_WAIT), TcpStream::set_write_timeout)?;
+        self.set_timeout(wait.max(SHORTEST_WAIT), TcpStream::set_write_timeout)?;
         Write::write(&mut self.stream, bytes)
     }
 
@@ -268,7 +267,7 @@ impl Outgoing for Bounded {
     }
 }
 
-/// The fault of an attempt to reach a place, with the place, and without the number that the system has for it.
+/// The fault of an attempt to reach a place, with the place, and without the system's number.
 pub(crate) fn fault_of(place: &dyn Display, fault: &io::Error) -> io::Error {
     let said = fault.to_string();
     let words = said.split(" (os error").next().unwrap_or_default();
@@ -278,28 +277,28 @@ pub(crate) fn fault_of(place: &dyn Display, fault: &io::Error) -> io::Error {
     io::Error::new(fault.kind(), format!("{place}: {words}"))
 }
 
-/// Whether a read or a write that failed so may succeed later: its time has passed, or it was interrupted.
+/// Whether a read or a write may succeed later: it timed out, or was interrupted.
 pub(crate) fn is_late(fault: &io::Error) -> bool {
     is_past(fault) || fault.kind() == ErrorKind::Interrupted
 }
 
-/// Whether a read or a write has failed since its time has passed.
+/// Whether a read or a write has timed out.
 fn is_past(fault: &io::Error) -> bool {
     matches!(fault.kind(), ErrorKind::WouldBlock | ErrorKind::TimedOut)
 }
 
 #[cfg(test)]
 mod tests {
-    use super::{is_past, Bounded, Incoming};
+    use super::{is_past, Incoming, TimedStream};
     use std::io::Write;
     use std::net::{TcpListener, TcpStream};
     use std::time::{Duration, Instant};
 
     /// What is read of a connection, and its other end.
-    fn connected() -> (Bounded, TcpStream) {
+    fn connected() -> (TimedStream, TcpStream) {
         let listener = TcpListener::bind("127.0.0.1:0").unwrap();
         let stream = TcpStream::connect(listener.local_addr().unwrap()).unwrap();
-        (Bounded::new(stream), listener.accept().unwrap().0)
+        (TimedStream::new(stream), listener.accept().unwrap().0)
     }
 
     #[test]
@@ -309,9 +308,9 @@ mod tests {
             server.write_all(b"one").unwrap();
             let read = incoming.read(&mut [0; 8], Duration::from_secs(wait));
             assert_eq!(read.unwrap(), 3);
-            assert_eq!(incoming.bound.as_secs(), told, "{wait}");
+            assert_eq!(incoming.timeout.as_secs(), told, "{wait}");
             let known = incoming.stream.read_timeout().unwrap();
-            assert_eq!(known, Some(incoming.bound));
+            assert_eq!(known, Some(incoming.timeout));
         }
     }
 

@@ -1,4 +1,4 @@
-//! Calls, which the machine has wait.
+//! New calls: their limits, and the refusals before the machine gets them.
 
 use super::{Engine, NEVER};
 use crate::error::ErrorKind;
@@ -9,31 +9,31 @@ use crate::ticket::Slot;
 use std::sync::Arc;
 use std::time::{Duration, Instant};
 
-/// How long a call waits at least, where nothing else is said of it: as long as an attempt to connect has.
+/// The least limit of a call that has none of its own: that of an attempt to connect.
 const SHORTEST_PATIENCE: Duration = Duration::from_secs(1);
 
-/// How long a close waits at most for a server that accepts the session, which ends by its timeout all the same.
+/// The longest wait of a close for a server that accepts the session. Without it the session ends by its timeout.
 const LONGEST_CLOSE: Duration = Duration::from_secs(1);
 
-/// The most bytes that may wait to be written to a server where a call is asked.
+/// The most unwritten bytes of a connection at which a new call is taken.
 const MOST_UNWRITTEN: usize = 16 * 1_048_576;
 
-/// When a call was asked, and when its limit comes.
+/// The limit of a call, and whether the driver has to wake.
 #[derive(Clone, Copy, Debug)]
 pub(crate) struct Wait {
     /// To which moment it waits.
     pub(crate) until: Moment,
-    /// Whether who keeps the session rests, and is to look again.
+    /// Whether the driver rests, and has to look again.
     pub(crate) is_to_wake: bool,
 }
 
 impl Engine {
-    /// Asks. The answer comes to the slot.
+    /// Asks a call. Its answer comes to the slot.
     pub(crate) fn ask(&mut self, asked: Asked, slot: Arc<Slot>) -> Wait {
         let until = self.limit_of(&asked, slot.asked_at());
         let wait = Wait {
             until,
-            is_to_wake: self.line.is_none(),
+            is_to_wake: self.outbox.is_none(),
         };
         let ticket = self.calls.begin(slot);
         let refusal = self.refusal_of_all().or(self.refusal_of_backlog(&asked));
@@ -49,13 +49,13 @@ impl Engine {
 
     /// Why no call is asked while a server reads slowly. To end the session always may be.
     fn refusal_of_backlog(&self, asked: &Asked) -> Option<ErrorKind> {
-        let waiting = self.line.as_ref().map_or(0, |line| line.waiting());
+        let waiting = self.outbox.as_ref().map_or(0, |outbox| outbox.waiting());
         let is_refused = waiting > MOST_UNWRITTEN && asked.call != Call::Core(CoreCall::Close);
         is_refused.then_some(ErrorKind::QueueFull)
     }
 
-    /// To which moment a call waits: by its own limit, else by that of the session, else for as long as the timeout. A close waits for no longer
-    /// than a second where no server has accepted the session.
+    /// The limit of a call: its own, else the session's, else the timeout. A close waits for a second at most while no server has accepted
+    /// the session.
     fn limit_of(&self, asked: &Asked, now: Instant) -> Moment {
         let patience = self.machine.timeout().max(SHORTEST_PATIENCE);
         let mut limit = asked.limit.or(self.limit).unwrap_or(patience);
@@ -108,7 +108,7 @@ impl Engine {
         Ok(())
     }
 
-    /// Whether a call waits that is to end the session.
+    /// Whether a call waits that closes the session.
     pub(super) fn is_closing(&self) -> bool {
         self.closing.is_some_and(|ticket| self.calls.waits(ticket))
     }

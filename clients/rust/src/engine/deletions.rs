@@ -1,4 +1,4 @@
-//! Places that are given up: the session deletes them.
+//! Deletions that the session carries through: of nodes that a lock or a queue gives up.
 
 use super::Engine;
 use crate::deletions::{Place, Step};
@@ -7,19 +7,19 @@ use crate::node::{Watch, ANY_VERSION};
 use crate::raw::{RawCall, RawOperation};
 
 impl Engine {
-    /// A place is given up: the number by which what becomes of it is told.
+    /// Deletes a place, however long it takes: the number of the deletion.
     pub(crate) fn delete(&mut self, place: Place, is_awaited: bool) -> u64 {
         let number = self.deletions.add(place, is_awaited);
         self.ask_deletions();
         number
     }
 
-    /// Whether a place may be there still that was given up.
+    /// Whether the place of this deletion may be there still.
     pub(crate) fn is_left(&self, number: u64) -> bool {
         self.deletions.is_left(number)
     }
 
-    /// Why a place is left that was given up. None where it is not left.
+    /// Why the place of this deletion is left. None if it is gone.
     pub(crate) fn fault_of_deletion(&mut self, number: u64) -> Option<ErrorKind> {
         if let Some(refusal) = self.deletions.take_refusal(number) {
             return Some(refusal);
@@ -29,7 +29,7 @@ impl Engine {
         is_left.then_some(fault)
     }
 
-    /// Asks for what is due, where a server has accepted the session.
+    /// Asks for the deletions that are due, if a server has accepted the session.
     pub(super) fn ask_deletions(&mut self) {
         if self.deletions.is_empty() {
             return;
@@ -41,7 +41,8 @@ impl Engine {
                 return;
             };
             if let Err(fault) = self.ask_deletion(ticket, step, &place) {
-                self.deletions.hear(self.clock.now(), ticket, &Err(fault));
+                self.deletions
+                    .call_answered(self.clock.now(), ticket, &Err(fault));
             }
         }
     }

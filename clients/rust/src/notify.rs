@@ -1,19 +1,19 @@
-//! What threads wait for.
+//! A condition variable that counts its waiters.
 
 use std::sync::atomic::{AtomicUsize, Ordering};
 use std::sync::{Condvar, MutexGuard, PoisonError};
 use std::time::Duration;
 
-/// Wakes the threads that wait for a change of what a lock guards. Where none waits, it asks nothing of the system.
+/// Wakes the threads that wait for a change of what a lock guards. If none waits, it makes no system call.
 #[derive(Debug, Default)]
-pub(crate) struct Signal {
+pub(crate) struct Notify {
     changed: Condvar,
-    /// How many wait. Each has counted itself before it let the lock go, so who has it next knows.
+    /// How many wait. Each thread counts itself before it releases the lock, so the next holder knows.
     waiting: AtomicUsize,
 }
 
-impl Signal {
-    /// Lets the lock go until there is a signal, for so long at most, or without an end.
+impl Notify {
+    /// Releases the lock until the next `notify_all`, for so long at most, or without a limit.
     pub(crate) fn wait<'a, T>(
         &self,
         guard: MutexGuard<'a, T>,
@@ -36,8 +36,8 @@ impl Signal {
         guard
     }
 
-    /// Wakes all that wait. The caller has had the lock since the change.
-    pub(crate) fn tell_all(&self) {
+    /// Wakes all threads that wait. The caller has held the lock since the change.
+    pub(crate) fn notify_all(&self) {
         if self.waiting.load(Ordering::Relaxed) > 0 {
             self.changed.notify_all();
         }
@@ -46,7 +46,7 @@ impl Signal {
 
 #[cfg(test)]
 mod tests {
-    use super::Signal;
+    use super::Notify;
     use std::sync::atomic::Ordering;
     use std::sync::Mutex;
     use std::thread;
@@ -58,7 +58,7 @@ mod tests {
     #[test]
     fn each_that_waits_is_woken() {
         for count in [1, 2] {
-            let (lock, signal) = (Mutex::new(()), Signal::default());
+            let (lock, signal) = (Mutex::new(()), Notify::default());
             thread::scope(|scope| {
                 let wait = || {
                     let begun = Instant::now();
@@ -70,7 +70,7 @@ mod tests {
                     thread::yield_now();
                 }
                 drop(lock.lock().unwrap());
-                signal.tell_all();
+                signal.notify_all();
                 for wait in waits {
                     assert!(wait.join().unwrap() < PATIENCE, "of {count}");
                 }
@@ -81,7 +81,7 @@ mod tests {
 
     #[test]
     fn a_wait_ends_at_its_limit() {
-        let (lock, signal) = (Mutex::new(()), Signal::default());
+        let (lock, signal) = (Mutex::new(()), Notify::default());
         let begun = Instant::now();
         drop(signal.wait(lock.lock().unwrap(), Some(Duration::from_millis(1))));
         assert!(begun.elapsed() < PATIENCE);

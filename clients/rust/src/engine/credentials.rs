@@ -1,16 +1,17 @@
-//! Who the session is, and what servers say to it.
+//! The credentials of a session, and the servers' answers to them.
 
-use super::{Course, Engine};
+use super::{Engine, Phase};
+use crate::answer::Answer;
 use crate::credentials::Credential;
 use crate::error::ErrorKind;
+use crate::events::Event;
 use crate::fault::{Code, Fault, NoReply};
 use crate::moment::Moment;
 use crate::sasl::LogInFault;
 use crate::stats::ConnectionEnd;
-use crate::told::{Event, Found};
 
 impl Engine {
-    /// Servers are told who the session is, now and on each later connection. The call ends with the first word on it.
+    /// Sends a credential to the server, now and on each later connection. The call ends with the first answer.
     pub(super) fn put_auth(
         &mut self,
         ticket: u64,
@@ -20,41 +21,41 @@ impl Engine {
         let place = if let Some(place) = self.credentials.place_of(&credential) {
             place
         } else {
-            self.introduce(&credential)?;
+            self.send_credential(&credential)?;
             self.credentials.add(credential)
         };
         if self.credentials.wait(place, ticket, until) {
-            self.calls.end(ticket, Ok(Found::default()));
+            self.calls.end(ticket, Ok(Answer::default()));
         }
         Ok(())
     }
 
-    fn introduce(&mut self, credential: &Credential) -> Result<(), Fault> {
+    fn send_credential(&mut self, credential: &Credential) -> Result<(), Fault> {
         let Credential { scheme, secret } = credential;
         self.step(self.now(), |machine, now| {
             machine.credential(now, scheme, secret)
         })
     }
 
-    /// Another machine is told who the session is.
-    pub(super) fn introduce_again(&mut self) -> Result<(), Fault> {
+    /// Hands all credentials to another machine.
+    pub(super) fn send_credentials_again(&mut self) -> Result<(), Fault> {
         let mut all = self.credentials.all().into_iter();
-        all.try_for_each(|credential| self.introduce(&credential))
+        all.try_for_each(|credential| self.send_credential(&credential))
     }
 
     /// A server has answered the credential of this place.
-    pub(super) fn hear_credential(&mut self, place: usize, code: Code) {
+    pub(super) fn credential_answered(&mut self, place: usize, code: Code) {
         if code != Code(0) {
             self.bar();
             return;
         }
         for ticket in self.credentials.accept(place) {
-            self.calls.end(ticket, Ok(Found::default()));
+            self.calls.end(ticket, Ok(Answer::default()));
         }
     }
 
     /// The log-in by SASL on this connection has failed. A refusal ends the session.
-    pub(crate) fn hear_log_in_fail(&mut self, fault: &LogInFault) {
+    pub(crate) fn log_in_failed(&mut self, fault: &LogInFault) {
         if let Some(address) = self.address {
             self.note_attempt(format!("{address}: {fault}"));
         }
@@ -70,7 +71,7 @@ impl Engine {
         }
         self.ending = Some(ConnectionEnd::CredentialsRefused);
         self.hang_up();
-        self.course = Course::Barred;
+        self.phase = Phase::Unauthorized;
         self.credentials.clear();
         self.deletions.clear();
         let saved = self.machine.saved();
@@ -78,11 +79,11 @@ impl Engine {
             self.machine = other; // the one before is freed, with what it knows of the session
             self.note_deadline();
         }
-        self.told.tell(Event::CredentialsRefused);
+        self.dispatcher.push_event(Event::CredentialsRefused);
     }
 
-    /// Tells the calls whose limit has come, of which the machine does not know.
-    pub(super) fn end_late(&mut self, now: Moment) {
+    /// Ends the calls whose limit has come, of those that the machine does not know.
+    pub(super) fn expire_credential_calls(&mut self, now: Moment) {
         let late = if self.is_open() {
             ErrorKind::TimedOut
         } else {

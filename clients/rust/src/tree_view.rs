@@ -1,18 +1,18 @@
-//! What is shown of a tree, and when it is looked at. It has no connection and no thread.
+//! The view of a followed tree: its newest snapshot, or why there is none, and when the tree is copied for the next one.
 //!
-//! The machine decides which nodes are followed, and tells when the tree is worth a look; the core judges whether it is of one moment. What
-//! is noted here is who waits for what is shown, how often it is looked at, and why there is nothing newer. A look copies the tree while the
-//! session waits; what was copied is read without its lock, since that takes longer than all else.
+//! The machine decides which nodes it follows, and says when the tree is complete; the core judges whether it is of one moment. This module
+//! decides how often the tree is copied, and notes why there is nothing newer. The session waits while the tree is copied. The copy is read
+//! without the session's lock, since that takes the longest.
 
 use crate::action::Refusal;
+use crate::cache::{DataAnswer, Kept, Mark};
 use crate::chroot::Chroot;
+use crate::dispatch::{SubjectUpdate, TreeUpdate};
 use crate::error::{Error, ErrorKind};
 use crate::fault::{Code, Fault};
-use crate::kept::{DataAnswer, Kept, Mark};
 use crate::machine::Machine;
 use crate::moment::{Clock, Moment};
 use crate::subtree::{nodes_in, Subtree};
-use crate::told::{Shows, TreeNews};
 use crate::tree_snapshot::{is_below, TreeSnapshot};
 use std::collections::{BTreeMap, HashMap};
 use std::fmt;
@@ -20,47 +20,47 @@ use std::mem;
 use std::sync::{Arc, Mutex, MutexGuard, PoisonError, Weak};
 use std::time::{Duration, Instant};
 
-/// The time from a look for which there was no memory to the next one.
-const BETWEEN_LOOKS: Duration = Duration::from_secs(1);
+/// The pause before the next copy if there was no memory for one.
+const PAUSE_WITHOUT_MEMORY: Duration = Duration::from_secs(1);
 
-/// A look at a whole tree takes at most this part of the time: after one that took long, the next one waits.
-const SHARE: u32 = 10;
+/// The pause after a copy lasts this many times as long as the copy took.
+const PAUSE_FACTOR: u32 = 10;
 
 /// The room for the text of a tree at first.
 const FIRST_ROOM: usize = 4_096;
 
-/// What is shown of a tree, to all that have a handle of it.
+/// What all handles of a tree show.
 #[derive(Debug)]
-pub(crate) struct Shown {
+pub(crate) struct TreeView {
     root: String,
-    board: Mutex<Board>,
+    state: Mutex<ViewState>,
 }
 
 /// Each piece of news has a number, and the next one a greater number.
 #[derive(Debug, Default)]
-struct Board {
+struct ViewState {
     latest: Option<TreeSnapshot>,
     is_current: bool,
     trouble: Option<Error>,
     shown: u64,
     troubled: u64,
-    /// The number of the last look, and whether something has ended what it saw.
-    looked: u64,
-    is_past: bool,
-    /// How long it took to read what was copied last.
+    /// The number of the last copy, and whether a change has ended it since.
+    copied: u64,
+    is_outdated: bool,
+    /// How long the last copy took to read.
     reading: Duration,
 }
 
-impl Shown {
-    pub(crate) fn of(root: &str) -> Shown {
-        Shown {
+impl TreeView {
+    pub(crate) fn of(root: &str) -> TreeView {
+        TreeView {
             root: String::from(root),
-            board: Mutex::default(),
+            state: Mutex::default(),
         }
     }
 
-    fn board(&self) -> MutexGuard<'_, Board> {
-        self.board.lock().unwrap_or_else(PoisonError::into_inner)
+    fn state(&self) -> MutexGuard<'_, ViewState> {
+        self.state.lock().unwrap_or_else(PoisonError::into_inner)
     }
 
     pub(crate) fn root(&self) -> &str {
@@ -68,102 +68,102 @@ impl Shown {
     }
 
     pub(crate) fn latest(&self) -> Option<TreeSnapshot> {
-        self.board().latest.clone()
+        self.state().latest.clone()
     }
 
     pub(crate) fn current(&self) -> Option<TreeSnapshot> {
-        let board = self.board();
-        board.latest.clone().filter(|_| board.is_current)
+        let state = self.state();
+        state.latest.clone().filter(|_| state.is_current)
     }
 
     pub(crate) fn trouble(&self) -> Option<Error> {
-        self.board().trouble.clone()
+        self.state().trouble.clone()
     }
 
     /// Prints a handle of this name.
     pub(crate) fn fmt_as(&self, name: &str, f: &mut fmt::Formatter<'_>) -> fmt::Result {
-        let board = self.board();
+        let state = self.state();
         f.debug_struct(name)
             .field("root", &self.root)
-            .field("latest", &board.latest)
-            .field("is_current", &board.is_current)
-            .field("trouble", &board.trouble)
+            .field("latest", &state.latest)
+            .field("is_current", &state.is_current)
+            .field("trouble", &state.trouble)
             .finish_non_exhaustive()
     }
 
     /// The first news after those of this number, and their number.
     pub(crate) fn news_after(&self, told: u64) -> Option<(u64, Result<TreeSnapshot, Error>)> {
-        let board = self.board();
-        let shown = board.latest.clone().map(|latest| (board.shown, Ok(latest)));
-        let trouble = board.trouble.clone();
-        let trouble = trouble.map(|trouble| (board.troubled, Err(trouble)));
+        let state = self.state();
+        let shown = state.latest.clone().map(|latest| (state.shown, Ok(latest)));
+        let trouble = state.trouble.clone();
+        let trouble = trouble.map(|trouble| (state.troubled, Err(trouble)));
         let news = shown.into_iter().chain(trouble);
         news.filter(|(number, _)| *number > told)
             .min_by_key(|(number, _)| *number)
     }
 }
 
-impl Board {
+impl ViewState {
     fn next_number(&self) -> u64 {
-        self.shown.max(self.troubled).max(self.looked) + 1
+        self.shown.max(self.troubled).max(self.copied) + 1
     }
 
-    /// The tree is looked at: the number of what will be shown of it.
-    fn begin_look(&mut self) -> u64 {
-        self.looked = self.next_number();
-        self.is_past = false;
+    /// The tree is copied: the number of the snapshot that the copy will be.
+    fn begin_copy(&mut self) -> u64 {
+        self.copied = self.next_number();
+        self.is_outdated = false;
         self.trouble = None;
-        self.looked
+        self.copied
     }
 
-    /// Shows what the look of this number saw, unless a later one was shown. What is shown no more is handed back.
+    /// Shows the snapshot of this number, unless a later one is shown. It hands back the snapshot that it replaces.
     fn show(&mut self, number: u64, snapshot: TreeSnapshot) -> Option<TreeSnapshot> {
         if number < self.shown {
             return Some(snapshot);
         }
         self.shown = number;
-        self.is_current = number == self.looked && !self.is_past;
+        self.is_current = number == self.copied && !self.is_outdated;
         self.latest.replace(snapshot)
     }
 
-    /// What is shown, and what is copied to be shown, is not known to be so any more.
-    fn end_current(&mut self) {
+    /// A change has ended the snapshot that is shown, and the copy that is being read.
+    fn invalidate(&mut self) {
         self.is_current = false;
-        self.is_past = true;
+        self.is_outdated = true;
     }
 
     /// Whether there is a trouble, and it is another one than before.
-    fn warn(&mut self, trouble: Option<Error>) -> bool {
+    fn set_trouble(&mut self, trouble: Option<Error>) -> bool {
         let is_news = trouble.is_some() && self.trouble != trouble;
         if is_news {
             self.troubled = self.next_number();
-            self.end_current();
+            self.invalidate();
         }
         self.trouble = trouble;
         is_news
     }
 }
 
-/// The ticket by which it is noted what keeps all of a tree from being shown. Nothing is followed by it.
-const ALL: u64 = 0;
+/// The ticket of troubles that concern the whole tree. The machine follows nothing by it.
+const WHOLE_TREE: u64 = 0;
 
 /// One tree. The path of its root is the one that the servers know.
-pub(crate) struct Growing {
-    shown: Weak<Shown>,
+pub(crate) struct FollowedTree {
+    shown: Weak<TreeView>,
     ticket: u64,
     pub(crate) root: String,
     pub(crate) most: usize,
-    /// The paths of what the machine follows of it, as the program knows them, by the tickets.
+    /// The paths of its members, as the program knows them, by their tickets.
     paths: HashMap<u64, String>,
-    /// What keeps a newer snapshot from coming, by the tickets of what is not read. The first is shown.
+    /// What keeps a newer snapshot from coming, by the tickets of the members that can't be read. The first is shown.
     troubles: BTreeMap<u64, Error>,
-    must_look: bool,
-    look_at: Moment,
+    must_copy: bool,
+    copy_at: Moment,
     room: usize,
     is_news: bool,
 }
 
-/// Why a read was refused that is not only to be made again. That there is no node is told of the root alone, by what is kept of it.
+/// Why a read was refused, unless it passes. Only of the root is it news that there is no node, and the kept answer says so.
 fn kind_of(reason: Refusal) -> Option<ErrorKind> {
     match reason {
         Refusal::Closed | Refusal::Code(Code::NO_NODE) => None,
@@ -171,22 +171,27 @@ fn kind_of(reason: Refusal) -> Option<ErrorKind> {
     }
 }
 
-impl Growing {
-    /// The newest snapshot, where there is one.
+impl FollowedTree {
+    /// The newest snapshot, if there is one.
     pub(crate) fn latest(&self) -> Option<TreeSnapshot> {
         self.shown.upgrade()?.latest()
     }
 
-    pub(crate) fn new(shown: Weak<Shown>, ticket: u64, root: String, most: usize) -> Growing {
-        Growing {
+    pub(crate) fn new(
+        shown: Weak<TreeView>,
+        ticket: u64,
+        root: String,
+        most: usize,
+    ) -> FollowedTree {
+        FollowedTree {
             shown,
             ticket,
             root,
             most,
             paths: HashMap::new(),
             troubles: BTreeMap::new(),
-            must_look: false,
-            look_at: Moment::default(),
+            must_copy: false,
+            copy_at: Moment::default(),
             room: FIRST_ROOM,
             is_news: false,
         }
@@ -197,60 +202,60 @@ impl Growing {
         self.shown.strong_count() > 0
     }
 
-    /// Whether there are news to be told since this was asked.
+    /// Whether there are news since the last call of this.
     pub(crate) fn takes_news(&mut self) -> bool {
         mem::take(&mut self.is_news)
     }
 }
 
-/// What the machine tells.
-impl Growing {
-    /// Another machine follows it, which has told nothing yet.
+/// What the machine reports.
+impl FollowedTree {
+    /// Another machine follows it, which has reported nothing yet.
     pub(crate) fn begin_again(&mut self) {
         self.paths.clear();
         self.troubles.clear();
-        self.is_past();
+        self.invalidate();
     }
 
-    /// What is shown is not known to be so any more. It is worth a look only where that is told after this.
-    pub(crate) fn is_past(&mut self) {
-        self.must_look = false;
+    /// A change has ended the snapshot that is shown. The tree is copied again only after the machine says that it is complete.
+    pub(crate) fn invalidate(&mut self) {
+        self.must_copy = false;
         if let Some(shown) = self.shown.upgrade() {
-            shown.board().end_current();
+            shown.state().invalidate();
         }
     }
 
-    /// What was good of a path has ended.
-    pub(crate) fn notice(&mut self, path: &str) {
+    /// A good answer of a path has ended.
+    pub(crate) fn note_report(&mut self, path: &str) {
         if path == self.root || is_below(path, &self.root) {
-            self.is_past();
+            self.invalidate();
         }
     }
 
-    /// News of it.
-    pub(crate) fn hear(&mut self, news: TreeNews) {
+    /// The machine reports a change of its members, of its bound, or that it is complete.
+    pub(crate) fn update(&mut self, news: TreeUpdate) {
         match news {
-            TreeNews::TakenOn { ticket, path } => drop(self.paths.insert(ticket, path)),
-            TreeNews::LetGo { ticket } => {
+            TreeUpdate::MemberAdded { ticket, path } => drop(self.paths.insert(ticket, path)),
+            TreeUpdate::MemberRemoved { ticket } => {
                 self.paths.remove(&ticket);
                 self.note(ticket, None);
             }
-            TreeNews::Bounded { is_bounded } => {
-                self.note(ALL, is_bounded.then(|| Fault::TooManyNodes.into()));
+            TreeUpdate::BoundReached { is_bounded } => {
+                self.note(WHOLE_TREE, is_bounded.then(|| Fault::TooManyNodes.into()));
             }
-            TreeNews::Whole => self.must_look = true,
+            TreeUpdate::Complete => self.must_copy = true,
         }
     }
 
-    /// Something is told of what is followed by a ticket, of this tree or of something else.
-    pub(crate) fn see(&mut self, ticket: u64, shows: Shows, machine: &Machine) {
+    /// The machine has read a member, or a server has refused the read. Tickets of other subjects count for nothing.
+    pub(crate) fn update_member(&mut self, ticket: u64, shows: SubjectUpdate, machine: &Machine) {
         let kind = match shows {
             _ if !self.paths.contains_key(&ticket) => return,
-            Shows::Refused(reason) => kind_of(reason),
-            Shows::Good if ticket == self.ticket && self.is_absent(machine) => {
+            SubjectUpdate::Refused(reason) => kind_of(reason),
+            SubjectUpdate::Good if ticket == self.ticket && self.is_absent(machine) => {
                 Some(Code::NO_NODE.into())
             }
-            Shows::Good => None,
+            SubjectUpdate::Good => None,
         };
         self.note(ticket, kind);
     }
@@ -266,8 +271,7 @@ impl Growing {
         )
     }
 
-    /// Notes why there is nothing to show of what is followed by a ticket, or that this is over, and shows what keeps a newer snapshot from
-    /// coming.
+    /// Notes the trouble of a member, or that it is over, and shows the first trouble that is left.
     fn note(&mut self, ticket: u64, kind: Option<ErrorKind>) {
         let Some(shown) = self.shown.upgrade() else {
             return;
@@ -281,41 +285,44 @@ impl Growing {
             None => self.troubles.remove(&ticket),
         };
         let first = self.troubles.values().next().cloned();
-        self.is_news |= shown.board().warn(first);
+        self.is_news |= shown.state().set_trouble(first);
     }
 }
 
-/// How it is looked at.
-impl Growing {
-    /// The moment at which it is to be looked at, where it is worth that.
+/// How it is copied.
+impl FollowedTree {
+    /// The moment of the next copy, if the tree is complete.
     pub(crate) fn deadline(&self) -> Option<Moment> {
-        self.must_look.then_some(self.look_at)
+        self.must_copy.then_some(self.copy_at)
     }
 
-    /// Looks, where the moment has come. After a look that took long, the next one waits.
-    pub(crate) fn look(
+    /// Copies the tree if the moment has come. After a copy that took long, the next one waits.
+    pub(crate) fn copy_if_due(
         &mut self,
         machine: &Machine,
         chroot: &Chroot,
         clock: Clock,
-    ) -> Option<Look> {
-        if !self.must_look || clock.now() < self.look_at {
+    ) -> Option<TreeCopy> {
+        if !self.must_copy || clock.now() < self.copy_at {
             return None;
         }
         let begun = Instant::now();
         let shown = self.shown.upgrade()?;
-        let looked = self.copy(machine, &shown);
-        self.must_look = looked == Err(Fault::NoMemory);
-        let pause = if self.must_look {
-            BETWEEN_LOOKS
+        let copied = self.copy(machine, &shown);
+        self.must_copy = copied == Err(Fault::NoMemory);
+        let pause = if self.must_copy {
+            PAUSE_WITHOUT_MEMORY
         } else {
-            (begun.elapsed() + shown.board().reading) * SHARE
+            (begun.elapsed() + shown.state().reading) * PAUSE_FACTOR
         };
-        self.look_at = clock.now().saturating_add(pause);
-        self.note(ALL, looked.as_ref().err().cloned().map(ErrorKind::from));
-        let (number, spelled) = looked.ok()??;
+        self.copy_at = clock.now().saturating_add(pause);
+        self.note(
+            WHOLE_TREE,
+            copied.as_ref().err().cloned().map(ErrorKind::from),
+        );
+        let (number, spelled) = copied.ok()??;
         let (zxid, chroot) = (machine.last_zxid(), chroot.clone());
-        Some(Look {
+        Some(TreeCopy {
             shown,
             number,
             zxid,
@@ -324,63 +331,67 @@ impl Growing {
         })
     }
 
-    /// Copies the tree where it is whole, with the number of the look. It fails where no read makes it so.
-    fn copy(&mut self, machine: &Machine, shown: &Shown) -> Result<Option<(u64, Vec<u8>)>, Fault> {
+    /// Copies the tree if it is complete, with the number of the copy. It fails if no read can complete it.
+    fn copy(
+        &mut self,
+        machine: &Machine,
+        shown: &TreeView,
+    ) -> Result<Option<(u64, Vec<u8>)>, Fault> {
         let found = machine.spelled_subtree(&self.root, self.most, &mut self.room)?;
         let Some(spelled) = found else {
             return machine.lacking(&self.root, self.most).map(|_| None);
         };
         self.troubles.clear(); // what is refused still is not of the tree any more
-        Ok(Some((shown.board().begin_look(), spelled)))
+        Ok(Some((shown.state().begin_copy(), spelled)))
     }
 }
 
-/// What a look has copied of a tree, which the library has spelled.
-pub(crate) struct Look {
-    shown: Arc<Shown>,
+/// A copy of a tree, as the library spells it.
+pub(crate) struct TreeCopy {
+    shown: Arc<TreeView>,
     number: u64,
     zxid: i64,
     spelled: Vec<u8>,
     chroot: Chroot,
 }
 
-impl Look {
-    /// Reads it, and shows it. It is done without the lock of the session.
+impl TreeCopy {
+    /// Reads the copy, and shows it. The caller does not hold the session's lock.
     pub(crate) fn show(self) {
         let begun = Instant::now();
         let (zxid, nodes) = (self.zxid, nodes_in(&self.spelled));
         let subtree = Subtree { zxid, nodes }.below(&self.chroot);
         let snapshot = TreeSnapshot::new(self.shown.root(), subtree);
-        let mut board = self.shown.board();
-        board.reading = begun.elapsed();
-        let before = board.show(self.number, snapshot);
-        drop(board); // before the nodes that are shown no more
+        let mut state = self.shown.state();
+        state.reading = begun.elapsed();
+        let before = state.show(self.number, snapshot);
+        drop(state); // before the nodes that are shown no more
         drop(before);
     }
 }
 
 #[cfg(test)]
 mod tests {
-    use super::{Growing, Shown};
+    use super::{FollowedTree, TreeView};
     use crate::action::Refusal;
+    use crate::dispatch::{SubjectUpdate, TreeUpdate};
     use crate::error::{Error, ErrorKind};
     use crate::fault::{Code, Fault};
     use crate::machine::Machine;
     use crate::subtree::Subtree;
-    use crate::told::{Shows, TreeNews};
     use crate::tree_snapshot::TreeSnapshot;
     use std::sync::Arc;
     use std::time::Duration;
 
-    const DENIED: Shows = Shows::Refused(Refusal::Code(Code::NO_AUTH));
+    const DENIED: SubjectUpdate = SubjectUpdate::Refused(Refusal::Code(Code::NO_AUTH));
 
     /// A tree by the ticket 1 with two nodes, whose data are followed by the tickets 8 and 9, and a machine that keeps nothing.
-    fn tree() -> (Arc<Shown>, Growing, Machine) {
-        let shown = Arc::new(Shown::of("/t"));
-        let mut tree = Growing::new(Arc::downgrade(&shown), 1, String::from("/app/t"), 10);
+    fn tree() -> (Arc<TreeView>, FollowedTree, Machine) {
+        let shown = Arc::new(TreeView::of("/t"));
+        let mut tree = FollowedTree::new(Arc::downgrade(&shown), 1, String::from("/app/t"), 10);
         for (ticket, path) in [(1, "/t"), (8, "/t/a"), (9, "/t/b")] {
             let path = String::from(path);
-            tree.hear(TreeNews::TakenOn { ticket, path });
+            tree.update(TreeUpdate::MemberAdded { ticket, path });
         }
         let machine = Machine::open(Duration::from_secs(10), 1, 1).unwrap();
         (shown, tree, machine)
@@ -394,17 +405,17 @@ mod tests {
     fn the_trouble_is_of_what_is_refused_still() {
         let (shown, mut tree, machine) = tree();
         let denied = |path| Some(trouble(path, Code::NO_AUTH));
-        tree.see(9, DENIED, &machine);
+        tree.update_member(9, DENIED, &machine);
         assert_eq!(shown.trouble(), denied("/t/b"));
-        tree.see(8, DENIED, &machine);
+        tree.update_member(8, DENIED, &machine);
         assert_eq!(shown.trouble(), denied("/t/a"));
-        tree.see(8, Shows::Good, &machine);
+        tree.update_member(8, SubjectUpdate::Good, &machine);
         assert_eq!(shown.trouble(), denied("/t/b"));
         assert!(tree.takes_news() && !tree.takes_news());
-        tree.hear(TreeNews::LetGo { ticket: 9 });
+        tree.update(TreeUpdate::MemberRemoved { ticket: 9 });
         assert_eq!((shown.trouble(), tree.takes_news()), (None, false));
         for ticket in [2, 9] {
-            tree.see(ticket, DENIED, &machine);
+            tree.update_member(ticket, DENIED, &machine);
         }
         assert_eq!(shown.trouble(), None, "those are not of the tree");
     }
@@ -412,13 +423,13 @@ mod tests {
     #[test]
     fn what_is_only_to_be_asked_again_is_no_trouble() {
         let (shown, mut tree, machine) = tree();
-        tree.see(8, DENIED, &machine);
+        tree.update_member(8, DENIED, &machine);
         for reason in [
             Refusal::Code(Code::THROTTLED),
             Refusal::Code(Code::NO_NODE),
             Refusal::Closed,
         ] {
-            tree.see(8, Shows::Refused(reason), &machine);
+            tree.update_member(8, SubjectUpdate::Refused(reason), &machine);
             assert_eq!(shown.trouble(), None, "{reason:?}");
         }
     }
@@ -426,16 +437,16 @@ mod tests {
     #[test]
     fn more_nodes_than_wanted_are_a_trouble_until_there_are_fewer() {
         let (shown, mut tree, machine) = tree();
-        let bounded = |is_bounded| TreeNews::Bounded { is_bounded };
-        tree.hear(bounded(true));
+        let bounded = |is_bounded| TreeUpdate::BoundReached { is_bounded };
+        tree.update(bounded(true));
         assert_eq!(shown.trouble(), Some(trouble("/t", Fault::TooManyNodes)));
-        tree.see(8, DENIED, &machine);
+        tree.update_member(8, DENIED, &machine);
         assert_eq!(shown.trouble(), Some(trouble("/t", Fault::TooManyNodes)));
-        tree.hear(bounded(false));
+        tree.update(bounded(false));
         assert_eq!(shown.trouble(), Some(trouble("/t/a", Code::NO_AUTH)));
         tree.begin_again();
-        tree.hear(bounded(true));
-        tree.hear(bounded(false));
+        tree.update(bounded(true));
+        tree.update(bounded(false));
         assert_eq!(shown.trouble(), None, "another machine has refused nothing");
     }
 
@@ -449,29 +460,29 @@ mod tests {
             ("/app", false),
         ] {
             show(&shown, 1);
-            tree.hear(TreeNews::Whole);
-            tree.notice(path);
+            tree.update(TreeUpdate::Complete);
+            tree.note_report(path);
             let is_over = (shown.current().is_none(), tree.deadline().is_none());
             assert_eq!(is_over, (is_of_tree, is_of_tree), "{path}");
         }
     }
 
     /// Looks, and shows a snapshot of this zxid.
-    fn show(shown: &Shown, zxid: i64) {
-        let number = shown.board().begin_look();
-        shown.board().show(number, snapshot(zxid));
+    fn show(shown: &TreeView, zxid: i64) {
+        let number = shown.state().begin_copy();
+        shown.state().show(number, snapshot(zxid));
     }
 
     #[test]
     fn what_has_ended_since_it_was_copied_is_not_current() {
-        let shown = Shown::of("/t");
-        let number = shown.board().begin_look();
-        shown.board().end_current();
-        shown.board().show(number, snapshot(1));
+        let shown = TreeView::of("/t");
+        let number = shown.state().begin_copy();
+        shown.state().invalidate();
+        shown.state().show(number, snapshot(1));
         assert_eq!((shown.current(), shown.latest()), (None, Some(snapshot(1))));
-        let [first, second] = [0; 2].map(|_| shown.board().begin_look());
-        shown.board().show(second, snapshot(3));
-        let passed = shown.board().show(first, snapshot(2));
+        let [first, second] = [0; 2].map(|_| shown.state().begin_copy());
+        shown.state().show(second, snapshot(3));
+        let passed = shown.state().show(first, snapshot(2));
         assert_eq!(
             (passed, shown.current()),
             (Some(snapshot(2)), Some(snapshot(3)))
@@ -486,12 +497,12 @@ mod tests {
 
     #[test]
     fn news_come_in_the_order_in_which_they_were() {
-        let shown = Shown::of("/t");
+        let shown = TreeView::of("/t");
         let none = || trouble("/t", Code::NO_NODE);
         assert_eq!(shown.news_after(0), None);
         show(&shown, 1);
         show(&shown, 2);
-        assert!(shown.board().warn(Some(none())));
+        assert!(shown.state().set_trouble(Some(none())));
         let first = shown.news_after(0).unwrap();
         assert_eq!(first.1, Ok(snapshot(2)), "the newest of several");
         let second = shown.news_after(first.0).unwrap();
@@ -506,19 +517,19 @@ mod tests {
 
     #[test]
     fn a_trouble_is_told_once_and_ends_what_is_current() {
-        let shown = Shown::of("/t");
+        let shown = TreeView::of("/t");
         show(&shown, 1);
         assert_eq!(shown.current(), Some(snapshot(1)));
-        let warn = |code: Code| shown.board().warn(Some(trouble("/t", code)));
-        assert!(warn(Code::NO_NODE));
+        let set_trouble = |code: Code| shown.state().set_trouble(Some(trouble("/t", code)));
+        assert!(set_trouble(Code::NO_NODE));
         assert_eq!((shown.current(), shown.latest()), (None, Some(snapshot(1))));
         let (told, _) = shown.news_after(1).unwrap();
-        assert!(!warn(Code::NO_NODE));
+        assert!(!set_trouble(Code::NO_NODE));
         assert_eq!(shown.news_after(told), None);
-        assert!(warn(Code::NO_AUTH));
+        assert!(set_trouble(Code::NO_AUTH));
         let (told, other) = shown.news_after(told).unwrap();
         assert_eq!(other, Err(trouble("/t", Code::NO_AUTH)));
-        assert!(!shown.board().warn(None));
+        assert!(!shown.state().set_trouble(None));
         assert_eq!((shown.trouble(), shown.news_after(told)), (None, None));
     }
 }

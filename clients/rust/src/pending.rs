@@ -1,27 +1,27 @@
-//! The calls of a session, until they are answered.
+//! The pending calls of a session, and their answers until they are handed out.
 
+use crate::answer::Outcome;
 use crate::chroot::Chroot;
 use crate::error::{ErrorKind, Search};
 use crate::raw::RawCall;
-use crate::ticket::{Ending, Slot};
-use crate::told::Outcome;
+use crate::ticket::{CallResult, Slot};
 use std::collections::HashMap;
 use std::hash::{BuildHasherDefault, Hasher};
 use std::mem;
 use std::sync::Arc;
 
 /// A call that waits.
-struct Waiting {
+struct PendingCall {
     slot: Arc<Slot>,
-    /// By what its answer is read, which the core does not read.
+    /// The call that reads the answer, if the core does not.
     raw: Option<RawCall>,
 }
 
-/// A hash of a ticket, which nobody else chooses.
+/// A hash for tickets: no one outside chooses them.
 #[derive(Default)]
-struct OfTicket(u64);
+struct TicketHasher(u64);
 
-impl Hasher for OfTicket {
+impl Hasher for TicketHasher {
     fn finish(&self) -> u64 {
         self.0
     }
@@ -39,25 +39,25 @@ impl Hasher for OfTicket {
 
 /// The calls of a session, which wait in its machine, and the answers that were not handed out yet.
 #[derive(Default)]
-pub(crate) struct Calls {
+pub(crate) struct PendingCalls {
     last_ticket: u64,
-    waiting: HashMap<u64, Waiting, BuildHasherDefault<OfTicket>>,
+    waiting: HashMap<u64, PendingCall, BuildHasherDefault<TicketHasher>>,
     search: Option<Search>,
-    answers: Vec<(Arc<Slot>, Ending)>,
+    answers: Vec<(Arc<Slot>, CallResult)>,
 }
 
-impl Calls {
-    /// Why calls wait for a connection: this search for a server. None where there is no such reason.
+impl PendingCalls {
+    /// Why calls wait for a connection: this search for a server, if there is one.
     pub(crate) fn wait_for(&mut self, search: Option<Search>) {
         self.search = search;
     }
 
-    /// The search for a server, where calls wait for one.
+    /// The search for a server, if calls wait for one.
     pub(crate) fn search(&self) -> Option<&Search> {
         self.search.as_ref()
     }
 
-    /// A ticket that nobody has: of a call whose answer nobody waits for, or of a subject. Each is above those before.
+    /// A new ticket, for a subject or for a call that nobody waits for. Each is greater than those before.
     pub(crate) fn next_ticket(&mut self) -> u64 {
         self.last_ticket += 1;
         self.last_ticket
@@ -66,18 +66,18 @@ impl Calls {
     /// The ticket of a call that is asked now.
     pub(crate) fn begin(&mut self, slot: Arc<Slot>) -> u64 {
         let ticket = self.next_ticket();
-        self.waiting.insert(ticket, Waiting { slot, raw: None });
+        self.waiting.insert(ticket, PendingCall { slot, raw: None });
         ticket
     }
 
-    /// The answer to the call of this ticket is read by this call.
+    /// This call will read the answer to the call of this ticket.
     pub(crate) fn is_read_by(&mut self, ticket: u64, call: RawCall) {
         if let Some(waiting) = self.waiting.get_mut(&ticket) {
             waiting.raw = Some(call);
         }
     }
 
-    /// What has come of the call of this ticket, whose answer is read where the core has not. None where it does not read.
+    /// The outcome of the call of this ticket. If the core has not read the answer, the call reads it: none if it does not parse.
     pub(crate) fn read(&self, ticket: u64, outcome: Outcome, root: &Chroot) -> Option<Outcome> {
         let waiting = self.waiting.get(&ticket);
         match (waiting.and_then(|it| it.raw.as_ref()), outcome) {
@@ -111,7 +111,7 @@ impl Calls {
     }
 
     /// The answers that are to be handed out.
-    pub(crate) fn take_answers(&mut self) -> Vec<(Arc<Slot>, Ending)> {
+    pub(crate) fn take_answers(&mut self) -> Vec<(Arc<Slot>, CallResult)> {
         mem::take(&mut self.answers)
     }
 }

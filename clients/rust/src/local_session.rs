@@ -1,13 +1,13 @@
 //! A session without a thread.
 
 use crate::acl::{Acl, Id};
-use crate::both::{calls, look_ups, watch, Asks};
+use crate::cache::{Children, DataAnswer, Kept, Mark};
+use crate::driver::Driver;
 use crate::engine::{Engine, NEVER};
 use crate::error::Error;
+use crate::events::Event;
 use crate::fault::{Code, Fault};
 use crate::hosts::Hosts;
-use crate::keeper::{ask, Keeper, Shared};
-use crate::kept::{Children, DataAnswer, Kept, Mark};
 use crate::machine::State;
 use crate::multi_read::{Read, ReadAnswer};
 use crate::node::{Mode, Node, Stat};
@@ -16,9 +16,10 @@ use crate::paths;
 use crate::request::Request;
 use crate::retry::{Retry, Tries};
 use crate::saved::SavedSession;
+use crate::session_methods::{calls, look_ups, watch, Caller};
+use crate::shared::{ask, Shared};
 use crate::snapshot::Snapshot;
 use crate::stats::Stats;
-use crate::told::Event;
 use crate::tree::{LocalTree, MOST_NODES};
 use crate::tree_snapshot::TreeSnapshot;
 use crate::view::View;
@@ -50,7 +51,7 @@ use std::time::{Duration, Instant};
 /// # }
 /// ```
 pub struct LocalSession {
-    keeper: Keeper,
+    driver: Driver,
     retry: Retry,
     limit: Option<Duration>,
     renews: bool,
@@ -72,14 +73,14 @@ impl LocalSession {
         SessionOptions::new(timeout).open_local(hosts)
     }
 
-    pub(crate) fn kept_by(
-        keeper: Keeper,
+    pub(crate) fn driven_by(
+        driver: Driver,
         retry: Retry,
         limit: Option<Duration>,
         renews: bool,
     ) -> LocalSession {
         LocalSession {
-            keeper,
+            driver,
             retry,
             limit,
             renews,
@@ -133,16 +134,16 @@ impl LocalSession {
     }
 
     fn call_once<T>(&mut self, request: Request<T>) -> Result<T, Error> {
-        self.keeper.catch_up_if_late()?;
-        let ticket = ask(self.keeper.shared(), request);
+        self.driver.catch_up_if_late()?;
+        let ticket = ask(self.driver.shared(), request);
         while !ticket.is_answered() {
-            self.keeper.round(NEVER)?;
+            self.driver.turn(NEVER)?;
         }
         ticket.wait()
     }
 }
 
-impl Asks for LocalSession {
+impl Caller for LocalSession {
     fn answer<T>(&mut self, request: Request<T>) -> Result<T, Error> {
         self.call(request)
     }
@@ -151,7 +152,7 @@ impl Asks for LocalSession {
         let clock = self.inner().look(Engine::clock);
         let until = clock.now().saturating_add(time);
         while !self.inner().look(Engine::is_over) && clock.now() < until {
-            self.keeper.round(until)?;
+            self.driver.turn(until)?;
         }
         Ok(())
     }
@@ -162,7 +163,7 @@ impl LocalSession {
     look_ups! {}
 
     fn inner(&self) -> &Shared {
-        self.keeper.shared()
+        self.driver.shared()
     }
 
     /// The state. None where something was due on the connection and this program has not come to do it: then nobody knows whether there
@@ -194,7 +195,7 @@ impl LocalSession {
             if is_past || is_over {
                 return self.inner().with(|engine| engine.halt().map(|()| None));
             }
-            self.keeper.round(until)?;
+            self.driver.turn(until)?;
             is_past = until <= clock.now();
         }
     }
@@ -214,7 +215,7 @@ impl LocalSession {
     ///
     /// As [`tree`](LocalSession::tree).
     pub fn bounded_tree(&mut self, path: &str, most: usize) -> Result<LocalTree, Fault> {
-        let shown = self.inner().with(|engine| engine.plant(path, most))?;
+        let shown = self.inner().with(|engine| engine.open_tree(path, most))?;
         Ok(LocalTree::new(shown))
     }
 
@@ -229,7 +230,7 @@ impl LocalSession {
         tree: &mut LocalTree,
         until: Option<Instant>,
     ) -> Result<Option<TreeSnapshot>, Error> {
-        self.keeper.catch_up_if_late()?;
+        self.driver.catch_up_if_late()?;
         let clock = self.inner().with(|engine| engine.clock());
         let until = until.map_or(NEVER, |until| clock.moment_of(until));
         let mut is_past = false;
@@ -244,7 +245,7 @@ impl LocalSession {
             if is_past {
                 return Ok(None);
             }
-            self.keeper.round(until)?;
+            self.driver.turn(until)?;
             is_past = until <= clock.now();
         }
     }

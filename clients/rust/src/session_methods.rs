@@ -1,4 +1,4 @@
-//! What a session does alike with a thread and without one.
+//! The methods that `Session` and `LocalSession` share.
 
 use crate::error::Error;
 use crate::fault::{Code, Fault};
@@ -6,20 +6,20 @@ use crate::node::Node;
 use crate::request::Request;
 use std::time::Duration;
 
-/// What asks, and waits for answers.
-pub(crate) trait Asks {
+/// A session that asks, and waits for answers.
+pub(crate) trait Caller {
     /// Asks, and waits for the answer.
     fn answer<T>(&mut self, request: Request<T>) -> Result<T, Error>;
 
-    /// Lets so much time pass, unless the session is over before.
+    /// Waits for so long, unless the session ends before.
     fn pass(&mut self, time: Duration) -> Result<(), Fault>;
 }
 
-/// The pause before data are read again which a server says are not there, of a node that is.
+/// The pause before the next read of data that a server does not find, of a node that it does find.
 const BETWEEN_READS: Duration = Duration::from_secs(1);
 
-/// Reads the data of a node, and leaves a watch on its path whether there is a node or not.
-pub(crate) fn watch(session: &mut impl Asks, path: &str) -> Result<Option<Node>, Error> {
+/// Reads the data of a node, and leaves a watch on its path even if there is no node.
+pub(crate) fn watch(session: &mut impl Caller, path: &str) -> Result<Option<Node>, Error> {
     loop {
         match session.answer(Request::get(path).watched()) {
             Err(error) if error.code() == Some(Code::NO_NODE) => {}
@@ -32,7 +32,7 @@ pub(crate) fn watch(session: &mut impl Asks, path: &str) -> Result<Option<Node>,
     }
 }
 
-/// The calls of a session, each of which asks by `call` and waits.
+/// The calls of a session. Each asks by `call` and waits.
 macro_rules! calls {
     ($this:ident: [$($receiver:tt)+] $asks:expr) => {
         /// What is known of a node, and none where there is none.
@@ -266,7 +266,7 @@ macro_rules! calls {
     };
 }
 
-/// The look-ups of a session, each of one moment.
+/// The look-ups of a session.
 macro_rules! look_ups {
     () => {
         /// Looks several things up at one moment. The session waits meanwhile, so do not wait there, and ask nothing of it.

@@ -1,0 +1,223 @@
+//! Sorts the actions of a machine: frames to send, answers to calls, events, and the update of its session.
+
+use crate::action::{Action, Actions, Refusal};
+use crate::answer::{answer_of, Outcome};
+use crate::chroot::Chroot;
+use crate::error::ErrorKind;
+use crate::events::Event;
+use crate::fault::{Code, Fault, NoReply};
+use crate::machine::State;
+use crate::node::{NodeEvent, Side};
+use crate::output::{GivenUp, Text};
+use crate::stats::ConnectionEnd;
+use std::collections::VecDeque;
+use std::mem;
+use std::time::Duration;
+
+/// The most events that wait for the caller.
+const MOST_EVENTS: usize = 1_024;
+
+/// A change of a followed subject.
+#[derive(Clone, Copy, Debug, PartialEq, Eq)]
+pub(crate) enum SubjectUpdate {
+    /// Its kept answer is good.
+    Good,
+    /// A read of it was refused.
+    Refused(Refusal),
+}
+
+/// A change of a followed tree.
+#[derive(Debug)]
+pub(crate) enum TreeUpdate {
+    /// The machine follows one more side of a node, by this ticket. The path is the program's.
+    MemberAdded { ticket: u64, path: String },
+    /// The machine no longer follows the side of this ticket.
+    MemberRemoved { ticket: u64 },
+    /// The tree has more nodes than its bound, or fits again.
+    BoundReached { is_bounded: bool },
+    /// All of it is kept and good: it can be copied.
+    Complete,
+}
+
+/// The actions of a machine, sorted, until the engine takes them.
+#[derive(Default)]
+pub(crate) struct Dispatcher {
+    /// Frames for the server.
+    pub(crate) frames: Vec<u8>,
+    /// The answers to calls, by their tickets.
+    pub(crate) answers: Vec<(u64, Outcome)>,
+    /// The update of the session since the engine took the last one.
+    pub(crate) update: SessionUpdate,
+    state: Option<State>,
+    chroot: Chroot,
+    events: VecDeque<Event>,
+    missed: u64,
+}
+
+/// What one step of a machine changes in its session, and asks for.
+#[derive(Default)]
+pub(crate) struct SessionUpdate {
+    /// The new state, if it has changed.
+    pub(crate) state: Option<State>,
+    /// Whether the session has expired.
+    pub(crate) is_expired: bool,
+    /// Whether the connection is to be closed, or the attempt given up.
+    pub(crate) hangs_up: bool,
+    /// Why the machine gives the connection up, if it says so.
+    pub(crate) cause: Option<ConnectionEnd>,
+    /// Whether it leaves an accepted session without a reason: no answer has come, or a server says that the session is elsewhere.
+    pub(crate) is_left: bool,
+    /// The place of the host that is to be dialled, and within which time.
+    pub(crate) dial: Option<(usize, Duration)>,
+    /// The paths of which something that was good has ended, as the servers know them.
+    pub(crate) reported: Vec<String>,
+    /// What a server has answered to credentials, by their places.
+    pub(crate) credentials: Vec<(usize, Code)>,
+    /// Updates of subjects, and of members of trees, by their tickets.
+    pub(crate) shown: Vec<(u64, SubjectUpdate)>,
+    /// Updates of trees, by their tickets. They come before those of subjects.
+    pub(crate) trees: Vec<(u64, TreeUpdate)>,
+}
+
+impl SessionUpdate {
+    /// Why the connection ends now, if the machine says so.
+    pub(crate) fn end(&self) -> Option<ConnectionEnd> {
+        match self.state {
+            _ if self.is_expired => Some(ConnectionEnd::Expired),
+            Some(State::Closed) => Some(ConnectionEnd::Closed),
+            _ if self.is_left => self.cause.or(Some(ConnectionEnd::Silent)),
+            _ => self.cause,
+        }
+    }
+}
+
+/// The event of a connection that is given up. If there is no memory for the words, it has the code instead.
+fn dropped(given_up: &GivenUp<'_>) -> Event {
+    let words = given_up.words();
+    Event::Dropped {
+        cause: given_up.cause,
+        words: words.unwrap_or_else(|_| given_up.code.into()),
+    }
+}
+
+impl Dispatcher {
+    /// Of a session whose nodes are below this path.
+    pub(crate) fn new(chroot: Chroot) -> Dispatcher {
+        Dispatcher {
+            chroot,
+            ..Dispatcher::default()
+        }
+    }
+
+    /// Sorts the actions of a step.
+    pub(crate) fn dispatch(&mut self, mut actions: Actions<'_>) -> Result<(), Fault> {
+        while let Some(action) = actions.next()? {
+            self.dispatch_one(action);
+        }
+        Ok(())
+    }
+
+    fn dispatch_one(&mut self, action: Action<'_>) {
+        match action {
+            Action::Send(frame) => frame.append_to(&mut self.frames),
+            Action::Answer { ticket, outcome } => {
+                self.answer(ticket, answer_of(outcome, &self.chroot));
+            }
+            Action::TimedOut { ticket, was_sent } => {
+                self.answer(ticket, Err(self.reason_of_timeout(was_sent)));
+            }
+            Action::Report { path, side, event } => self.report(path, side, event),
+            Action::State(state) => self.change_state(state),
+            Action::Drop(given_up) => {
+                self.update.cause = Some(ConnectionEnd::of(&given_up.cause));
+                self.push_event(dropped(&given_up));
+            }
+            Action::Dial { place, within } => self.update.dial = Some((place, within)),
+            Action::HangUp => self.hang_up(),
+            Action::Renewed => {}
+            Action::Shown { ticket } => self.update_subject(ticket, SubjectUpdate::Good),
+            Action::Refused { ticket, reason } => {
+                self.update_subject(ticket, SubjectUpdate::Refused(reason));
+            }
+            Action::TakenOn {
+                tree, ticket, path, ..
+            } => {
+                let path = self.chroot.inner(String::from(path));
+                self.update_tree(tree, TreeUpdate::MemberAdded { ticket, path });
+            }
+            Action::LetGo { tree, ticket } => {
+                self.update_tree(tree, TreeUpdate::MemberRemoved { ticket });
+            }
+            Action::Bounded { tree, is_bounded } => {
+                self.update_tree(tree, TreeUpdate::BoundReached { is_bounded });
+            }
+            Action::Whole { tree } => self.update_tree(tree, TreeUpdate::Complete),
+            Action::Credential { place, code } => self.update.credentials.push((place, code)),
+        }
+    }
+
+    fn answer(&mut self, ticket: u64, outcome: Outcome) {
+        self.answers.push((ticket, outcome));
+    }
+
+    /// Why a call ends whose limit has come.
+    fn reason_of_timeout(&self, was_sent: bool) -> ErrorKind {
+        match self.state {
+            _ if was_sent => ErrorKind::TimedOut,
+            Some(State::Connected) => NoReply::TooManyPending.into(),
+            _ => NoReply::NotConnected.into(),
+        }
+    }
+
+    /// The connection is to be closed. Frames that were not yet written are dropped.
+    fn hang_up(&mut self) {
+        self.update.is_left = self.state == Some(State::Connected);
+        self.frames.clear();
+        self.update.dial = None;
+        self.update.hangs_up = true;
+    }
+
+    fn report(&mut self, path: Text<'_>, side: Side, event: NodeEvent) {
+        let outer = String::from(path);
+        self.update.reported.push(outer.clone());
+        let path = self.chroot.inner(outer);
+        self.push_event(Event::Report { path, side, event });
+    }
+
+    fn update_subject(&mut self, ticket: u64, update: SubjectUpdate) {
+        self.update.shown.push((ticket, update));
+    }
+
+    fn update_tree(&mut self, tree: u64, update: TreeUpdate) {
+        self.update.trees.push((tree, update));
+    }
+
+    fn change_state(&mut self, state: State) {
+        self.state = Some(state);
+        self.update.state = Some(state);
+        self.update.is_expired |= state == State::Expired;
+        self.push_event(Event::State(state));
+    }
+
+    /// Keeps an event for the caller. If there are too many, the first one is lost.
+    pub(crate) fn push_event(&mut self, event: Event) {
+        if self.events.len() == MOST_EVENTS {
+            self.events.pop_front();
+            self.missed += 1;
+        }
+        self.events.push_back(event);
+    }
+
+    /// Whether an event waits for the caller.
+    pub(crate) fn has_event(&self) -> bool {
+        self.missed > 0 || !self.events.is_empty()
+    }
+
+    /// The next event for the caller.
+    pub(crate) fn next_event(&mut self) -> Option<Event> {
+        match mem::take(&mut self.missed) {
+            0 => self.events.pop_front(),
+            missed => Some(Event::Missed(missed)),
+        }
+    }
+}

@@ -1,0 +1,127 @@
+//! The connection: attempts to make one, what it brings, and its end.
+
+use super::{Attempt, Engine, Phase};
+use crate::connection::Outgoing;
+use crate::fault::Fault;
+use crate::machine::Machine;
+use crate::outbox::Outbox;
+use crate::stats::{ConnectionEnd, Observation};
+use std::borrow::Cow;
+use std::io;
+use std::mem;
+use std::net::SocketAddr;
+
+impl Engine {
+    /// The attempt to connect that the driver begins now.
+    pub(crate) fn begin_attempt(&mut self) -> Option<Attempt> {
+        let attempt = self.wanted.take()?;
+        self.dialling = Some(attempt.number);
+        Some(attempt)
+    }
+
+    /// Whether the machine still wants this attempt. It is over, however it went.
+    fn takes_attempt(&mut self, number: u64) -> bool {
+        let is_wanted = self.dialling == Some(number) && !self.is_over();
+        self.dialling = self.dialling.filter(|dialling| *dialling != number);
+        is_wanted
+    }
+
+    /// The attempt of this number has failed.
+    pub(crate) fn has_failed(&mut self, number: u64, fault: &io::Error) -> Result<(), Fault> {
+        self.note_attempt(fault.to_string());
+        let why = fault.to_string();
+        self.tally.note(Observation::AttemptFailed { why });
+        if self.takes_attempt(number) {
+            self.step(self.clock.now(), Machine::failed)?;
+        }
+        Ok(())
+    }
+
+    /// The attempt of this number has made a connection to this address. It is closed if the machine has given the attempt up.
+    pub(crate) fn opened(
+        &mut self,
+        number: u64,
+        address: SocketAddr,
+        outgoing: Box<dyn Outgoing>,
+    ) -> Result<(), Fault> {
+        let outbox = Outbox::new(outgoing);
+        if !self.takes_attempt(number) {
+            outbox.end();
+            self.outboxes.push(outbox);
+            return Ok(());
+        }
+        self.note_attempt(format!(
+            "{address}: connected, and it has not accepted the session"
+        ));
+        self.outbox = Some(outbox);
+        self.address = Some(address);
+        self.step(self.clock.now(), Machine::opened)
+    }
+
+    /// Hands in bytes of the server, after those that there was no memory for.
+    pub(crate) fn hand_in(&mut self, bytes: &[u8]) -> Result<(), Fault> {
+        let now = self.now();
+        if !bytes.is_empty() {
+            self.tally.note(Observation::BytesIn(bytes.len()));
+        }
+        let kept = mem::take(&mut self.inbox);
+        let came = if kept.is_empty() {
+            Cow::Borrowed(bytes)
+        } else {
+            Cow::Owned([&kept, bytes].concat())
+        };
+        let actions = self.machine.bytes(now, &came);
+        let taken = actions.and_then(|actions| self.dispatcher.dispatch(actions));
+        self.note_deadline();
+        // Nothing is due at this moment, so the machine does not leave for a missing answer.
+        self.dispatcher.update.is_left = false;
+        if taken.is_err() {
+            self.inbox = came.into_owned();
+        }
+        self.settle(now, taken)
+    }
+
+    /// Notes that a server has accepted the session.
+    pub(super) fn note_admission(&mut self) {
+        let server = self.address.map_or_else(String::new, |it| it.to_string());
+        let session = match self.machine.saved() {
+            Ok(saved) if self.tally.is_observed => saved.id().unwrap_or_default(),
+            _ => 0,
+        };
+        self.tally.note(Observation::Connected { server, session });
+    }
+
+    /// Notes why a connection is given up whose session was accepted.
+    pub(super) fn note_unanswered(&mut self) {
+        if let Some(address) = self.address {
+            self.note_attempt(format!("{address}: an answer did not come"));
+        }
+    }
+
+    /// The connection is over, if there is one.
+    pub(crate) fn end(&mut self) -> Result<(), Fault> {
+        if self.outbox.is_none() {
+            return Ok(());
+        }
+        self.hang_up();
+        if matches!(self.phase, Phase::Ended(_) | Phase::Halted(_)) {
+            return Ok(());
+        }
+        self.step(self.clock.now(), Machine::cut)
+    }
+
+    /// Closes the connection, if there is one, and gives up the attempt that the machine asked for.
+    pub(super) fn hang_up(&mut self) {
+        self.wanted = None;
+        self.dialling = None;
+        self.inbox.clear();
+        self.dispatcher.frames.clear();
+        let ending = self.ending.take();
+        if let Some(outbox) = self.outbox.take() {
+            let end = ending.unwrap_or(ConnectionEnd::Ended);
+            self.tally.note(Observation::ConnectionEnded(end));
+            outbox.end();
+            self.outboxes.push(outbox);
+        }
+    }
+}

@@ -1,0 +1,163 @@
+//! Steps of the machine.
+
+use super::{Attempt, Engine, Phase};
+use crate::action::Actions;
+use crate::dispatch::SessionUpdate;
+use crate::fault::{Fault, NoReply};
+use crate::machine::{Machine, State};
+use crate::moment::Moment;
+use crate::outbox::Outbox;
+use crate::stats::{ConnectionEnd, Observation};
+use crate::tree_view::FollowedTree;
+use std::mem;
+use std::sync::Arc;
+
+impl Engine {
+    /// The moment of a step whose caller has not read all that the connection has. If something is due by then, it is the last moment
+    /// before: the server's answer may be there, unread.
+    pub(super) fn now(&self) -> Moment {
+        let now = self.clock.now();
+        if self.outbox.is_some() {
+            return now.min(self.deadline().before());
+        }
+        now
+    }
+
+    /// Takes a step, and does what the machine says.
+    pub(super) fn step<F>(&mut self, now: Moment, step: F) -> Result<(), Fault>
+    where
+        F: for<'a> FnOnce(&'a mut Machine, Moment) -> Result<Actions<'a>, Fault>,
+    {
+        let actions = step(&mut self.machine, now);
+        let taken = actions.and_then(|actions| self.dispatcher.dispatch(actions));
+        self.note_deadline();
+        self.settle(now, taken)
+    }
+
+    /// Does what the machine has said at a step, in its order. It closes the connection if the machine says so, or has halted.
+    pub(super) fn settle(&mut self, now: Moment, taken: Result<(), Fault>) -> Result<(), Fault> {
+        let mut update = mem::take(&mut self.dispatcher.update);
+        self.ending = update.end().or(self.ending);
+        if let Some(fault) = taken.as_ref().err().filter(|fault| fault.is_final()) {
+            self.ending = Some(ConnectionEnd::Dropped);
+            self.finish(Phase::Halted(fault.clone()));
+        }
+        if update.is_left {
+            self.note_unanswered();
+        }
+        if update.hangs_up || self.is_over() {
+            self.hang_up();
+        }
+        self.note_followed(&mut update);
+        self.note(now, &update);
+        self.send();
+        if self.end_answered() {
+            self.ending = Some(ConnectionEnd::Unreadable);
+            self.end()?;
+        }
+        for (place, code) in update.credentials {
+            self.credential_answered(place, code);
+        }
+        if let Some(reason) = self.reason_of_end() {
+            self.calls.end_all(&reason);
+        }
+        self.ask_deletions();
+        taken
+    }
+
+    /// Records ticket-to-node assignments first, then the updates that use them.
+    fn note_followed(&mut self, update: &mut SessionUpdate) {
+        for (tree, news) in update.trees.drain(..) {
+            self.update_tree(tree, news);
+        }
+        for path in update.reported.drain(..) {
+            self.trees
+                .values_mut()
+                .for_each(|tree| tree.note_report(&path));
+        }
+        for (ticket, shows) in update.shown.drain(..) {
+            self.subjects.update(ticket, shows);
+            self.update_tree_members(ticket, shows);
+        }
+    }
+
+    /// Records the new state of the session, and the attempt that the machine asks for.
+    fn note(&mut self, now: Moment, update: &SessionUpdate) {
+        if update.state == Some(State::Connected) {
+            self.forget_attempts();
+            self.note_admission();
+        }
+        if update.is_expired {
+            self.tally.note(Observation::SessionLost);
+            self.deletions.clear();
+            self.trees.values_mut().for_each(FollowedTree::invalidate);
+            if !self.renews {
+                self.finish(Phase::Ended(State::Expired));
+            }
+        }
+        if update.state == Some(State::Closed) {
+            self.deletions.clear();
+            self.finish(Phase::Ended(State::Closed));
+        }
+        if let Some((place, within)) = update.dial.filter(|_| !self.is_over()) {
+            let host = self.places.host(&self.hosts, place);
+            self.attempts += 1;
+            self.wanted = host.map(|host| Attempt {
+                number: self.attempts,
+                host,
+                until: now.saturating_add(within),
+            });
+        }
+    }
+
+    /// Ends the session in this phase, unless it has ended before.
+    fn finish(&mut self, phase: Phase) {
+        if !self.is_over() {
+            self.phase = phase;
+            self.hang_up();
+        }
+    }
+
+    /// Hands out answers. Whether one does not parse, so that the connection has to end: its call may have happened.
+    fn end_answered(&mut self) -> bool {
+        let mut is_end = false;
+        for (ticket, outcome) in mem::take(&mut self.dispatcher.answers) {
+            let read = self.calls.read(ticket, outcome, &self.chroot);
+            is_end |= read.is_none();
+            let outcome = read.unwrap_or(Err(NoReply::ConnectionLoss.into()));
+            self.deletions
+                .call_answered(self.clock.now(), ticket, &outcome);
+            self.calls.end(ticket, outcome);
+        }
+        is_end
+    }
+
+    /// Sends the frames of the machine.
+    fn send(&mut self) {
+        let mut frames = mem::take(&mut self.dispatcher.frames);
+        self.write(&frames);
+        frames.clear();
+        self.dispatcher.frames = frames;
+    }
+
+    /// Sends whole frames, if there is a connection.
+    pub(super) fn write(&mut self, frames: &[u8]) {
+        if let Some(outbox) = self.outbox.as_ref().filter(|_| !frames.is_empty()) {
+            outbox.put(frames);
+            self.tally.note(Observation::BytesOut(frames.len()));
+            self.outboxes.push(Arc::clone(outbox));
+        }
+    }
+
+    /// A write to this connection has failed.
+    pub(crate) fn is_broken(&mut self, broken: &Arc<Outbox>) {
+        if self
+            .outbox
+            .as_ref()
+            .is_some_and(|outbox| Arc::ptr_eq(outbox, broken))
+        {
+            // If the machine halts, the next caller gets the fault.
+            let _ = self.end();
+        }
+    }
+}

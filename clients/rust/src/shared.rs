@@ -1,0 +1,298 @@
+//! The engine and its lock, as the threads of a session share them, and the threads and futures that wait for it.
+
+use crate::engine::{Engine, Plan};
+use crate::events::Event;
+use crate::fault::Fault;
+use crate::moment::Moment;
+use crate::notify::Notify;
+use crate::outbox::{Outbox, Writer, Written};
+use crate::request::Request;
+use crate::stats::{CallKind, Observer};
+use crate::ticket::{CallLimit, ExpireCalls, Slot, Ticket};
+use std::collections::HashMap;
+use std::mem;
+use std::sync::{Arc, Mutex, MutexGuard, PoisonError, Weak};
+use std::task::{Context, Poll, Waker};
+use std::thread::Builder;
+use std::time::{Duration, Instant};
+
+/// The longest wait of one read, and of one rest: an hour.
+pub(crate) const LONGEST_WAIT: Duration = Duration::from_secs(3_600);
+
+/// How long a helper waits for room at a time, and a session without helpers while something waits to be written.
+pub(crate) const WAIT_FOR_ROOM: Duration = Duration::from_millis(20);
+
+/// The wakers of those that poll, by their keys.
+#[derive(Default)]
+struct Wakers {
+    last: u64,
+    waiting: HashMap<u64, Waker>,
+}
+
+/// An engine that threads share.
+pub(crate) struct Shared {
+    engine: Mutex<Engine>,
+    changed: Notify,
+    wakers: Mutex<Wakers>,
+    observer: Option<Observer>,
+    /// Which thread writes what there is no room for at once: a helper, or the driver's own.
+    writer: Writer,
+    own: Weak<Shared>,
+}
+
+/// Its lock, and what happens once it is released.
+impl Shared {
+    pub(crate) fn new(
+        mut engine: Engine,
+        writer: Writer,
+        observer: Option<Observer>,
+    ) -> Arc<Shared> {
+        if observer.is_some() {
+            engine.is_observed();
+        }
+        Arc::new_cyclic(|own| Shared {
+            observer,
+            engine: Mutex::new(engine),
+            changed: Notify::default(),
+            wakers: Mutex::default(),
+            writer,
+            own: Weak::clone(own),
+        })
+    }
+
+    fn lock(&self) -> MutexGuard<'_, Engine> {
+        self.engine.lock().unwrap_or_else(PoisonError::into_inner)
+    }
+
+    /// Does something with the engine, and then hands out the answers.
+    pub(crate) fn with<R>(&self, act: impl FnOnce(&mut Engine) -> R) -> R {
+        let mut engine = self.lock();
+        let result = act(&mut engine);
+        engine.update_trees();
+        self.hand_out(engine);
+        result
+    }
+
+    /// Releases the engine, so that a woken thread can have it, then writes frames and hands out answers.
+    fn hand_out(&self, mut engine: MutexGuard<'_, Engine>) {
+        let answers = engine.take_answers();
+        let (outboxes, tree_copies) = (engine.take_outboxes(), engine.take_tree_copies());
+        let (is_news, seen) = (engine.has_event(), engine.take_seen());
+        drop(engine);
+        if let Some(observer) = &self.observer {
+            for seen in &seen {
+                observer(seen);
+            }
+        }
+        for outbox in outboxes {
+            self.write(&outbox, self.writer, Duration::ZERO);
+        }
+        for (slot, ending) in answers {
+            slot.tell(ending);
+        }
+        if is_news {
+            self.notify_all();
+        }
+        for copy in tree_copies {
+            copy.show();
+            self.wake();
+        }
+    }
+
+    /// Wakes all threads that wait and all futures that were polled.
+    pub(crate) fn notify_all(&self) {
+        self.changed.notify_all();
+        let wakers = mem::take(&mut self.wakers().waiting);
+        wakers.into_values().for_each(Waker::wake);
+    }
+
+    fn wakers(&self) -> MutexGuard<'_, Wakers> {
+        self.wakers.lock().unwrap_or_else(PoisonError::into_inner)
+    }
+
+    /// A poller of its own for a future.
+    pub(crate) fn poller(&self) -> Poller {
+        let mut wakers = self.wakers();
+        wakers.last += 1;
+        Poller {
+            shared: Weak::clone(&self.own),
+            key: wakers.last,
+        }
+    }
+
+    /// Has all threads that wait look again. It takes the lock first, so that none of them is between its look and its wait.
+    pub(crate) fn wake(&self) {
+        drop(self.lock());
+        self.notify_all();
+    }
+
+    /// Waits until something is changed, for so long at most.
+    fn rest<'a>(&self, engine: MutexGuard<'a, Engine>, wait: Duration) -> MutexGuard<'a, Engine> {
+        self.changed.wait(engine, Some(wait.min(LONGEST_WAIT)))
+    }
+
+    /// Writes what waits for a connection, and closes one that is over. Whether something waits for room still.
+    fn write(&self, outbox: &Arc<Outbox>, writer: Writer, wait: Duration) -> bool {
+        let mut guard = PanicGuard {
+            shared: self,
+            is_done: false,
+        };
+        let written = outbox.write(writer, wait);
+        guard.is_done = true;
+        match written {
+            Written::All => false,
+            Written::Some => true,
+            Written::WantsHelper => self.begin_to_help(outbox),
+            Written::Failed => {
+                self.with(|engine| engine.is_broken(outbox));
+                false
+            }
+        }
+    }
+
+    /// A thread of its own writes what there is no room for, until nothing waits. If the system makes none, the connection is over.
+    fn begin_to_help(&self, outbox: &Arc<Outbox>) -> bool {
+        let Some(shared) = self.own.upgrade() else {
+            return false;
+        };
+        let helped = Arc::clone(outbox);
+        let help = move || while shared.write(&helped, Writer::Helper, WAIT_FOR_ROOM) {};
+        let thread = Builder::new().name(String::from("dirwolleu"));
+        if thread.spawn(help).is_err() {
+            outbox.is_unhelped();
+            self.with(|engine| engine.is_broken(outbox));
+        }
+        true
+    }
+
+    /// Writes on for a while, in a session without helpers. Whether something waits for room still.
+    pub(crate) fn writes_on(&self) -> bool {
+        if self.writer != Writer::Alone {
+            return false;
+        }
+        let unwritten = self.look(Engine::unwritten);
+        unwritten.is_some_and(|outbox| self.write(&outbox, Writer::Alone, WAIT_FOR_ROOM))
+    }
+
+    /// Looks at the engine, which goes no further.
+    pub(crate) fn look<R>(&self, look: impl FnOnce(&Engine) -> R) -> R {
+        look(&self.lock())
+    }
+
+    /// Waits while this holds, until this instant at most.
+    pub(crate) fn wait_while(&self, until: Option<Instant>, holds: impl Fn(&Engine) -> bool) {
+        let mut engine = self.lock();
+        while holds(&engine) {
+            let now = Instant::now();
+            let left = until.map_or(LONGEST_WAIT, |until| until.saturating_duration_since(now));
+            if left.is_zero() {
+                return;
+            }
+            engine = self.rest(engine, left);
+        }
+    }
+
+    /// The driver's next task, after a rest if there is time for one.
+    pub(crate) fn plan(&self, until: Moment) -> Plan {
+        let mut engine = self.lock();
+        let mut plan = engine.plan(until);
+        if let Plan::Rest(moment) = plan {
+            let wait = moment.saturating_duration_since(engine.clock().now());
+            engine = self.rest(engine, wait);
+            plan = Plan::Rest(moment);
+        }
+        self.hand_out(engine);
+        plan
+    }
+
+    /// The next event: one that waits, or the first that comes until this instant. None if none has come, or the session is over.
+    pub(crate) fn next_event(&self, until: Option<Instant>) -> Result<Option<Event>, Fault> {
+        let mut engine = self.lock();
+        loop {
+            if let Some(event) = engine.next_event() {
+                return Ok(Some(event));
+            }
+            engine.halt()?;
+            let now = Instant::now();
+            let left = until.map_or(LONGEST_WAIT, |until| until.saturating_duration_since(now));
+            if engine.is_over() || left.is_zero() {
+                return Ok(None);
+            }
+            engine = self.rest(engine, left);
+        }
+    }
+}
+
+/// A future's place at a session. Its waker stays until it is woken, polls again, or is dropped.
+pub(crate) struct Poller {
+    shared: Weak<Shared>,
+    key: u64,
+}
+
+impl Poller {
+    /// Looks. If it finds nothing, the next change wakes the waker of this context, which another thread may do at once.
+    pub(crate) fn poll<R>(
+        &self,
+        context: &Context<'_>,
+        look: impl FnOnce(&mut Engine) -> Poll<R>,
+    ) -> Poll<R> {
+        let Some(shared) = self.shared.upgrade() else {
+            return Poll::Pending;
+        };
+        let waker = context.waker().clone();
+        let before = shared.wakers().waiting.insert(self.key, waker);
+        drop(before); // without the lock: what it holds may poll too
+        let looked = look(&mut shared.lock());
+        looked
+    }
+}
+
+impl Drop for Poller {
+    fn drop(&mut self) {
+        if let Some(shared) = self.shared.upgrade() {
+            let waker = shared.wakers().waiting.remove(&self.key);
+            drop(waker);
+        }
+    }
+}
+
+/// Ends a session if the connection that it writes to panics.
+struct PanicGuard<'a> {
+    shared: &'a Shared,
+    is_done: bool,
+}
+
+impl Drop for PanicGuard<'_> {
+    fn drop(&mut self) {
+        if !self.is_done {
+            self.shared.with(Engine::panicked);
+            self.shared.notify_all();
+        }
+    }
+}
+
+impl ExpireCalls for Shared {
+    fn expire_calls(&self, limit: Moment) {
+        self.with(|engine| engine.expire_calls(limit));
+    }
+}
+
+/// Asks a request of a session: the ticket for its answer.
+pub(crate) fn ask<T>(shared: &Arc<Shared>, request: Request<T>) -> Ticket<T> {
+    let Request { asked, read } = request;
+    let slot = Slot::new(asked.node(), CallKind::of(&asked.call));
+    let (wait, clock) = shared.with(|engine| {
+        let wait = engine.ask(asked, Arc::clone(&slot));
+        (wait, engine.clock())
+    });
+    if wait.is_to_wake {
+        shared.wake();
+    }
+    let session: Weak<Shared> = Arc::downgrade(shared);
+    let limit = CallLimit {
+        moment: wait.until,
+        clock,
+        session,
+    };
+    Ticket::new(slot, read, limit)
+}
