@@ -207,6 +207,54 @@ static void expect_refused_makings(dw_session *session)
     expect_closed(session);
 }
 
+/* A session by one of the four functions that make one. */
+static void make_session(dw_session *session, int way, size_t addresses, uint64_t seed)
+{
+    uint8_t saved[36] = {0};
+    saved[11] = 16; /* the length of the password */
+    switch (way) {
+    case 0: EXPECT_NUMBER(DW_OK, dw_session_open(session, 10000, addresses, seed)); break;
+    case 1: EXPECT_NUMBER(DW_OK, dw_session_resume(session, 10000, addresses, seed, saved, 36)); break;
+    case 2: EXPECT_NUMBER(DW_OK, dw_session_open_with_limits(session, 10000, addresses, seed, 4194304, 1048575)); break;
+    default: EXPECT_NUMBER(DW_OK, dw_session_resume_with_limits(session, 10000, addresses, seed, 4194304, 1048575, saved, 36)); break;
+    }
+}
+
+/* The order in which the three addresses are dialled, as a number of three digits, and then the first pause: each attempt is refused at once. */
+static uint64_t dials_of(dw_session *session)
+{
+    uint64_t order = 0, next_ms = 0;
+    for (int i = 0; i < ADDRESSES; i++) {
+        dw_output output;
+        EXPECT_NUMBER(DW_OK, i == 0 ? dw_session_moment(session, NOW) : dw_session_failed(session, NOW));
+        EXPECT_NUMBER(DW_OK, dw_session_next(session, &output));
+        EXPECT_NUMBER(DW_KIND_DIAL, output.kind);
+        order = 10 * order + output.place;
+    }
+    EXPECT_NUMBER(DW_OK, dw_session_failed(session, NOW));
+    EXPECT_NUMBER(DW_OK, dw_session_deadline(session, &next_ms));
+    return 1000 * order + (next_ms - NOW);
+}
+
+/* Whichever function makes a session, all its addresses are dialled, and its seed decides their order and the first pause: another seed has others. */
+static void expect_seeds(dw_session *session)
+{
+    enum { SEEDS = 32, WAYS = 4 };
+    uint64_t dials[SEEDS];
+    for (int way = 0; way < WAYS; way++) {
+        int other_orders = 0, other_pauses = 0;
+        for (int i = 0; i < SEEDS; i++) {
+            make_session(session, way, ADDRESSES, (uint64_t)i * UINT64_C(0x9e3779b97f4a7c15));
+            uint64_t found = dials_of(session);
+            EXPECT(way == 0 || found == dials[i]);
+            dials[i] = found;
+            other_orders += found / 1000 != dials[0] / 1000;
+            other_pauses += found % 1000 != dials[0] % 1000;
+        }
+        EXPECT(other_orders > SEEDS / 2 && other_pauses > 0);
+    }
+}
+
 /* The next output answers the ticket without a reply. */
 static void expect_answer(dw_session *session, uint64_t ticket, enum dw_outcome outcome)
 {
@@ -331,6 +379,7 @@ int main(void)
     EXPECT_NUMBER(DW_OK, dw_session_open(&session, INT32_MAX, ADDRESSES, SEED));
     expect_refused_paths(&session);
     expect_refused_makings(&session);
+    expect_seeds(&session);
     expect_answers_without_reply(&session);
     expect_ended(&session);
     expect_deadlines(&session);

@@ -383,10 +383,37 @@ static void expect_room_first(void)
     EXPECT_NUMBER(0, heap.blocks);
 }
 
+/* A credential is overwritten before its block is given back: where it was told, and where the handle is freed. The outputs are told one by one. */
+static void expect_overwritten(void)
+{
+    static const char secret[] = "ann:secret";
+    struct play play = {.now_ms = 1};
+    heap = (struct counted_heap){.secret = secret};
+    EXPECT_NUMBER(DW_OK, open_session(&play));
+    EXPECT_NUMBER(DW_OK, dw_session_credential(&play.session, play.now_ms, "digest", 6, (const uint8_t *)secret, sizeof secret - 1));
+    for (int connection = 0; connection < 2; connection++) {
+        uint8_t frame[64];
+        dw_output output;
+        EXPECT_NUMBER(DW_OK, opened(&play));
+        do {
+            EXPECT_NUMBER(DW_OK, dw_session_next(&play.session, &output));
+        } while (output.kind != DW_KIND_SEND || output.length != 40);
+        EXPECT_NUMBER(40, dw_session_copy(&play.session, 0, frame, sizeof frame));
+        EXPECT(memcmp(frame + 40 - (sizeof secret - 1), secret, sizeof secret - 1) == 0);
+        EXPECT_NUMBER(DW_OK, connected(&play));
+        EXPECT_NUMBER(DW_OK, cut(&play));
+        EXPECT_NUMBER(DW_OK, later(&play));
+    }
+    dw_session_free(&play.session);
+    EXPECT_NUMBER(0, heap.blocks);
+    EXPECT_NUMBER(0, heap.left);
+}
+
 int main(void)
 {
     static struct play whole, part;
     expect_room_first();
+    expect_overwritten();
     long halted = 0;
     EXPECT(run(&whole, 0));
     long asked = heap.asked;

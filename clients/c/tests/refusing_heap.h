@@ -9,6 +9,8 @@ struct counted_heap {
     long asked;      /* requests, of a new block or of another size */
     long refused_at; /* the request that is refused, counted from 1; 0 refuses none */
     long blocks;     /* that were not given back */
+    const char *secret; /* what no block may have in it that is given back, or null */
+    long left;          /* how often one had */
 };
 
 extern struct counted_heap heap;

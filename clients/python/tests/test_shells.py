@@ -159,8 +159,9 @@ CODES = {-4: "the server has lost its connection", -6: "the server does not know
          -111: "the node has children", -112: "the session is over", -114: "the open ACL is refused", -115: "the server refuses it",
          -118: "the session was taken up over another connection", -999: "the server refuses it", 1: "the server refuses it"}  # fmt: skip
 NAMES = [b"b", b" ", b"\\", "\u00e9".encode(), b"a\tb", "\u202ex".encode(), b"b"]
+UNACCEPTING: list[Serve] = [closes, functools.partial(says, b"\xff" * 4), functools.partial(says, b"\0\0\0\x25\0")]
 ENDS: list[tuple[Serve, list[str], int, str, str]] = [
-    *((serve, words, 7, "", UNACCEPTED) for serve in (closes, functools.partial(says, b"\xff" * 4), functools.partial(says, b"\0\0\0\x25\0")) for words in (GET, SET)),
+    *((serve, words, 7, "", UNACCEPTED) for serve in UNACCEPTING for words in (GET, SET)),
     *((refuses, words, 8, "", EXPIRED) for words in (GET, SET, TREE)),
     *((functools.partial(is_silent, 30_000), words, 8, "", f"{LATE}\n") for words in (GET, LS, TREE, ["stat", "/a"])),
     *((functools.partial(is_silent, 30_000), words, 8, "", f"{LATE}, and it may or may not have happened\n") for words in (SET, ["create", "/a", ""], ["delete", "/a"])),
@@ -328,7 +329,8 @@ class ShellsTest(unittest.TestCase):
         """A tree below which is one is refused; a list has it; and a name that comes twice is one."""
         for name in (b"", b".", b"..", b"b/c", b"a\tb", "\uffff".encode(), b"n" * 4094):
             serve: Serve = functools.partial(answers, functools.partial(listing, [b"b", name, b"b"]))
-            self.assertEqual(*self.ends_of(serve, [*LS, "--json"]))
+            zk, python = self.ends_of(serve, [*LS, "--json"])
+            self.assertEqual(zk, python, name)
             for words in (TREE, [*TREE, "--json"], [*TREE, "--depth", "0"]):
                 zk, python = self.ends_of(serve, words)
                 self.assertEqual(zk, python, name)
@@ -342,7 +344,8 @@ class ShellsTest(unittest.TestCase):
             return listing([b"b", b"c"], asked) if b"/b" not in asked.body else reply(asked, code=-102)
 
         serve: Serve = functools.partial(answers, answer)
-        for words, status in ((["--depth", "1"], 0), (["--most", "1"], 11), ([], 6)):
+        ends: list[tuple[list[str], int]] = [(["--depth", "1"], 0), (["--most", "1"], 11), ([], 6)]
+        for words, status in ends:
             zk, python = self.ends_of(serve, [*TREE, *words])
             self.assertEqual(zk, python)
             self.assertEqual(zk[0], status)
