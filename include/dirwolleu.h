@@ -446,8 +446,8 @@ int64_t dw_session_timeout_ms(dw_session *handle);
  * past. DW_OK, DW_NONE where nothing will be due, DW_CLOSED; then 0 is written. */
 enum dw_result dw_session_deadline(dw_session *handle, uint64_t *first_ms);
 
-/* Writes the moment at which the server was heard last, on any connection. What is kept and good was so at some moment from then on, or was
- * reported after it. DW_OK, DW_NONE where it was not heard yet, DW_CLOSED; then 0 is written. */
+/* Writes the moment at which the server was heard last, on any connection. What is kept and good was so on the server when
+ * it sent that, or later: how long it was on its way nobody says. DW_OK, DW_NONE where it was not heard yet, DW_CLOSED; then 0 is written. */
 enum dw_result dw_session_heard_at(dw_session *handle, uint64_t *moment_ms);
 
 /* Writes the bytes from which dw_session_resume takes the session up, as many as there is room for, and how many there are: 20 and those
@@ -456,7 +456,7 @@ enum dw_result dw_session_heard_at(dw_session *handle, uint64_t *moment_ms);
 enum dw_result dw_session_saved(dw_session *handle, uint8_t *out, size_t room, size_t *count);
 
 /* What is kept of a path that was read with a watch. It is good until a change is told, and then stale until it is read again. A
- * look-up of a path takes memory for the path, within the call. */
+ * look-up takes memory at most for the path, within the call. */
 enum dw_mark DW_AS_INT32 { DW_MARK_GOOD = 1, DW_MARK_STALE = 2 };
 enum dw_kept DW_AS_INT32 { DW_KEPT_NOTHING = 0, DW_KEPT_ABSENT = 1, DW_KEPT_KNOWN = 2, DW_KEPT_FULL = 3 };
 

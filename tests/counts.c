@@ -20,25 +20,24 @@ static const struct row {
 } rows[] = {
     {ASKS, -1},
     {NULL_REPLY, -1},
-    /* The piece, the place of the report among the client's outputs, and that among the session's. Its text is the one that was in the list of
-     * those watched. */
-    {NOTICE, 3},
-    /* The path is not watched any more: the piece. */
+    /* The piece. The places of the report among outputs are in rooms that are kept, and its text is the one that was in the list of those watched. */
+    {NOTICE, 1},
+    /* The path is not watched any more. */
     {NOTICE, 1},
     {ASKS, -1},
-    /* The piece, the places of the answer, and the path's text in the list of those watched. */
-    {NULL_REPLY, 4},
-    {NOTICE, 3},
+    /* The piece, and the path's text in the list of those watched. */
+    {NULL_REPLY, 2},
+    {NOTICE, 1},
     {ASKS, -1},
     /* The same, and the data twice: kept, and answered. */
-    {HI_REPLY, 6},
+    {HI_REPLY, 4},
     /* An unfinished frame becomes what is held. */
     {BEGINNING, 1},
-    /* What is held grows, and the report. */
-    {REST, 4},
+    /* The piece, and what is held grows. */
+    {REST, 2},
     {ASKS, -1},
-    {HI_REPLY, 6},
-    {NOTICE, 3},
+    {HI_REPLY, 4},
+    {NOTICE, 1},
     {NOTICE, 1},
 };
 

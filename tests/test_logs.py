@@ -109,7 +109,7 @@ REFUSED += [("--log a --x", "a word is unexpected"), ("--json b --log a", "a wor
 
 @unittest.skipIf(program() is None, "there is no zk_shell: rt ci builds it")
 class LogTest(unittest.TestCase):
-    def _outcome(self, files: Files, words: str) -> str:
+    def _end_of(self, files: Files, words: str) -> str:
         before = os.getcwd()
         with tempfile.TemporaryDirectory() as folder:
             os.chdir(folder)
@@ -124,26 +124,28 @@ class LogTest(unittest.TestCase):
     def test_rows(self) -> None:
         for name, files, words, wanted in ROWS:
             with self.subTest(name):
-                self.assertEqual(wanted, self._outcome(files, words))
+                self.assertEqual(wanted, self._end_of(files, words))
 
     def test_objects(self) -> None:
-        printed, told, status = self._outcome({"a": FIRST}, "--log a --path /a --json").split("|")
+        printed, told, status = self._end_of({"a": FIRST}, "--log a --path /a --json").split("|")
         self.assertEqual((OBJECTS, "", "0"), ([json.loads(line) for line in printed.splitlines()], told, status))
 
     def test_each_cut_is_torn_or_whole(self) -> None:
+        """As long as a record has zeros alone, as the first half of a checksum, it is none yet."""
         for cut in range(RECORDS[16] + 1, END):
-            self.assertEqual(f"{lines(1, 15)}torn a 1390\n||0", self._outcome({"a": FIRST[:cut]}, "--log a"), cut)
+            torn = "torn a 1390\n" if any(FIRST[RECORDS[16] : cut]) else ""
+            self.assertEqual(f"{lines(1, 15)}{torn}||0", self._end_of({"a": FIRST[:cut]}, "--log a"), cut)
 
     def test_words_that_are_refused(self) -> None:
         for words, why in REFUSED:
-            self.assertEqual(f"|error: {why}|2", self._outcome({"a": FIRST}, words).replace(self._hint(), ""), words)
+            self.assertEqual(f"|error: {why}|2", self._end_of({"a": FIRST}, words).replace(self._hint(), ""), words)
 
     @staticmethod
     def _hint() -> str:
         return "\n\nFor more information, try 'zk_shell history --log --help'.\n"
 
     def test_help_has_80_columns(self) -> None:
-        printed, told, status = self._outcome({}, "--log --help").split("|")
+        printed, told, status = self._end_of({}, "--log --help").split("|")
         self.assertEqual(("", "0"), (told, status))
         self.assertLessEqual(max(map(len, printed.splitlines())), 80)
 

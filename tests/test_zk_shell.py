@@ -158,7 +158,7 @@ def loopback(_: Case) -> str:
     """Over TCP: an answer, a server that is silent, a host by its name, IPv6, and a host that is none."""
     with world() as served:
         came = outcome(["create", f"127.0.0.1:{served.port}", "/a", "one"])[1]
-    missing = "host not found" in outcome(["get", "a..b:2181", "/a", "--wait", "1"])
+    missing = "host not found" in outcome(["get", "missing.invalid:2181", "/a", "--wait", "2"])
     return (
         f"{came} came, {'a' if read_ends() else 'no'} read ends in time, {'a' if name_is_dialled() else 'no'} name is dialled,"
         f" {'IPv6' if six_is_dialled() else 'no IPv6'} is dialled, {'a' if missing else 'no'} missing host is told\n"

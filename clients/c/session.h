@@ -380,8 +380,8 @@ int64_t dws_last_zxid(dws_session *s);
  * then. What is followed is followed still. */
 void dws_forget(dws_session *s);
 
-/* How many milliseconds ago the server was heard last, or -1 if it was not yet. What is marked good was so at some moment since then, or later. The
- * time counts in which the system was suspended, too, on a system with CLOCK_BOOTTIME. */
+/* How many milliseconds ago the server was heard last, or -1 if it was not yet. What is marked good was so on the server when it sent that, or
+ * later: how long it was on its way nobody says. The time counts in which the system was suspended, too, on a system with CLOCK_BOOTTIME. */
 int64_t dws_heard_ms(dws_session *s);
 
 /* The number of the session: the owner of its ephemeral nodes. It is 0 before a server has accepted it. */

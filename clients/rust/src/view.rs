@@ -64,8 +64,8 @@ impl View<'_> {
         self.engine.machine().timeout()
     }
 
-    /// How long ago a server was heard last, on any connection, and none where it was not heard yet. What is kept and good was so at some
-    /// moment since then. It goes by [`Instant`](std::time::Instant), which on Linux stands still while the machine is suspended: that time
+    /// How long ago a server was heard last, on any connection, and none where it was not heard yet. What is kept and good was so on the
+    /// server when it sent that, or later. It goes by [`Instant`](std::time::Instant), which on Linux stands still while the machine is suspended: that time
     /// is not counted.
     pub fn age(&self) -> Option<Duration> {
         self.engine.age()

@@ -262,13 +262,24 @@ impl<A: Allocator + Copy> Told<A> {
             failed = failed || part.0 == -1;
         }
         for part in parts {
-            let bytes = part.1.as_slice().unwrap_or(&[]);
-            let txn = Txn::of_part(alloc, part.0, bytes)?;
             if !failed || part.0 == -1 {
-                self.tell_txn(alloc, plan, stamp, &txn)?;
+                self.tell_part(alloc, plan, stamp, part)?;
             }
         }
         Ok(())
+    }
+
+    /// Reads a part of a multi, and tells of it.
+    fn tell_part(
+        &mut self,
+        alloc: A,
+        plan: &LogPlan<'_, A>,
+        stamp: &Stamp,
+        part: &PartTxn<A>,
+    ) -> Result<(), EntryFault> {
+        let bytes = part.1.as_slice().unwrap_or(&[]);
+        let txn = Txn::of_part(alloc, part.0, bytes)?;
+        self.tell_txn(alloc, plan, stamp, &txn).map_err(From::from)
     }
 
     /// Tells of an entry.

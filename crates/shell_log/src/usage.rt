@@ -10,7 +10,7 @@ Prints what transaction logs of ZooKeeper say, a line for each change
 Usage: zk_shell history --log <FILE>.. [--path <PATH>] [--at <ZXID>] [--json]
 
 Options:
-      --log <FILE>..  Logs of one server: the files log.* of its dataDir/version-2
+      --log <FILE>..  Logs of one server: log.* of its dataDir/version-2
       --path <PATH>   Only what concerns this path
       --at <ZXID>     With --path what the path held at this zxid, else that
                       transaction alone

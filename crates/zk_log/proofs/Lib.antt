@@ -5,3 +5,4 @@ pub mod Entries
 pub mod HeaderLaws
 pub mod LogLaws
 pub mod PartLaws
+pub mod FieldFaults

@@ -60,6 +60,19 @@ impl<'a, A: Allocator + Copy> Txn<'a, A> {
             TxnKind::DeleteContainer => Ok(Txn::DeleteContainer(TextRef::read(alloc, at)?)),
             TxnKind::Set => Ok(Txn::Set(SetDataTxn::read(alloc, at)?)),
             TxnKind::Reconfig => Ok(Txn::Reconfig(SetDataTxn::read(alloc, at)?)),
+            other => Txn::read_other(alloc, other, at),
+        }
+    }
+
+    /// The same of an operation that makes, deletes or sets no node. It has no memory for another one.
+    fn read_other(alloc: A, kind: TxnKind, at: &mut Cursor<'a>) -> Result<Txn<'a, A>, TakeError>
+        ensures len { payload_len at.new ≡ payload_len at.old }
+        ensures same { IfOk result (λ t. kind_of t ≡ kind) }
+        ensures gives { MatchResult result
+            (λ t. reading (fields (kind_of t)) (payload_len at.old) (bytes_left at.old) ≡ Ok (body_of t, bytes_left at.new))
+            (λ e. e ≢ TakeError.Memory → reading (fields kind) (payload_len at.old) (bytes_left at.old) ≡ Err e) }
+    {
+        match kind {
             TxnKind::SetAcl => Ok(Txn::SetAcl(SetAclTxn::read(alloc, at)?)),
             TxnKind::Check => Ok(Txn::Check(CheckVersionTxn::read(alloc, at)?)),
             TxnKind::Multi => Ok(Txn::Multi(List::read(alloc, at)?)),
@@ -67,6 +80,7 @@ impl<'a, A: Allocator + Copy> Txn<'a, A> {
             TxnKind::CloseSession => Ok(Txn::CloseSession(List::read(alloc, at)?)),
             TxnKind::CloseSessionAlone => Ok(Txn::CloseSessionAlone),
             TxnKind::Error => Ok(Txn::Error(i32::read(alloc, at)?)),
+            _ => Err(TakeError::Memory),
         }
     }
 }

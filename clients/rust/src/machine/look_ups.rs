@@ -23,7 +23,7 @@ impl Machine {
     }
 
     /// The moment at which the server was heard last, on any connection, and none where it was not heard yet. What is kept and good was so
-    /// at some moment from then on, or was reported after it.
+    /// on the server when it sent that, or later.
     pub fn heard_at(&self) -> Option<Moment> {
         self.handle.heard_at()
     }
