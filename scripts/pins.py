@@ -6,7 +6,7 @@ A pin has a part for each clause, field and text of equations. The checksum of a
 what the imports of its file take the names in it for: a name that is imported from elsewhere says something else.
 
 A message of a commit names a statement by the name of its definition or function (`IsFollowed`, `Client::step`); what a file gives its callers, by
-the file (`zk_client/src/lib.rt`); a test, by its name, its class or its file; rows, by their file (`scripts/stdout`, `cases.txt`); an edit, by
+the file (`zk_client/src/lib.rt`); a test, by its name, its class or its file; rows, by their file (`cases.txt`); an edit, by
 its name or what it turns. A list of names will do. A new statement, and one that only moved to another file, needs no word.
 """
 

@@ -1,4 +1,22 @@
-"""The built zk_shell over the scripts of scripts/stdin: what is printed, told and answered is in scripts/stdout. All outside it is in memory."""
+"""Runs the built zk_shell on the scripts of the tables in scripts/. Everything outside the program is in memory (outside.c), the servers too.
+
+A row is a command line, its script, and the expected PRINTED|TOLD|STATUS: standard output, standard error, exit status. Its `@` lines are the
+servers, in the order in which they are dialled. `dial ADDRESS` is a server, followed by a line per frame that it expects: the frame and its answer
+in hex, `-` for no answer, and the delay of the answer in milliseconds, if there is one. `down ADDRESS` refuses the connection. In a script `{number}`
+is the number of the run, and `{frame HEX}` a frame with that many bytes of the payload.
+
+    COMMAND LINE           runs the script whole, byte by byte, with one `bytes` line per byte, and with each request for memory refused in turn
+    each LEAST MOST: ..    runs it once per number: whole, byte by byte, and with one `bytes` line per byte. All runs print the same
+    fails LEAST MOST: ..   the same; the first connection fails after that many bytes
+    reports LEAST MOST: .. the same; compares only reports, the last zxid, and answers that differ from the history
+    refused COUNT: ..      refuses each request for memory in turn; tells whether there were more than COUNT, and how the runs ended
+    broken: ..             fails the writer once, after each number of bytes
+    small MOST: ..         refuses each request for more than MOST bytes, of a script that announces more than it brings
+    unread: ..             fails the reader, after each number of bytes
+    world LEAST MOST: ..   runs against a server in memory, whose plan are the `@` lines `NAME NUMBER` (tree_server.c), once per `{number}` in it
+    disturbed MOST: ..     the same, with reads of at most 1 to MOST bytes, which change nothing but last zxids; with a writer that fails once; and
+                           with each request for memory refused
+"""
 
 from __future__ import annotations
 
@@ -8,7 +26,7 @@ from typing import Callable, Iterator, NamedTuple
 
 from outside import Outside, Refused, lacks_compiler
 from shell import program
-from tables import HERE
+from tables import cases_of
 
 UNWRITTEN = "||4"
 """What a command tells and answers whose reader has gone."""
@@ -16,12 +34,13 @@ OUT_OF_MEMORY = 3
 MOST_WITHOUT = 4
 SHARES = 4
 """The tests that each take a share of the rows, side by side."""
+TABLES = ("show", "history", "replay", "rehearse", "live", "watch", "memory")
 
 
 class Case(NamedTuple):
-    """A case of stdin: its header, kind, least and greatest number, command line, table and script, and what stdout has of it."""
+    """A row of a table: its place, kind, least and greatest number, command line, servers, script, and expected text."""
 
-    header: str
+    place: str
     kind: str
     least: int
     most: int
@@ -31,43 +50,38 @@ class Case(NamedTuple):
     wanted: str
 
 
-def texts_in(name: str) -> list[str]:
-    return ("\n" + (HERE / "scripts" / name).read_bytes().decode().removesuffix("\n")).split("\n== ")[1:]
-
-
 def cases(*kinds: str) -> Iterator[Case]:
-    """The cases of some kinds, in their order."""
-    for given, printed in zip(texts_in("stdin"), texts_in("stdout"), strict=True):
-        header, _, body = given.partition("\n")
-        kind, _, line = header.rpartition(": ")
-        name, *numbers = (kind or "row").split(" ")
-        least, most = [int(number) for number in [*numbers, "0", "0"][:2]]
-        table, _, script = body.rpartition("\n--\n")
-        if name in kinds:
-            yield Case(header, name, least, most, line.split(" ")[1:], table, script, printed.partition("\n")[2] + "\n")
+    """The rows of some kinds, in their order."""
+    for name in TABLES:
+        for case in cases_of(f"scripts/{name}.txt"):
+            for row in case.rows:
+                kind, numbers, words = row.kind
+                least, most = [*numbers, 0, 0][:2]
+                if kind in kinds:
+                    place = f"{name}.txt:{row.line}: {case.name}"
+                    yield Case(place, kind, least, most, words, "\n".join(row.dialled), row.script, "\n".join(row.wanted) + "\n")
 
 
 def expanded(script: str, number: int = 0) -> str:
-    """A script for this number, with `{TEXT*COUNT}`, `{frame HEX}` and `{number}` written out."""
-    text = re.sub(r"\{([^{}*]*)\*(\d+)\}", lambda found: found[1] * int(found[2]), script)
-    text = re.sub(r"\{frame (\w+)\}", lambda found: f"{number:08x}{found[1][: 2 * number]}", text)
+    """The script of this run, with `{frame HEX}` and `{number}` written out."""
+    text = re.sub(r"\{frame (\w+)\}", lambda found: f"{number:08x}{found[1][: 2 * number]}", script)
     return text.replace("{number}", str(number))
 
 
 def by_bytes(script: str) -> str:
-    """A script with a line for each byte that comes."""
+    """The script with each `bytes` line split into one per byte."""
     return re.sub(r"(?m)^bytes (.*)$", lambda found: "\n".join(f"bytes {found[1][at : at + 2]}" for at in range(0, len(found[1]), 2)), script)
 
 
 def reports(printed: str) -> str:
-    """The lines that tell a report, the last zxid, an answer that differs from the history, and how it ended."""
+    """The lines of reports, of the last zxid, of answers that differ from the history, and of the ending."""
     lines = printed.splitlines(keepends=True)
     return "".join(line for line in lines if line.startswith(("report ", "last ", "|")) or line.endswith(" differs\n"))
 
 
 def ended(refused: Refused, whole: str) -> str | None:
-    """How a run ended: `nothing` was printed, or whole lines of what is printed else, or such lines and that of a `halt`. None if it is none of
-    these, or something was told, or the status is another one."""
+    """How a run ended that was refused memory: it printed `nothing`, or whole `lines` of the full output, or it `halts` after such lines. None if it
+    ended in any other way, wrote to standard error, or had another status."""
     printed = refused.printed.removesuffix("halt\n")
     if refused.told or refused.status != OUT_OF_MEMORY or not whole.startswith(printed) or printed[-1:] not in ("", "\n"):
         return None
@@ -84,12 +98,12 @@ class ScriptsTest(unittest.TestCase):
 
     def _each(self, does: Callable[[Case], None], *kinds: str, share: int = 0, shares: int = 1) -> None:
         for case in list(cases(*kinds))[share::shares]:
-            with self.subTest(case.header, script=case.script[:80]):
+            with self.subTest(case.place):
                 does(case)
 
     def _refusals(self, case: Case) -> tuple[str, list[str]]:
-        """What a case prints, and how it ends with each request for memory refused in turn. It does all without the room of what is printed, and
-        without a note of why an address was not reached, which another command tells."""
+        """What a case prints, and how it ends if each request for memory is refused in turn. A few refusals change nothing: those of the output
+        buffer, and of the note why an address was not reached, which only another command prints."""
         whole, refused = self.outside.refusals(case.words, expanded(case.script), case.table)
         others = [one for one in refused if f"{one.printed}|{one.told}|{one.status}" != whole]
         self.assertLessEqual(len(refused) - len(others), MOST_WITHOUT, len(others))
@@ -121,14 +135,14 @@ class ScriptsTest(unittest.TestCase):
         self.assertEqual(case.wanted, ", ".join(words) + "\n")
 
     def _broken(self, case: Case) -> None:
-        """The writer fails once, after each count of bytes: these are written, and no others."""
+        """Fails the writer after each number of bytes: exactly these are written."""
         printed = self.outside.run(case.words, case.script, case.table).removesuffix("||0")
         for count in range(len(printed)):
             self.assertEqual(printed[:count] + UNWRITTEN, self.outside.run(case.words, case.script, written=count), count)
         self.assertEqual(case.wanted, self.outside.run(case.words, case.script, written=len(printed)) + "\n")
 
     def _unread(self, case: Case) -> None:
-        """The reader fails, after each count of bytes and at its end."""
+        """Fails the reader after each number of bytes, and at the end of the script."""
         for count in range(len(case.script) + 1):
             self.assertEqual(case.wanted, self.outside.run(case.words, case.script, piece=1, read=count) + "\n", count)
 
@@ -141,8 +155,8 @@ class ScriptsTest(unittest.TestCase):
             self.assertEqual(case.wanted, self.outside.run(case.words, case.script, table) + "\n", number)
 
     def _disturbed(self, case: Case) -> None:
-        """Data in pieces, an output that fails at each line's beginning and within it, and refused memory. By the last zxid it is seen which
-        messages came at once."""
+        """Reads in pieces, an output that fails at the beginning and in the middle of each line, and refused memory. Last zxids are left out of the
+        comparison, since they show which messages came at once."""
         whole, _ = self._refusals(case)
         self.assertEqual(case.wanted, whole + "\n")
         for piece in range(1, case.least + 1):

@@ -11,13 +11,13 @@ import socket
 import tempfile
 import time
 import unittest
-from typing import Callable, NamedTuple
+from typing import Callable, Iterator, NamedTuple
 from unittest.mock import patch
 
 from python_shell import outcome_of_python
 from served import World, world
 from shell import TOP, outcome, program
-from tables import HERE, Row, cases_of, numbered, repeated
+from tables import HERE, Row, cases_of, repeated
 
 ADDRESS = "127.0.0.1:2181"
 """The address in rows, for that of the server."""
@@ -29,9 +29,9 @@ LATEST_MS = 20_000
 
 
 class Case(NamedTuple):
-    """A case of shell/stdin: its header, kind, numbers, command line and script, and what shell/stdout has of it."""
+    """A row of shell/commands.txt: its place, kind, numbers, command line, script, and expected text."""
 
-    header: str
+    place: str
     kind: str
     numbers: list[int]
     words: list[str]
@@ -39,39 +39,31 @@ class Case(NamedTuple):
     wanted: str
 
 
-def texts_in(name: str) -> list[str]:
-    return (HERE / "shell" / name).read_bytes().decode().removesuffix("\n").split("\n== ")[1:]
-
-
-def cases() -> list[Case]:
-    """The cases: a line `== HEADER` and a script in shell/stdin, the same line and what is printed in shell/stdout."""
-    found = []
-    for given, printed in zip(texts_in("stdin"), texts_in("stdout"), strict=True):
-        header, _, script = given.partition("\n")
-        kind, _, line = header.rpartition(": ")
-        name, *numbers = kind.split(" ")
-        wanted = printed.partition("\n")[2] + "\n"
-        found.append(Case(header, name, [int(word) for word in numbers], line.split(" "), script, wanted))
-    return found
+def cases(kind: str) -> Iterator[Case]:
+    """The rows of a kind."""
+    for case in cases_of("shell/commands.txt"):
+        for row in case.rows:
+            if row.kind[0] == kind:
+                yield Case(f"commands.txt:{row.line}: {case.name}", *row.kind, row.script, "\n".join(row.wanted) + "\n")
 
 
 def whole(case: Case) -> str:
-    return outcome(case.words[1:], repeated(case.script).encode())
+    return outcome(case.words, case.script.encode())
 
 
 def heads(case: Case) -> str:
-    """Of what is printed the lines after the first few, each up to its 45th byte."""
+    """The printed lines after the first few, each cut to 45 bytes."""
     return "".join(f"{line[:HEAD]}\n" for line in whole(case).split("\n")[case.numbers[0] :])
 
 
 def ends(case: Case) -> str:
-    """This many bytes from the beginning, and this many from the end."""
+    """That many bytes of the beginning, and that many of the end."""
     printed, (first, last) = whole(case), case.numbers
     return f"{printed[:first]}\n{printed[-last:]}\n"
 
 
 def addresses(case: Case) -> str:
-    """Of each line whether `live` takes it for an address. Its script, which is read after that, can't be: so nothing is dialled."""
+    """For each line, whether `live` accepts it as an address. Nothing is dialled, since the script, which `live` reads next, can't be read."""
     unread = os.open(HERE, os.O_RDONLY)
     try:
         statuses = [(outcome(["live", word], unread)[-1], word) for word in case.script.split("\n")]
@@ -81,7 +73,7 @@ def addresses(case: Case) -> str:
 
 
 def refuse_reads() -> None:
-    """Before a command: also root reads no file that nobody may read."""
+    """Called before a command, so that even root can't read a file without permissions."""
     library = ctypes.CDLL(None)
     for capability in (OVERRIDES, SEARCHES):
         library.prctl(DROP_CAPABILITY, capability, 0, 0, 0)
@@ -113,7 +105,8 @@ def asked(served: World, line: str, given: bytes, is_python: bool) -> str:
 
 
 def asks(case: Case, is_python: bool = False) -> str:
-    """Command lines over one server, of which `part` cuts all off and which `join` lets in again; `hosts` are those of the environment."""
+    """Runs command lines against one server. `file NAME HEX` makes a file, of which `denied` can't be opened, `broken` can't be read, and `-` is
+    standard input; `part` cuts the server off, and `join` lets it be dialled again; `hosts SERVERS` sets the servers of the environment."""
     printed, lines = "", case.script.splitlines()
     before = os.getcwd()
     with world() as served, tempfile.TemporaryDirectory() as folder, patch.dict(os.environ):
@@ -196,8 +189,8 @@ def without_moments(text: str) -> str:
 
 
 def settled(text: str) -> str:
-    """At an address that refuses, a busy machine dials less or more often by the time that the command ends: what is printed of that again is left
-    out, and so is a last dial whose end has not come."""
+    """Drops the repeated lines of an address that refuses connections, and a last dial that has not ended: how many there are depends on the load of
+    the machine."""
     lines = text.split("\n")
     plain = [without_moments(line) for line in lines]
     again = {at for at in range(2, len(lines)) if plain[at] == plain[at - 2] and any("failed" in line for line in plain[at - 1 : at + 1])}
@@ -221,8 +214,7 @@ class ShellTest(unittest.TestCase):
                     self._compare(f"{table}:{row.line}: {case.name}", row)
 
     def _compare(self, place: str, row: Row) -> None:
-        given = "".join(f"{line}\n" for text in row.given for line in numbered(repeated(text)))
-        got, wanted = outcome(row.words, given.encode()), "\n".join(row.wanted)
+        got, wanted = outcome(row.words, row.script.encode()), "\n".join(row.wanted)
         if row.wanted[0] == "..":
             wanted = wanted[3:]
             got = got[-len(wanted) :]
@@ -240,10 +232,9 @@ class ShellTest(unittest.TestCase):
             self.assertEqual(SHOWN, outcome(["show", "--stream"], pieces), f"cut after {cut // 2} bytes")
 
     def _kind(self, does: Callable[[Case], str]) -> None:
-        for case in cases():
-            if case.kind == does.__name__:
-                with self.subTest(case.header):
-                    self._is(case.header, case.wanted, does(case))
+        for case in cases(does.__name__):
+            with self.subTest(case.place):
+                self._is(case.place, case.wanted, does(case))
 
     def test_heads(self) -> None:
         self._kind(heads)
@@ -258,10 +249,9 @@ class ShellTest(unittest.TestCase):
         self._kind(asks)
 
     def test_commands_of_python_by_the_same_rows(self) -> None:
-        for case in cases():
-            if case.kind == "asks":
-                with self.subTest(case.header):
-                    self._is(case.header, case.wanted, asks(case, True))
+        for case in cases("asks"):
+            with self.subTest(case.place):
+                self._is(case.place, case.wanted, asks(case, True))
 
     def test_loopback(self) -> None:
         self._kind(loopback)

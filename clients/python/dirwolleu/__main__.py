@@ -16,7 +16,7 @@ from dirwolleu.shell import faults
 from dirwolleu.shell.connections import Attempts, Connections, Said
 from dirwolleu.shell.faults import Ending
 from dirwolleu.shell.printing import escaped
-from dirwolleu.shell.words import COMMANDS, general_help, read, read_file
+from dirwolleu.shell.words import COMMANDS, PROGRAM, general_help, help_of, read, read_file
 
 Write = Callable[[Union[str, bytes]], None]
 
@@ -145,31 +145,61 @@ def _write_no_more() -> None:
     os.dup2(os.open(os.devnull, os.O_WRONLY), 1)
 
 
+def _no_command() -> Ending:
+    named = f"'{PROGRAM}' requires a subcommand but one was not provided\n  [subcommands: {', '.join([*COMMANDS, 'help'])}]"
+    return faults.refused(f"{named}\n\nUsage: {PROGRAM} <COMMAND>")
+
+
+def _read_option(first: str) -> str:
+    """What is printed for an option that stands before a command: of letters after one dash, the first counts."""
+    name, equals, value = first.partition("=")
+    if name in ("--help", "--version") and equals:
+        raise faults.refused(f"unexpected value '{value}' for '{name}' found; no more were expected")
+    if first == "--help" or first[:2] == "-h":
+        return general_help()
+    if first == "--version" or first[:2] == "-V":
+        return f"{_version()}\n"
+    raise faults.refused(f"unexpected argument '{name if first.startswith('--') else first[:2]}' found")
+
+
+def _read_after_dashes(words: Sequence[str]) -> Ending:
+    """Why no words are taken that follow two dashes."""
+    if not words:
+        return _no_command()
+    is_command = words[0] in COMMANDS or words[0] == "help"
+    return faults.refused(f"unexpected argument '{words[0]}' found" if is_command else f"unrecognized subcommand '{words[0]}'")
+
+
+def _help(words: Sequence[str]) -> str:
+    """The help that is asked for by the words after `help`."""
+    unknown = words if words and words[0] not in (*COMMANDS, "help") else words[1:]
+    if unknown:
+        raise faults.refused(f"unrecognized subcommand '{unknown[0]}'")
+    return help_of(words[0]) if words and words[0] in COMMANDS else general_help()
+
+
 def _read(words: Sequence[str]) -> Optional[argparse.Namespace]:
     """What the words ask for, or None if that is help or the version, which is printed."""
     if not words:
-        raise faults.usage("a command is wanted\n\nFor more information, try '--help'.")
+        raise _no_command()
     for number, one in enumerate(words, 1):
         if re.search("[\ud800-\udfff]", one):
             raise faults.usage(f"word {number} is not UTF-8: {escaped(os.fsencode(one))}")
     first, *others = words
-    if first in ("-h", "--help") or words == ["help"]:
-        print(general_help(), end="")
-        return None
-    if first in ("-V", "--version"):
-        print(_version())
-        return None
+    if first == "--":
+        raise _read_after_dashes(others)
+    if first in COMMANDS:
+        chosen = read(first, others)
+        if chosen is None:
+            print(help_of(first), end="")
+        return chosen
     if first == "help":
-        first, *others = others
-        if others:
-            raise faults.usage(f"unrecognized subcommand '{others[0]}'\n\nFor more information, try '--help'.")
-        others = ["--help"]
-    if first.startswith("-") and first not in ("-", "--"):
-        unexpected = first.partition("=")[0] if first.startswith("--") else first[:2]
-        raise faults.usage(f"unexpected argument '{unexpected}' found\n\nFor more information, try '--help'.")
-    if first not in COMMANDS:
-        raise faults.usage(f"unrecognized subcommand '{first}'\n\nFor more information, try '--help'.")
-    return read(first, others)
+        print(_help(others), end="")
+    elif first.startswith("-") and first != "-":
+        print(_read_option(first), end="")
+    else:
+        raise faults.refused(f"unrecognized subcommand '{first}'")
+    return None
 
 
 def main(words: Optional[Sequence[str]] = None) -> int:

@@ -195,9 +195,9 @@ new_bytes.restype, new_bytes.argtypes = ctypes.py_object, (ctypes.c_void_p, ctyp
 _FEW = 512
 
 
-def filled(call: Callable[..., int]) -> bytes:
-    """What a call writes into a room, of which it is told how much there is, and counts."""
-    count, room = c_size_t(), new_bytes(None, _FEW)
+def filled(call: Callable[..., int], likely: int = 0) -> bytes:
+    """What a call writes into a room, of which it is told how much there is, and counts. It is likely to want no more than this."""
+    count, room = c_size_t(), new_bytes(None, max(likely, _FEW))
     while True:
         checked(call(room, len(room), byref(count)))
         if count.value <= len(room):

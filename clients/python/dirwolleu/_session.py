@@ -9,6 +9,7 @@ have or had one.
 from __future__ import annotations
 
 import enum
+import operator
 import struct
 from collections.abc import Sequence
 from ctypes import byref, c_char, c_size_t, c_uint64, create_string_buffer
@@ -27,6 +28,8 @@ LONGEST_ANSWER, LONGEST_REQUEST = 4_194_304, 1_048_575
 """The most bytes of a frame that comes and of one that is sent, each after its length, where a program says no other."""
 MOST_AT_ONCE = 98_304
 """How many bytes of what a step says are taken together, at most. What is longer is taken one output after the other, and copied once."""
+LONG = 65_536
+"""An output of this many bytes is copied once, if as many have come for it."""
 _REFUSALS = frozenset((library.READ_CODE, library.READ_TOO_MANY_WATCHES, library.READ_TOO_LARGE, library.READ_CLOSED))
 _EVENTS = frozenset((library.NODE_CREATED, library.NODE_DELETED, library.DATA_CHANGED, library.CHILDREN_CHANGED))
 _SIDES = frozenset((library.DATA_SIDE, library.CHILDREN_SIDE))
@@ -36,7 +39,9 @@ _RESULTS = frozenset(range(library.CODE, library.RAW + 1))
 _output = struct.Struct(">iiiiQqQQ??qqqqiiiqiiqi")  # an output: its fields, its Stat, and how many bytes follow
 _output_at, _SIZE_OF_OUTPUT = _output.unpack_from, _output.size
 _fields_of_output = fields_of(library._Output)
-_HEAD, _END_OF_STAT = 10, 21  # of these: what is before the Stat, and with it
+_LENGTH, _HEAD, _END_OF_STAT = 6, 10, 21  # of these: the length of the text, what is before the Stat, and with it
+_as_the_protocol_has_it = operator.itemgetter(*range(14), 16, 17, 18, 14, 19, 20, 15)
+"""The fields of an output with those of the Stat in the order of the protocol."""
 _SEND, _ANSWER, _START = library.SEND, library.ANSWER, c_size_t(0)
 
 
@@ -151,6 +156,8 @@ class Session(LookUps):
         super().__init__(root)
         self._output, self._count, self._take_all = library._Output(), c_size_t(), self._calls.outputs
         self._make_room(4096)
+        self._untold = 0
+        """How many bytes have come since a step said something."""
         if saved is None:
             checked(self._calls.open_with_limits(self._handle, timeout_ms, addresses, seed, *limits))
         else:
@@ -177,7 +184,12 @@ class Session(LookUps):
     def received(self, now: int, data: Union[bytes, memoryview]) -> list[Action]:
         """Bytes came, maybe in memory that the caller can write. Raises `NoMemory` where they can be handed in again."""
         at = data if isinstance(data, bytes) else byref(c_char.from_buffer(data))
-        return self._outputs(self._calls.bytes(self._handle, now, at, len(data)))
+        code = self._calls.bytes(self._handle, now, at, len(data))
+        self._untold += len(data)
+        outputs = self._outputs(code) if self._untold < LONG or code < library.OK else self._each_output(LONG)
+        if outputs:
+            self._untold = 0
+        return outputs
 
     def addresses(self, now: int, count: int) -> list[Action]:
         """The list of addresses is another one, of this many."""
@@ -304,27 +316,29 @@ class Session(LookUps):
         self._make_room(wanted)
         return bool(self._take_all(*self._place) == library.OK)
 
-    def _each_output(self) -> list[Action]:
-        """The same, one output after the other. Where there is no memory for one, it is lost."""
+    def _each_output(self, least: int = 0) -> list[Action]:
+        """The same, one output after the other, and all that follow one of fewer bytes than these together. Where there is no memory for
+        one, it is lost."""
         outputs: list[Action] = []
-        handle, output, take = byref(self._handle), byref(self._output), self._calls.next
+        handle, output, take = self._place[0], byref(self._output), self._calls.next
         while (code := take(handle, output)) == library.OK:
-            *head, czxid, mzxid, ctime, mtime, owner, pzxid, version, cversion, aversion, length, children = _fields_of_output(self._output)
-            stat = czxid, mzxid, ctime, mtime, version, cversion, aversion, owner, length, children, pzxid
+            fields = _as_the_protocol_has_it(_fields_of_output(self._output))
             try:
-                outputs.append(self._read((*head, *stat), self._bytes_of(*head)))
+                outputs.append(self._read(fields, self._bytes_of(fields)))
             except NoMemory:
                 checked(library.HALTED)
+            if fields[_LENGTH] < least:
+                return outputs + self._outputs(code)
         checked(code)
         return outputs
 
-    def _bytes_of(self, kind: int, *fields: int) -> bytes:
+    def _bytes_of(self, fields: tuple[Any, ...]) -> bytes:
         """The bytes of the output that was told last: its text, and after it the names of a listing, or the words of a drop."""
-        length, names = fields[5:7]
-        if kind == _ANSWER and names:
-            return filled(lambda *room: self._calls.names(self._handle, *room))
+        kind, length = fields[0], fields[_LENGTH]
+        if kind == _ANSWER and fields[_LENGTH + 1]:
+            return filled(lambda *room: self._calls.names(self._handle, *room), self._untold)
         text: bytes = new_bytes(None, length)
-        self._calls.copy(byref(self._handle), _START, text, c_size_t(length))
+        self._calls.copy(self._place[0], _START, text, length)
         return text + filled(lambda *room: self._calls.words(self._handle, *room)) if kind == library.DROP else text
 
     def _read(self, fields: tuple[Any, ...], told: bytes) -> Action:

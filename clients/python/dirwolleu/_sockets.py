@@ -14,6 +14,9 @@ from dirwolleu._poll import READ, WRITE, Reactor
 if TYPE_CHECKING:
     import ssl
 
+SEGMENT = 65_536
+"""After this many bytes the rest of a long message is there by now, or soon."""
+
 Do = Callable[..., object]
 
 
@@ -163,7 +166,13 @@ class Link:
         count = self._socket.recv_into(room)
         if count < SHORT:  # a copy takes less than to lend it
             return self._driver.bring(room[:count].tobytes()) if count else self.end(CLOSED)
-        self._driver.bring(room[:count])
+        try:
+            if count >= SEGMENT:
+                count += self._socket.recv_into(room[count:])
+        except self.not_now:
+            pass
+        finally:
+            self._driver.bring(room[:count])
 
 
 def link(reactor: Reactor, do: Do, driver: Driver, tls: Optional[ssl.SSLContext]) -> Link:

@@ -47,11 +47,11 @@ class News:
 class Sleepers:
     """The threads whose answers have come in a step of a client. They go on at its end.
 
-    So what they do next meets all that the step had to tell.
+    So what they do next meets all that the step had to tell, and functions that it calls in the thread of the callbacks are not held up.
     """
 
     def __init__(self) -> None:
-        self._waiters: collections.deque[Waiter] = collections.deque()
+        self._waiters: collections.deque[Union[Waiter, Future]] = collections.deque()
         self.add = self._waiters.append
         """Has a thread go on at the end of the step."""
         self._spare: list[Union[Semaphore, News]] = []
@@ -133,10 +133,12 @@ class Future(concurrent.futures.Future[Any]):
     Its callbacks run where those of watches do, so that they may call the client.
     """
 
-    def __init__(self, tell: Callable[[Callable[[Any], object], Any], bool]) -> None:
+    def __init__(self, tell: Callable[[Callable[[Any], object], Any], bool], sleepers: Optional[Sleepers] = None) -> None:
+        """Whoever looks at it finds what has come. Whoever waits for it goes on by `sleepers`, at the end of the step."""
         super().__init__()
-        self._tell = tell
+        self._tell, self._sleepers = tell, sleepers
         self._is_begun = False
+        self._came: Optional[tuple[Any, Optional[BaseException]]] = None
 
     def begin(self) -> bool:
         if not self._is_begun and not self.done():
@@ -144,15 +146,55 @@ class Future(concurrent.futures.Future[Any]):
             return self._is_begun
         return self.running()
 
+    def set_result(self, result: Any) -> None:
+        self._settle(result, None)
+
+    def set_exception(self, error: Optional[BaseException]) -> None:
+        self._settle(None, error)
+
+    def _settle(self, result: Any, error: Optional[BaseException]) -> None:
+        self._came = result, error
+        if self._sleepers is None:
+            self.wake()
+        else:
+            self._sleepers.add(self)
+
+    def wake(self) -> None:
+        """Takes what has come, and has those go on that wait for it."""
+        if self._came is not None and not super().done():
+            result, error = self._came
+            with contextlib.suppress(concurrent.futures.InvalidStateError):  # another thread was first
+                if error is None:
+                    super().set_result(result)
+                else:
+                    super().set_exception(error)
+
+    def done(self) -> bool:
+        return self._came is not None or super().done()
+
+    def running(self) -> bool:
+        return self._came is None and super().running()
+
+    def cancel(self) -> bool:
+        self.wake()
+        return super().cancel()
+
     def result(self, timeout: Optional[float] = None) -> Any:
+        self.wake()
         with ending.resting():
             return super().result(timeout)
+
+    def exception(self, timeout: Optional[float] = None) -> Optional[BaseException]:
+        self.wake()
+        return super().exception(timeout)
 
     def add_done_callback(self, function: Callable[[Any], object]) -> None:
         def tell(done: Any) -> None:
             if not self._tell(function, done):
                 function(done)
 
+        self._sleepers = None  # so that it is told in the order of what comes
+        self.wake()
         super().add_done_callback(tell)
 
 

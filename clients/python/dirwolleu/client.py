@@ -381,7 +381,7 @@ class Client(Shown):
             raise
 
     def _send(self, request: Request[Any], timeout: Optional[float] = None) -> Future:
-        future = Future(self._tell)
+        future = Future(self._tell, self._sleepers)
         try:
             self._hand_in(request, future, timeout)
         except ZookeeperError:

@@ -19,6 +19,8 @@ from typing import Any, Callable, NamedTuple, Optional
 CLIENTS = pathlib.Path(__file__).resolve().parents[2]
 sys.path.insert(0, str(CLIENTS / "python"))
 
+import dirwolleu  # noqa: E402
+
 if signal.getsignal(signal.SIGINT) is signal.SIG_IGN:  # as in the background of a shell's script: programs that tests begin are interrupted
     signal.signal(signal.SIGINT, signal.default_int_handler)
 
@@ -240,7 +242,7 @@ class PartnerCase(unittest.TestCase):
         return server
 
     def start_fails(self, client: Any, pattern: str) -> None:
-        """A start says why there is no connection, as soon as that is known: on a busy machine it is given longer."""
+        """Starting the client fails and says why. A busy machine takes longer to find out, so there are three attempts."""
         for seconds in (0.5, 4.0, WAIT):
             with self.assertRaises(TimeoutError) as caught:
                 client.start(seconds)
@@ -249,7 +251,7 @@ class PartnerCase(unittest.TestCase):
         self.assertRegex(str(caught.exception), pattern)
 
     def raises(self, kind: type[BaseException], code: Optional[int]) -> Any:
-        """A context in which an error of exactly this class and code is raised."""
+        """Like assertRaises, and the class and the code have to be exactly these."""
         test = self
 
         class Raises:
@@ -261,3 +263,13 @@ class PartnerCase(unittest.TestCase):
                 return True
 
         return Raises()
+
+
+class ClientCase(PartnerCase):
+    def client(self, host: str, timeout: float = TIMEOUT, **named: Any) -> dirwolleu.Client:
+        """A client that is started, and is stopped at the end of the test."""
+        client = dirwolleu.Client(host, timeout, **named)
+        self.addCleanup(client.close)
+        self.addCleanup(client.stop)
+        client.start(WAIT)
+        return client

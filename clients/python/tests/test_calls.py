@@ -13,11 +13,11 @@ import sys
 import threading
 import time
 import unittest
-from typing import Any, Callable, Optional
+from typing import Any, Callable
 from unittest import mock
 
 from both import in_thread
-from support import CLIENTS, GET_DATA, SET_WATCHES, TIMEOUT, WAIT, PartnerCase, Peer, data_reply, reply, within
+from support import CLIENTS, GET_DATA, SET_WATCHES, WAIT, ClientCase, Peer, data_reply, reply, within
 
 from dirwolleu import (
     CallTimeoutError,
@@ -42,15 +42,6 @@ from dirwolleu._clock import moment
 from dirwolleu._locks import Holding, Taken
 
 SET_DATA = 5
-
-
-class ClientCase(PartnerCase):
-    def client(self, host: str, timeout: float = TIMEOUT, retry: Optional[Retry] = None) -> Client:
-        client = Client(host, timeout, retry=retry)
-        self.addCleanup(client.close)
-        self.addCleanup(client.stop)
-        client.start(WAIT)
-        return client
 
 
 class TimeoutTest(ClientCase):
@@ -257,7 +248,7 @@ class RetryTest(ClientCase):
     def test_what_was_not_sent_is_asked_again(self) -> None:
         """The first call is as one that was asked for a minute before."""
         partner = self.partner()
-        client = self.client(partner.host, 15.0, Retry(tries=None, deadline=6 * WAIT, pause=0.05))
+        client = self.client(partner.host, 15.0, retry=Retry(tries=None, deadline=6 * WAIT, pause=0.05))
         partner.do("down")
         within(lambda: client.state is State.SUSPENDED)
         past = [moment() - 60_000]

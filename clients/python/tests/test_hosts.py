@@ -13,7 +13,7 @@ from collections.abc import Sequence
 from typing import Any, Callable
 from unittest import mock
 
-from support import TIMEOUT, WAIT, Partner, PartnerCase, Peer, within
+from support import WAIT, ClientCase, Partner, PartnerCase, Peer, within
 
 from dirwolleu import Client, EventType, Mark, NoNodeError, State, WatchedEvent
 from dirwolleu._aio_link import address_at
@@ -99,14 +99,7 @@ class HostsTest(PartnerCase):
             self.start_fails(client, "nowhere.example: Name or service not known")
 
 
-class NamesTest(PartnerCase):
-    def client(self, hosts: str, timeout: float = TIMEOUT) -> Client:
-        client = Client(hosts, timeout)
-        self.addCleanup(client.close)
-        self.addCleanup(client.stop)
-        client.start(WAIT)
-        return client
-
+class NamesTest(ClientCase):
     def test_a_name_that_has_a_new_address_is_followed_there(self) -> None:
         partner = self.partner()
         with mock.patch("socket.getaddrinfo", return_value=found("127.0.0.9")) as look_up:

@@ -21,7 +21,7 @@ from types import FrameType
 from typing import Any, Callable, Optional
 from unittest import mock
 
-from support import CLIENTS, CLOSE_SESSION, TIMEOUT, WAIT, PartnerCase, Peer, reply, within
+from support import CLIENTS, CLOSE_SESSION, WAIT, ClientCase, Peer, reply, within
 
 from dirwolleu import (
     Barrier,
@@ -40,15 +40,8 @@ from dirwolleu import (
 INTERRUPTED_CALLS, LONGEST = 100_000, 8.0
 
 
-class ClientCase(PartnerCase):
+class InterruptedCase(ClientCase):
     is_armed = False
-
-    def client(self, host: str, timeout: float = TIMEOUT) -> Client:
-        client = Client(host, timeout)
-        self.addCleanup(client.close)
-        self.addCleanup(client.stop)
-        client.start(WAIT)
-        return client
 
     @contextlib.contextmanager
     def on_alarm(self, handler: Any) -> Iterator[None]:
@@ -71,7 +64,7 @@ class ClientCase(PartnerCase):
             raise KeyboardInterrupt
 
 
-class SignalTest(ClientCase):
+class SignalTest(InterruptedCase):
     is_long = True
 
     def test_calls_that_are_interrupted_leave_the_client_as_it_is(self) -> None:
@@ -145,7 +138,7 @@ class SignalTest(ClientCase):
         client.stop()
 
 
-class ForkTest(ClientCase):
+class ForkTest(InterruptedCase):
     def test_a_forked_child_is_told_so(self) -> None:
         client = self.client(self.partner().host)
         held = Lock(client, "/lock").acquire(WAIT)
@@ -181,7 +174,7 @@ class ForkTest(ClientCase):
         return failures
 
 
-class EndTest(ClientCase):
+class EndTest(InterruptedCase):
     def test_a_callback_that_does_not_return_holds_no_stop(self) -> None:
         partner = self.partner()
         client, runs, ends = self.client(partner.host), threading.Event(), threading.Event()

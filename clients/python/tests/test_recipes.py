@@ -12,7 +12,7 @@ from typing import Any, Callable, Optional
 from unittest import mock
 
 from both import in_thread
-from support import TIMEOUT, WAIT, PartnerCase, within
+from support import WAIT, ClientCase, PartnerCase, within
 
 import dirwolleu
 from dirwolleu import (
@@ -33,16 +33,7 @@ from dirwolleu import _requests as requests
 from dirwolleu._locks import in_line
 
 
-class RecipeCase(PartnerCase):
-    def client(self, host: str, timeout: float = TIMEOUT) -> Client:
-        client = Client(host, timeout)
-        self.addCleanup(client.close)
-        self.addCleanup(client.stop)
-        client.start(WAIT)
-        return client
-
-
-class LockTest(RecipeCase):
+class LockTest(ClientCase):
     def setUp(self) -> None:
         self.server, self.root = self.shared_partner(), self.own_root()
         self.host = self.server.host + self.root
@@ -285,7 +276,7 @@ class LockTest(RecipeCase):
         self.assertEqual(len(set(tokens)), 30)
 
 
-class ElectionTest(RecipeCase):
+class ElectionTest(ClientCase):
     def test_a_leader_and_the_next(self) -> None:
         partner = self.partner()
         one, other = self.client(partner.host), self.client(partner.host)
@@ -306,7 +297,7 @@ class ElectionTest(RecipeCase):
         self.assertLess(first.get(timeout=WAIT), second.get(timeout=WAIT))
 
 
-class RegistrationTest(RecipeCase):
+class RegistrationTest(ClientCase):
     def test_a_node_is_made_again_in_each_new_session(self) -> None:
         partner = self.partner()
         client, other = self.client(partner.host), self.client(partner.host)

@@ -90,6 +90,15 @@ class SessionTest(unittest.TestCase):
             self.assertEqual(names_of, Answer(2, library.REPLIED, library.NAMES, 0, STAT, None, ["b", "ö" * 300], 6))
             self.assertTrue(isinstance(dropped, Drop) and dropped.fault == "F1" and dropped.words)
 
+    def test_a_long_answer_is_not_spelled_before_it_is_copied(self) -> None:
+        session, data = self.connected(), bytes(100_000)
+        session.get_data(100, 1, NO_LIMIT, "/a", False)
+        came = reply(1, 5, body=buffer(data) + STAT_BYTES)
+        with mock.patch.object(session, "_take_all", return_value=library.NO_MEMORY) as take_all:
+            self.assertEqual(session.received(100, memoryview(bytearray(came[:70_000]))), [])
+            self.assertEqual(session.received(100, came[70_000:]), [Answer(1, library.REPLIED, library.DATA, 0, STAT, data, [], 5)])
+            take_all.assert_not_called()
+
     def test_without_memory_for_what_a_step_says_it_is_taken_in_parts(self) -> None:
         session = self.connected()
         with mock.patch.object(session, "_take_all", return_value=library.NO_MEMORY):

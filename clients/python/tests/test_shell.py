@@ -41,10 +41,7 @@ class ShellTest(PartnerCase):
         printed, said = io.StringIO(), io.StringIO()
         with contextlib.redirect_stdout(printed), contextlib.redirect_stderr(said):
             with mock.patch.dict(os.environ, {"DIRWOLLEU_HOSTS": partner.host}):
-                try:
-                    status = main(patient(words))
-                except SystemExit as end:
-                    status = int(end.code or 0)
+                status = main(patient(words))
         return status, printed.getvalue(), said.getvalue()
 
     def printed(self, partner: Partner, *words: str) -> str:

@@ -23,7 +23,7 @@ from unittest.mock import patch
 from support import CLIENTS, CLOSE_SESSION, STAT, WAIT, Asked, Peer, RawServer, data_reply, notice, reply
 
 from dirwolleu.__main__ import main
-from dirwolleu.shell.words import COMMANDS
+from dirwolleu.shell.words import COMMANDS, PROGRAM
 from dirwolleu.testing import Server
 
 SHELL = os.environ.get("DIRWOLLEU_SHELL") or str(CLIENTS.parent / "prebuilt/x86_64-linux/zk_shell")
@@ -65,6 +65,20 @@ LINES: list[list[str]] = [
     ["get", "/a", "--wai", "3"], ["create", "/a", "-x"], ["watch", "--data", "a"], ["watch", "--timeout", "0"], ["watch", "--most", "x"],
 ]  # fmt: skip
 """Command lines that are refused. Whatever reads them says more below the first line."""
+BARE: list[list[str]] = [
+    ["--", "get", "/a"], ["--", "help"], ["--", "--"], ["--", "--json"], ["--", ""], ["--json", "get", "/a"], ["-x"], ["--nope"], ["-"], ["g"], [""],
+    ["help", "get", "x"], ["help", "nope"], ["help", "-h"], ["help", "--help"], ["help", "--", "get"], ["help", "help"], ["help", "help", "x"],
+    ["--help=1"], ["--version="], ["-hx"], ["-Vh"], ["--help", "--nope"],
+    *(["get", *words] for words in (["-hx"], ["--nope", "-h"], ["-h", "--nope"], ["/a", "b", "c", "--help"], ["--json", "--json", "--help"], ["--wait", "--help"],
+                                    ["--wait", "x", "--help"], ["--", "--help"], ["--", "-x", "/a"], ["--", "--", "/a"], ["--wait", "-x"], ["--wait", "--", "/a"],
+                                    ["--wait", "1", "--wait", "2", "--json"], ["--wait", "1", "--wait", "2", "--nope"], ["--wait", "1", "--wait", "2", "/a", "b", "c"],
+                                    ["/a", ""], ["", "/a"], ["h:1", ""], ["h:1"], ["h:1", "/a", "--", "x"], ["--json=a\nb"])),
+    ["set"], ["set", "h:1", "/a", "x", "y"], ["set", "/a", "--from"], ["create", "--", "/a", "-x", "y"], ["watch", "--", "--data"], ["watch", "--data", "-x"],
+    ["watch", "x", "y"], ["watch", "/a"], ["watch", ""], ["watch", "--data="], ["watch", "h:x", "--for", "x", "--timeout", "y"], ["watch", "h:x", "--most", "x"],
+    ["watch", "h:1", "--data", "a", "--most", "x"], ["watch", "--children", "b", "--data", "a", "--tree", "c"], ["tree", "h:x", "a", "--most", "x", "--depth", "y"],
+    *(["set", *words, "--version", "x"] for words in (["h:x", "a"], ["/a"], ["a", "zz", "--hex"], ["/a", "zz", "--hex"], ["/a", "--null"], ["/a", "x", "--wait", "y"])),
+]  # fmt: skip
+"""Lines without servers that are refused, or ask for help: what may stand before a command, and which of several faults is told."""
 
 
 def framed(*payloads: bytes) -> bytes:
@@ -227,10 +241,7 @@ class ShellsTest(unittest.TestCase):
         spelled, said = io.BytesIO(), io.StringIO()
         printed = io.TextIOWrapper(spelled, encoding="utf-8")
         with contextlib.redirect_stdout(printed), contextlib.redirect_stderr(said):
-            try:
-                status = main(with_hosts(hosts, words))
-            except SystemExit as end:
-                status = int(end.code or 0)
+            status = main(with_hosts(hosts, words))
         printed.flush()
         return status, masked(spelled.getvalue().decode()), said.getvalue()
 
@@ -376,11 +387,20 @@ class ShellsTest(unittest.TestCase):
         for words in LINES:
             zk, python = self.run_zk("127.0.0.1:1", words), self.run_python("127.0.0.1:1", words)
             self.assertEqual((zk[:2], zk[2].partition("\n")[0]), (python[:2], python[2].partition("\n")[0]), words)
-        for words in (["-x"], ["--nope"], ["help", "get", "x"], ["help", "nope"], ["-"], ["g"]):
-            self.assertEqual(*((run("", words)[0], run("", words)[2].partition("\n")[0]) for run in (self.run_zk, self.run_python)))
-        none: list[str] = []
-        for words in (none, ["--json", "get", "/a"]):  # in words of their own
-            self.assertEqual(*((run("", words)[0], run("", words)[2][:7]) for run in (self.run_zk, self.run_python)))
+        for words in BARE:
+            zk, python = self.run_zk("", words), self.run_python("", words)
+            self.assertEqual((zk[0], zk[2].partition("\n")[0]), (python[0], python[2].partition("\n")[0]), words)
+            self.assertEqual(bool(zk[1]), bool(python[1]), words)
+
+    def test_no_command(self) -> None:
+        """The whole refusal is the same, except for the name of the program and those of its commands."""
+        no_words: list[str] = []
+        for words in (no_words, ["--"]):
+            zk, python = self.run_zk("", words), self.run_python("", words)
+            own = re.sub(r"subcommands: .*]", "subcommands: ]", python[2].replace(PROGRAM, "zk_shell"))
+            self.assertEqual((*zk[:2], re.sub(r"subcommands: .*]", "subcommands: ]", zk[2])), (*python[:2], own), words)
+            self.assertEqual(python[:2], (2, ""))
+            self.assertIn(f"'{PROGRAM}' requires a subcommand but one was not provided\n  [subcommands: {', '.join(COMMANDS)}, help]", python[2])
 
     def test_output_that_fails(self) -> None:
         with Server() as server:

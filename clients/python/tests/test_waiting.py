@@ -8,6 +8,7 @@ import socket
 import threading
 import time
 import unittest
+from concurrent.futures import wait
 from types import SimpleNamespace
 from typing import Any
 from unittest import mock
@@ -15,10 +16,85 @@ from unittest import mock
 import support
 
 from dirwolleu._library import CHILDREN_SIDE, DATA_SIDE
-from dirwolleu._poll import READ, WRITE, Reactor, join
+from dirwolleu._poll import READ, ROOM, WRITE, Reactor, join
 from dirwolleu._process import this_process
 from dirwolleu._registry import Watchers
 from dirwolleu._requests import Watcher
+from dirwolleu._sockets import SEGMENT, Link
+from dirwolleu._waiting import Future, Sleepers
+
+
+class FutureTest(unittest.TestCase):
+    """Futures whose answers have come in a step that has not ended."""
+
+    def setUp(self) -> None:
+        self.told = list[Future]()
+        self.sleepers = Sleepers()
+
+    def future(self) -> Future:
+        def tell(_: object, done: Future) -> bool:
+            self.told.append(done)
+            return True
+
+        return Future(tell, self.sleepers)
+
+    def test_who_waits_goes_on_at_the_end_of_the_step(self) -> None:
+        future = self.future()
+        future.set_result(1)
+        self.assertFalse(wait([future], 0).done)
+        self.sleepers.wake()
+        self.assertTrue(wait([future], 0).done)
+        self.assertEqual((future.result(0), self.told), (1, []))
+
+    def test_who_looks_finds_what_has_come(self) -> None:
+        looked, taken, raised, cancelled, told = (self.future() for _ in range(5))
+        for future in (looked, taken, cancelled, told):
+            future.set_result(1)
+        raised.set_exception(KeyError("a"))
+        self.assertEqual((looked.done(), looked.running(), looked.begin()), (True, False, False))
+        self.assertEqual((taken.result(0), repr(raised.exception(0)), cancelled.cancel()), (1, "KeyError('a')", False))
+        told.add_done_callback(print)
+        self.assertEqual(self.told, [told])
+        self.sleepers.wake()
+        self.assertEqual([future.done() for future in (looked, taken, raised, cancelled, told)], [True] * 5)
+
+    def test_one_with_a_callback_is_told_in_the_order_of_what_comes(self) -> None:
+        first, second = self.future(), self.future()
+        for future in (second, first):
+            future.add_done_callback(print)
+        first.set_result(1)
+        second.set_exception(KeyError("a"))
+        self.assertEqual(self.told, [first, second])
+
+    def test_one_that_was_cancelled_is_left_so(self) -> None:
+        future = self.future()
+        self.assertTrue(future.cancel())
+        future.set_result(1)
+        self.sleepers.wake()
+        self.assertTrue(future.cancelled())
+
+
+class LinkTest(unittest.TestCase):
+    """What a connection hands in of what came, and how it ends."""
+
+    def test_after_a_long_piece_it_reads_on_at_once(self) -> None:
+        for then, wanted in (
+            (BlockingIOError(), [SEGMENT]), (40_000, [SEGMENT + 40_000]), (0, [SEGMENT]), (ConnectionResetError(104, "reset"), [SEGMENT, "[Errno 104] reset"]),
+        ):  # fmt: skip
+            told = list[object]()
+            driver: Any = SimpleNamespace(bring=lambda piece: told.append(len(piece)), leave=told.append)
+            reactor: Any = SimpleNamespace(room=memoryview(bytearray(ROOM)), leave=mock.Mock())
+            link = Link(reactor, mock.Mock(), driver)
+            link._socket = mock.Mock(recv_into=mock.Mock(side_effect=[SEGMENT, then]))
+            link._ready(READ)
+            self.assertEqual(told, wanted)
+
+    def test_a_short_piece_is_handed_in_at_once(self) -> None:
+        driver: Any = mock.Mock()
+        link = Link(SimpleNamespace(room=memoryview(bytearray(ROOM))), mock.Mock(), driver)  # type: ignore[arg-type]
+        link._socket = mock.Mock(recv_into=mock.Mock(side_effect=[SEGMENT - 1]))
+        link._ready(READ)
+        self.assertEqual(len(driver.bring.call_args[0][0]), SEGMENT - 1)
 
 
 class ReactorTest(unittest.TestCase):

@@ -1,5 +1,5 @@
 -- Which nodes may be there, by where the place of a contender is, and how it stays so through answers.
-use Rattle.std.proofs.Common.{ℤ, ◌≡◌, ◌⊎◌, inl, inr, ◌&&◌, ◌||◌, Bool, true, false, not, List, [], ◌∷◌, Option, Some, None, option_map}
+use Rattle.std.proofs.Common.{ℤ, ◌≡◌, inl, inr, ◌&&◌, ◌||◌, Bool, true, false, not, List, [], ◌∷◌, Option, Some, None, option_map}
 use Rattle.std.proofs.Common.{if◌then◌else◌, refl, sym, ap, subst, ◌∙◌, true≢false}
 use Rattle.std.specs.List.{list_any}
 use Rattle.std.specs.Prelude.{⊤, bytes_eq}
@@ -8,7 +8,7 @@ use Rattle.std.proofs.lemmas.Bool.Decides.{Decides-int_eq}
 use Rattle.zk_nodes.specs.Path.{Text, Name, parent_text}
 use Rattle.zk_nodes.specs.PathFault.{fault_of}
 use Rattle.zk_nodes.specs.declared.path_fault.PathFault.{PathFault}
-use Rattle.zk_conversation.specs.Results.{Result, NoNode, Refused, Made, Read, Listing, Done, Found, Brought}
+use Rattle.zk_conversation.specs.Results.{Result, NoNode, Refused, Made, Read, Listing, Done}
 use Rattle.zk_turns.specs.Turns.{Outcome, Replied, ConnectionLoss}
 use Rattle.zk_turns.specs.Meaning.{Among}
 use Rattle.zk_laws.proofs.Basics.{text_eq-true}
@@ -16,7 +16,7 @@ use Rattle.zk_conclusions.specs.Tags.{has_tag}
 use Rattle.zk_contend.specs.declared.listed.Listed.{Listed}
 use Rattle.zk_contend.specs.declared.place.Place.{Place}
 use Rattle.zk_contend.specs.declared.place.Place.TheVariants.{Making, Entering, Unsure, Looking, Clearing, At, Leaving, Left}
-use Rattle.zk_contend.specs.Hearing.{above, after_made, entered, entering, made, named_if, placed_as, is_place, unentered, unsent}
+use Rattle.zk_contend.specs.Hearing.{entered, entering, made, named_if, placed_as, is_place, unentered, unsent}
 use Rattle.zk_contend.specs.Nodes.{Nodes, AreNone, AreFewer, AreFewerBut, AreFewerWithout, Creates, Deletes, IsNamed, Lists, Reads}
 use Rattle.zk_contend.specs.Places.{path_in}
 use Rattle.zk_contend.specs.Settling.{cleared, fenced, found_at, is_surplus, left_by, moved, own_read, IsLooked, IsSettled}

@@ -1,6 +1,5 @@
 -- A contender that holds stands first in the history: its listing is true, and so is what is shown of its place.
-use Rattle.std.proofs.Common.{◌≡◌, ◌⊎◌, inl, inr, Some, subst, refl}
-use Rattle.zk_nodes.specs.Path.{Text}
+use Rattle.std.proofs.Common.{inl, inr, subst}
 use Rattle.zk_conclusions.specs.Seen.{Is, IsEither, IsServedAt}
 use Rattle.theory_local.proofs.Following.{served_fewer}
 use Rattle.zk_conclusions.proofs.Listed.{listing_here}

@@ -7,3 +7,10 @@ pub mod Helds
 pub mod Wishes
 pub mod Watches
 pub mod Listings
+pub mod Rolls
+pub mod Stirring
+pub mod Moments
+pub mod Folds
+pub mod Told
+pub mod Asking
+pub mod Collected

@@ -1,7 +1,7 @@
 -- A place comes to a listing by an answer with its names alone, so each listing was heard.
 use Rattle.std.proofs.Common.{ℕ, ℤ, ◌≡◌, ◌⊎◌, inl, inr, Bool, true, false, List, [], ◌∷◌, Option, Some, None, string_bytes, option_map}
 use Rattle.std.proofs.Common.{if◌then◌else◌, refl, sym, ap, subst, ◌∙◌, true≢false}
-use Rattle.std.specs.Prelude.{⊤, bytes_eq}
+use Rattle.std.specs.Prelude.{bytes_eq}
 use Rattle.std.specs.List.{FoldsTo}
 use Rattle.std.specs.Ordering.{int_eq}
 use Rattle.zk_nodes.specs.Path.{Text, Name, parent_text}
@@ -10,7 +10,7 @@ use Rattle.zk_nodes.specs.declared.path_fault.PathFault.{PathFault}
 use Rattle.zk_nodes.specs.declared.stat.Stat.{Stat}
 use Rattle.zk_records.specs.declared.event.Event.{Event}
 use Rattle.zk_records.specs.declared.event.Event.TheVariants.{Created, Deleted, DataChanged, ChildrenChanged}
-use Rattle.zk_conversation.specs.Results.{Result, NoNode, Refused, Made, Read, Listing, Done}
+use Rattle.zk_conversation.specs.Results.{Result, NoNode, Refused, Made, Listing}
 use Rattle.zk_turns.specs.Meaning.{Among}
 use Rattle.zk_turns.specs.Turns.{Outcome, Replied, ConnectionLoss}
 use Rattle.zk_turns.specs.View.{View}
@@ -22,10 +22,10 @@ use Rattle.zk_contend.specs.declared.place.Ask.TheVariants.{Make, Enter, Fence, 
 use Rattle.zk_contend.specs.declared.place.Place.{Place}
 use Rattle.zk_contend.specs.declared.place.Place.TheVariants.{Making, Entering, Unsure, Looking, Clearing, At, Leaving, Left}
 use Rattle.zk_contend.specs.Contenders.{beginning, is_at, is_behind, is_entering, leaves, noted, IsHeardAs}
-use Rattle.zk_contend.specs.Hearing.{entered, entering, is_place, made, named_if, placed_as, standing_at, unentered, unsent}
+use Rattle.zk_contend.specs.Hearing.{entered, entering, is_place, made, named_if, placed_as, unentered, unsent}
 use Rattle.zk_contend.specs.Listings.{ListingsAreHeard, WasHeard}
 use Rattle.zk_contend.specs.Namings.{kind_in}
-use Rattle.zk_contend.specs.Nodes.{Asks, Begins, Closes, Expires, Fails, GivesUp, HearsOne, Leads, Moment, Notes, Stage, Tells}
+use Rattle.zk_contend.specs.Nodes.{Asks, Closes, Expires, Fails, GivesUp, HearsOne, Leads, Moment, Notes, Stage, Tells}
 use Rattle.zk_contend.specs.Places.{path_in}
 use Rattle.zk_contend.specs.Settling.{cleared, fenced, found_at, is_gone, is_others, is_unread_by, left_by, lost, moved, own_read, unlisted}
 use Rattle.zk_contend.specs.Settling.{Becomes, Hears, IsListed, IsListedAt, IsLooked, IsSettled}

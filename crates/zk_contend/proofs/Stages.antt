@@ -1,16 +1,16 @@
 -- Through all that happens to a contender, its nodes are those that its place says, and once it is given up it goes on until it has left.
-use Rattle.std.proofs.Common.{ℕ, ℤ, ◌≡◌, ◌⊎◌, inl, inr, Bool, true, false, List, [], ◌∷◌, Option, Some, None, string_bytes, is_some}
+use Rattle.std.proofs.Common.{ℕ, ℤ, ◌≡◌, inl, inr, Bool, true, false, List, [], ◌∷◌, Option, Some, None, string_bytes, is_some}
 use Rattle.std.proofs.Common.{if◌then◌else◌, option_map, refl, sym, ap, subst, ◌∙◌, true≢false}
 use Rattle.std.specs.List.{FoldsTo}
-use Rattle.std.specs.Prelude.{⊤, bytes_eq}
+use Rattle.std.specs.Prelude.{⊤}
 use Rattle.zk_nodes.specs.Path.{Text, Name}
 use Rattle.zk_nodes.specs.PathFault.{fault_of}
 use Rattle.zk_nodes.specs.declared.path_fault.PathFault.{PathFault}
 use Rattle.zk_laws.proofs.Basics.{text_eq-true}
 use Rattle.zk_records.specs.declared.event.Event.{Event}
 use Rattle.zk_records.specs.declared.event.Event.TheVariants.{Created, Deleted, DataChanged, ChildrenChanged}
-use Rattle.zk_conversation.specs.Results.{Result, NoNode, Refused, Made, Read, Listing, Done, Found, Brought}
-use Rattle.zk_turns.specs.Turns.{Outcome, Replied, ConnectionLoss}
+use Rattle.zk_conversation.specs.Results.{NoNode, Made, Read, Listing, Done}
+use Rattle.zk_turns.specs.Turns.{Outcome, Replied}
 use Rattle.zk_turns.specs.View.{View}
 use Rattle.zk_conclusions.specs.Numbers.{Kind}
 use Rattle.zk_contend.specs.declared.contender.LockContender.{LockContender}
@@ -29,7 +29,7 @@ use Rattle.zk_contend.specs.Nodes.{Nodes, AreNone, AreFewer, Deletes, Lists, Rea
 use Rattle.zk_contend.specs.Nodes.{Asks, HearsOne, Fails, Notes, GivesUp, Expires, Closes, Tells, NothingIsLeft, OneIsThere, GivenUpAsks}
 use Rattle.zk_contend.specs.Hearing.{entered, entering, is_place, named_if, placed_as}
 use Rattle.zk_contend.specs.Places.{path_in}
-use Rattle.zk_contend.specs.Settling.{cleared, fenced, left_by, lost, moved, unlisted, unlisted_by, is_unread_by, Becomes, Hears, IsListed}
+use Rattle.zk_contend.specs.Settling.{cleared, fenced, left_by, lost, moved, unlisted, is_unread_by, Becomes, Hears, IsListed}
 use Rattle.zk_contend.specs.Settling.{IsListedAt, IsLooked, IsSettled}
 use Rattle.zk_contend.proofs.Covers.{Covers, covers_fewer, made_covers, entered_covers, fenced_covers, looked_covers, cleared_covers}
 use Rattle.zk_contend.proofs.Covers.{own_covers, left_covers}

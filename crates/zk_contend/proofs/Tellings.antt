@@ -1,12 +1,12 @@
 -- What was told last is how a contender stands, as to whether it holds.
-use Rattle.std.proofs.Common.{ℤ, ◌≡◌, Bool, true, false, Option, Some, None, if◌then◌else◌, refl, sym, subst}
+use Rattle.std.proofs.Common.{ℤ, ◌≡◌, Bool, true, false, Some, None, if◌then◌else◌, refl, sym, subst}
 use Rattle.std.specs.Ordering.{int_eq}
 use Rattle.std.proofs.lemmas.Bool.Decides.{Decides-int_eq}
 use Rattle.zk_turns.specs.View.{View}
 use Rattle.zk_contend.specs.declared.contender.LockContender.{LockContender}
 use Rattle.zk_contend.specs.declared.status.LockStatus.{LockStatus}
 use Rattle.zk_contend.specs.declared.status.LockStatus.TheVariants.{Contends, Waits, Holds, Refused, GivenUp}
-use Rattle.zk_contend.specs.Standings.{TellsHeld, news_of, told_after, is_same, is_same_refusal}
+use Rattle.zk_contend.specs.Standings.{TellsHeld, news_of, told_after, is_same_refusal}
 
 -- the same or the new
 either_told : {A : Type 0} (view : View) (contender : LockContender A) (told stands : LockStatus) (same : Bool)

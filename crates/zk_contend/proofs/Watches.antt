@@ -1,5 +1,5 @@
 -- Which paths the calls of a contender watch.
-use Rattle.std.proofs.Common.{ℕ, List, ◌≡◌, ◌⊎◌, inl, inr, false, Option, Some, None, refl, sym, subst, option_map}
+use Rattle.std.proofs.Common.{ℕ, List, ◌≡◌, inl, inr, false, Option, Some, None, refl, sym, subst, option_map}
 use Rattle.zk_nodes.specs.Path.{Text}
 use Rattle.zk_turns.specs.View.{View}
 use Rattle.zk_conversation.specs.Calls.{Call}
@@ -10,7 +10,7 @@ use Rattle.zk_contend.specs.declared.place.Ask.TheVariants.{Make, Enter, Fence, 
 use Rattle.zk_contend.specs.declared.place.Place.{Place}
 use Rattle.zk_contend.specs.declared.place.Place.TheVariants.{Making, Entering, Unsure, Looking, Clearing, At, Leaving, Left}
 use Rattle.zk_contend.specs.Contenders.{path_watched, IsUnwatched, WatchesOne}
-use Rattle.zk_contend.specs.Dues.{behind_or, call_about, call_asked, path_asked, WantsBy, WantsIn}
+use Rattle.zk_contend.specs.Dues.{behind_or, call_about, path_asked, WantsBy, WantsIn}
 use Rattle.zk_contend.specs.Places.{shows_node}
 
 -- the one before it is read

@@ -6,7 +6,7 @@ use Rattle.zk_turns.specs.Turns.{Outcome}
 use Rattle.zk_contend.specs.declared.contender.LockContender.{LockContender}
 use Rattle.zk_contend.specs.declared.listed.Listed.{Listed}
 use Rattle.zk_contend.specs.declared.place.Ask.{Ask}
-use Rattle.zk_contend.specs.declared.place.Ask.TheVariants.{Make, Enter, Fence, Look, Clear, ReadOwn, List as ListsAgain, ReadBehind, Leave}
+use Rattle.zk_contend.specs.declared.place.Ask.TheVariants.{List as ListsAgain, ReadBehind}
 use Rattle.zk_contend.specs.declared.place.Place.{Place}
 use Rattle.zk_contend.specs.Dues.{StandsAt, WantsBy, WantsListed}
 use Rattle.zk_contend.specs.Settling.{moved, Becomes, Hears}

@@ -1,5 +1,5 @@
 -- What becomes of a contender.
-use Rattle.std.specs.Prelude.{ℕ, ℤ, ◌≡◌, ◌++◌, ◌⊎◌, Bool, true, false, not, bytes_eq, string_bytes, List, Option, Some, None}
+use Rattle.std.specs.Prelude.{ℕ, ◌≡◌, ◌++◌, ◌⊎◌, Bool, true, false, ◌&&◌, ◌||◌, not, bytes_eq, string_bytes, Option, Some, None, is_some}
 use Rattle.std.specs.Prelude.{if◌then◌else◌}
 use Rattle.zk_nodes.specs.Path.{Text, Name, child_text}
 use Rattle.zk_records.specs.declared.event.Event.{Event}
@@ -14,7 +14,7 @@ use Rattle.zk_contend.specs.declared.naming.Naming.{Naming}
 use Rattle.zk_contend.specs.declared.place.Ask.{Ask}
 use Rattle.zk_contend.specs.declared.place.Ask.TheVariants.{Enter, List as Lists}
 use Rattle.zk_contend.specs.declared.place.Place.{Place}
-use Rattle.zk_contend.specs.declared.place.Place.TheVariants.{Making, Entering, Unsure, Looking, Clearing, At, Leaving, Left}
+use Rattle.zk_contend.specs.declared.place.Place.TheVariants.{Making, Entering, Unsure, At, Leaving, Left}
 use Rattle.zk_contend.specs.declared.refused.Refused.{Refused}
 use Rattle.zk_contend.specs.declared.refused.Obstacle.TheVariants.{NumbersUsedUp}
 use Rattle.zk_contend.specs.Dues.{IsDue, call_asked}
@@ -22,7 +22,7 @@ use Rattle.zk_contend.specs.Hearing.{entering, later, refused_after}
 use Rattle.zk_contend.specs.Namings.{before_guid, behind_guid, kind_in}
 use Rattle.zk_contend.specs.Places.{shows_node, shows_own}
 use Rattle.zk_contend.specs.Settling.{Hears, lost, unlisted}
-use Rattle.zk_contend.specs.Standings.{IsStuckIn}
+use Rattle.zk_contend.specs.Standings.{is_left, IsStuckIn}
 
 -- where a contender begins: looking for its place, if a create may have made one
 abbrev pub beginning : {A : Type 0} → (may_be_there : Bool) → Place A
@@ -96,6 +96,10 @@ is_behind path _ = false
 abbrev pub deleted : {A : Type 0} → Text → Place A → Place A
 deleted path place = if is_at path place then lost place else (if is_behind path place then unlisted place else place)
 
+-- The path is that of its place, or of the one before it.
+abbrev pub is_about : {A : Type 0} → Text → LockContender A → Bool
+is_about path contender = is_at path contender.place || is_behind path contender.place
+
 abbrev pub is_deletion : Event → Bool
 is_deletion Deleted = true
 is_deletion _ = false
@@ -126,6 +130,10 @@ renewed contender = record contender { place = entering contender.is_given_up; a
 
 abbrev pub closed : {A : Type 0} → LockContender A → LockContender A
 closed contender = record contender { place = Left; asked = None; refused = None; is_given_up = true }
+
+-- given up, with no node left, and nothing under way
+abbrev pub has_left : {A : Type 0} → LockContender A → Bool
+has_left contender = is_left contender.place && not (is_some contender.asked)
 
 -- the path of its place, if that is known
 abbrev pub own_of : {A : Type 0} → Place A → Option Text

@@ -1,6 +1,6 @@
 -- What a contender asks, and when it rests.
-use Rattle.std.specs.Prelude.{ℕ, ℤ, ◌≡◌, ◌⊎◌, Bool, true, false, ⊤, List, Option, Some, None, is_some, option_map}
-use Rattle.zk_nodes.specs.Path.{Text, path_of}
+use Rattle.std.specs.Prelude.{ℕ, ℤ, ◌≡◌, ◌⊎◌, true, false, ⊤, List, Option, Some, None, is_some, option_map}
+use Rattle.zk_nodes.specs.Path.{Text}
 use Rattle.zk_conversation.specs.Calls.{Call}
 use Rattle.zk_conversation.specs.Calls as call
 use Rattle.zk_turns.specs.View.{View}
@@ -46,6 +46,10 @@ Rests view contender = RestsIn view contender contender.place
 abbrev pub IsAtRest : {A : Type 0} → View → (now : ℕ) → LockContender A → Type 0
 IsAtRest view now contender =
     is_some contender.asked ≡ false → is_paused now contender.refused ≡ false → is_ready view ≡ true → Rests view contender
+
+-- Nothing is due by what the client shows, whatever the moment: it has asked a call, or it rests.
+abbrev pub IsAsleep : {A : Type 0} → View → LockContender A → Type 0
+IsAsleep view contender = (is_some contender.asked ≡ true) ⊎ Rests view contender
 
 -- Which of two reads by the last listing: of the one before it, only if that one is not watched; the names again, if there is none and it
 -- does not stand first.

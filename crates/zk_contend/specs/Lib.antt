@@ -6,6 +6,8 @@ pub mod Hearing
 pub mod Settling
 pub mod Standings
 pub mod Contenders
+pub mod Tickets
+pub mod Collections
 pub mod Nodes
 pub mod Listings
 pub mod inner

@@ -1,5 +1,5 @@
 -- How the places of contenders are named.
-use Rattle.std.specs.Prelude.{ℕ, List, [], ◌∷◌, codes}
+use Rattle.std.specs.Prelude.{List, [], ◌∷◌, codes}
 use Rattle.zk_nodes.specs.Path.{Name}
 use Rattle.zk_conclusions.specs.Numbers.{Kind}
 use Rattle.zk_contend.specs.declared.naming.Naming.{Naming}

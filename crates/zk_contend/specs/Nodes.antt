@@ -1,11 +1,11 @@
 -- Which nodes of a contender are there, by what servers do with its calls, and what follows. Servers take the calls of a session in the
 -- order in which it sent them, also over several connections: so a call whose answer is lost was done before the next one, or never is.
-use Rattle.std.specs.Prelude.{ℕ, ℤ, ◌≡◌, ◌⊎◌, Bool, true, false, List, [], ◌∷◌, Option, Some, None, string_bytes, is_some}
+use Rattle.std.specs.Prelude.{ℕ, ℤ, ◌≡◌, ◌⊎◌, Bool, true, false, List, Option, Some, None, string_bytes, is_some}
 use Rattle.std.specs.List.{FoldsTo}
 use Rattle.zk_nodes.specs.Path.{Text, Name}
 use Rattle.zk_records.specs.declared.event.Event.{Event}
 use Rattle.zk_records.specs.declared.event.Event.TheVariants.{Deleted}
-use Rattle.zk_conversation.specs.Results.{Result, NoNode, Made, Read, Listing, Done}
+use Rattle.zk_conversation.specs.Results.{NoNode, Made, Read, Listing, Done}
 use Rattle.zk_turns.specs.Turns.{Outcome, Replied, ConnectionLoss}
 use Rattle.zk_turns.specs.Meaning.{Among}
 use Rattle.zk_turns.specs.View.{View}

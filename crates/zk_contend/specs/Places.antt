@@ -1,5 +1,5 @@
 -- What is known of places, and who is before one.
-use Rattle.std.specs.Prelude.{ℤ, ◌≡◌, ◌⊎◌, Bool, true, false, ◌&&◌, nat_lt, List, ◌∷◌, Option, Some, None, if◌then◌else◌}
+use Rattle.std.specs.Prelude.{ℤ, ◌≡◌, ◌⊎◌, Bool, true, false, ◌&&◌, nat_lt, List, Option, Some, None, if◌then◌else◌}
 use Rattle.std.specs.Ordering.{int_eq}
 use Rattle.zk_nodes.specs.Path.{Text, Name, path_of, child_text, name_of}
 use Rattle.zk_nodes.specs.PathFault.{child_fault}

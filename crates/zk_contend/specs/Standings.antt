@@ -81,10 +81,15 @@ standing_in view (At own (Some listed)) = waiting (waits_for view listed.behind)
 standing_in view Left = GivenUp
 standing_in view _ = Contends
 
--- how it stands, where it does not hold
+-- given up, with no node left
+abbrev pub is_left : {A : Type 0} → Place A → Bool
+is_left Left = true
+is_left _ = false
+
+-- how it stands, where it does not hold: what was refused is of no matter once no node of it is there
 abbrev pub otherwise_by : {A : Type 0} → View → Place A → Option Refused_one → LockStatus
 otherwise_by view place None = standing_in view place
-otherwise_by view place (Some refused) = Refused refused.why
+otherwise_by view place (Some refused) = if is_left place then standing_in view place else Refused refused.why
 
 abbrev pub otherwise : {A : Type 0} → View → LockContender A → LockStatus
 otherwise view contender = otherwise_by view contender.place contender.refused

@@ -41,17 +41,18 @@ pub struct LockContender<A: Allocator + Copy = Global> {
 }
 
 impl<A: Allocator + Copy> LockContender<A> {
-    ghost use Rattle.std.specs.Prelude.{◌≡◌, ◌≤◌, ◌+◌, ℤ, true, false, length, None, IfOk, OnErr, OnOk, IfSome};
+    ghost use Rattle.std.specs.Prelude.{◌≡◌, ◌≤◌, ◌+◌, ℤ, true, false, length, None, Some, IfOk, OnErr, OnOk, IfSome};
     ghost use Rattle.std.specs.Option.{option_copied, option_map};
     ghost use Rattle.zk_client.specs.Clients.{view_of};
     ghost use Rattle.zk_client.specs.Views.{outcome_view};
     ghost use Rattle.zk_conversation.specs.Views.{call_view};
-    ghost use Rattle.zk_contend.specs.Dues.{IsAtRest, StandsAt};
+    ghost use Rattle.zk_contend.specs.Dues.{call_asked, IsAtRest, StandsAt};
     ghost use Rattle.zk_contend.specs.Namings.{kind_in};
     ghost use Rattle.zk_contend.specs.declared.status.LockStatus.{LockStatus};
-    ghost use Rattle.zk_contend.specs.Standings.{news_of, otherwise, told_after};
+    ghost use Rattle.zk_contend.specs.Standings.{is_left, news_of, otherwise, standing_in, told_after};
     ghost use Rattle.zk_contend.specs.Standings.{IsOtherwise, IsStuckAt, IsStuckBy, IsStuckIn, IsUnshown, ShowsContender, TellsHeld};
-    ghost use Rattle.zk_contend.specs.Contenders.{closed, forgotten, given_up, is_at, is_behind, noted, own_of, renewed};
+    ghost use Rattle.zk_contend.specs.Contenders.{closed, forgotten, given_up, has_left, is_about, is_at, is_behind, noted, own_of};
+    ghost use Rattle.zk_contend.specs.Contenders.{renewed};
     ghost use Rattle.zk_contend.specs.Contenders.{IsAsked, IsFresh, IsHeard, IsHeardOf, IsRefusal};
 
     /// A contender in this directory, which is made if it is not there. The guid is to be a text that no other contender has: 32
@@ -105,9 +106,19 @@ impl<A: Allocator + Copy> LockContender<A> {
         let Some(ask) = self.due(client, now) else {
             return Ok(None);
         };
+        let call = self.ask(ask)?;
+        Ok(Some(call))
+    }
+
+    /// It asks this. An error means that memory ran out, and nothing has changed then.
+    pub(crate) fn ask(&mut self, ask: Ask) -> Result<Call<A>, AllocError>
+        ensures call { IfOk result (λ call. call_view call ≡ call_asked self.old ask) }
+        ensures asked { OnOk result (self.new ≡ record self.old { asked = Some ask }) }
+        ensures same { OnErr result (self.new ≡ self.old) }
+    {
         let call = self.call(ask)?;
         self.asked = Some(ask);
-        Ok(Some(call))
+        Ok(call)
     }
 
     /// The token of the place at this path, by this listing.
@@ -286,6 +297,13 @@ impl<A: Allocator + Copy> LockContender<A> {
         }
     }
 
+    /// Whether the path is that of its place, or of the one before it.
+    pub(crate) fn is_about(&self, path: &str) -> bool
+        ensures { result ≡ is_about path.now self.now }
+    {
+        self.is_at(path) || self.is_behind(path)
+    }
+
     /// Notes a report of the client. The place is lost if its deletion is reported, and if that of the one before it is, the directory is
     /// listed again. Each report may be given to it.
     pub fn note(&mut self, path: &str, event: Event)
@@ -301,13 +319,17 @@ impl<A: Allocator + Copy> LockContender<A> {
         }
     }
 
-    /// How it stands, where it does not hold.
-    fn otherwise(&self, client: &Client<A>) -> LockStatus
-        ensures { result ≡ otherwise (view_of client.now) self.now }
+    /// Whether it is given up, and no node of it is there.
+    fn is_left(&self) -> bool
+        ensures { result ≡ is_left self.now.place }
     {
-        if let Some(refused) = self.refused {
-            return LockStatus::Refused { why: refused.why };
-        }
+        matches!(self.place, Place::Left)
+    }
+
+    /// How it stands, where it does not hold and nothing is refused.
+    fn unrefused(&self, client: &Client<A>) -> LockStatus
+        ensures { result ≡ standing_in (view_of client.now) self.now.place }
+    {
         match &self.place {
             Place::Left => LockStatus::GivenUp,
             Place::At {
@@ -315,6 +337,21 @@ impl<A: Allocator + Copy> LockContender<A> {
                 ..
             } => waits_for(client, &listed.behind),
             _ => LockStatus::Contends,
+        }
+    }
+
+    /// How it stands, where it does not hold.
+    fn otherwise(&self, client: &Client<A>) -> LockStatus
+        ensures { result ≡ otherwise (view_of client.now) self.now }
+    {
+        match self.refused {
+            Some(refused) => {
+                if self.is_left() {
+                    return self.unrefused(client);
+                }
+                LockStatus::Refused { why: refused.why }
+            }
+            None => self.unrefused(client),
         }
     }
 
@@ -361,6 +398,13 @@ impl<A: Allocator + Copy> LockContender<A> {
         let place = mem::replace(&mut self.place, Place::Left);
         self.place = leaves(self.asked, place);
         self.is_given_up = true;
+    }
+
+    /// Whether it is given up, no node of it is there, and no call of it is under way.
+    pub(crate) fn has_left(&self) -> bool
+        ensures { result ≡ has_left self.now }
+    {
+        self.is_left() && self.asked.is_none()
     }
 
     /// The client goes on with another session, since the last one has expired: no node of it is there any more. It contends again, unless

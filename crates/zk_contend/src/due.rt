@@ -2,7 +2,7 @@
 
 ghost use Rattle.std.specs.Prelude.{◌≡◌, true, false, IfSome, None};
 ghost use Rattle.zk_client.specs.Clients.{view_of};
-ghost use Rattle.zk_contend.specs.Dues.{IsAtRest, IsDue, Rests, RestsAt, RestsListed, Wants, WantsAt, WantsListed};
+ghost use Rattle.zk_contend.specs.Dues.{IsAsleep, IsAtRest, IsDue, Rests, RestsAt, RestsListed, Wants, WantsAt, WantsListed};
 ghost use Rattle.zk_contend.specs.Hearing.{is_paused};
 ghost use Rattle.zk_contend.specs.Places.{is_ready};
 
@@ -81,5 +81,12 @@ impl<A: Allocator + Copy> LockContender<A> {
             return None;
         }
         self.wants(client)
+    }
+
+    /// Whether nothing is due by what the client shows, whatever the moment: it has asked, or it rests.
+    pub(crate) fn is_asleep(&self, client: &Client<A>) -> bool
+        ensures { result ≡ true → IsAsleep (view_of client.now) self.now }
+    {
+        self.asked.is_some() || self.wants(client).is_none()
     }
 }

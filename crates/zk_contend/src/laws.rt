@@ -1,5 +1,6 @@
 //! What follows of contenders, over definitions alone. The functions do nothing: their contracts are the laws.
 
+ghost use Rattle.zk_contend.specs.Collections.{NothingBefore};
 ghost use Rattle.zk_contend.specs.Contenders.{WatchesOne};
 ghost use Rattle.zk_contend.specs.Listings.{ListingsAreHeard};
 ghost use Rattle.zk_contend.specs.Nodes.{GivenUpAsks, NothingIsLeft, OneIsThere};
@@ -32,4 +33,9 @@ pub fn nothing_left<A: Allocator>()
     ensures one { OneIsThere A }
     ensures asks { GivenUpAsks A }
     ensures left { NothingIsLeft A }
+{}
+
+/// If no call of those that are looked at is due now, none is before the deadline, as long as the client shows the same.
+pub fn nothing_before<A: Allocator>()
+    ensures { NothingBefore A }
 {}

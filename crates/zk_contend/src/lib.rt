@@ -7,11 +7,15 @@
 //! The contender stores where its place is, and never whether it holds: that is concluded from the client
 //! ([`Standing`](zk_conclusions::Standing)) whenever it is asked for. [`laws`] names what follows.
 //!
+//! [`Contenders`] are those of one session, each under a ticket of its program. No session of C, Rust or Python drives them yet.
+//!
 //! One contender has one place. Leases, and places with an ACL of their own, are not there yet.
 #![tactic(auto)]
 
 mod answers;
 mod call;
+mod calls;
+mod collection;
 mod contender;
 mod due;
 mod kept;
@@ -21,9 +25,13 @@ mod made;
 mod naming;
 mod place;
 mod refused;
+mod roll;
 mod settled;
 mod status;
+mod stirred;
 
+pub use calls::is_contenders;
+pub use collection::Contenders;
 pub use contender::LockContender;
 pub use naming::Naming;
 pub use refused::Obstacle;

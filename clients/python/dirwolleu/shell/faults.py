@@ -77,6 +77,11 @@ def usage(words: str) -> Ending:
     return Ending(USAGE, f"error: {words}")
 
 
+def refused(words: str) -> Ending:
+    """A word of the command line is not understood."""
+    return usage(f"{words}\n\nFor more information, try '--help'.")
+
+
 def path_fault(path: str) -> Optional[Ending]:
     """Why a word of the command line is no path of a node, or None if it is one."""
     why = why_no_path(path)

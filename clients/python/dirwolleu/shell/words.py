@@ -3,14 +3,15 @@
 from __future__ import annotations
 
 import argparse
+import copy
 import os
 import re
 from collections.abc import Sequence
-from typing import Any, NamedTuple, NoReturn, Optional
+from typing import Any, NamedTuple, Optional, Union
 
 from dirwolleu._hosts import hosts_of
 from dirwolleu.shell.commands import read_acl
-from dirwolleu.shell.faults import UNREAD, Ending, path_fault, unread, usage
+from dirwolleu.shell.faults import UNREAD, Ending, path_fault, refused, unread, usage
 from dirwolleu.shell.printing import quoted
 
 PROGRAM = "python3 -m dirwolleu"
@@ -201,39 +202,29 @@ class _Layout(argparse.RawDescriptionHelpFormatter):
         super().__init__(prog, max_help_position=26, width=WIDTH)
 
 
-class _Parser(argparse.ArgumentParser):
-    """A parser that says in the words of `zk_shell` that a value lacks, or is too much."""
-
-    def error(self, message: str) -> NoReturn:
-        lacks = re.fullmatch(r"argument --([a-z]+): expected one argument", message)
-        too_much = re.fullmatch(r"argument (?:-h/)?(--[a-z]+): ignored explicit argument '(.*)'", message, re.S)
-        if lacks is not None:
-            message = f"a value is required for '--{lacks[1]} <{OPTIONS[lacks[1]].value}>' but none was supplied"
-        elif too_much is not None:
-            message = f"unexpected value '{too_much[2]}' for '{too_much[1]}' found; no more were expected"
-        raise usage(f"{message}\n\nFor more information, try '--help'.")
-
-
-def _parser_of(name: str) -> _Parser:
-    """What reads the options of a command. Its other words are read by `_place`."""
+def _options_of(name: str) -> dict[str, Option]:
+    """The options of a command, by their names."""
     command = COMMANDS[name]
-    connects = command.epilog in (NODE_EPILOG, WATCH_EPILOG)
-    options = [*command.options, *(CONNECTING if connects else ())]
-    parser = _Parser(
+    names = [*command.options, *(CONNECTING if command.epilog in (NODE_EPILOG, WATCH_EPILOG) else ())]
+    return {one: (OPTIONS_OF_WATCH.get(one) if name == "watch" else None) or OPTIONS[one] for one in names}
+
+
+def help_of(name: str) -> str:
+    """What help says of a command."""
+    command = COMMANDS[name]
+    layout = argparse.ArgumentParser(
         f"{PROGRAM} {name}",
         usage=f"{PROGRAM} {name} {' '.join(filter(None, ['[OPTIONS]', command.words]))}",
         description=command.about,
         epilog=command.epilog.format(program=PROGRAM),
         formatter_class=_Layout,
-        allow_abbrev=False,
     )
-    for option in options:
-        value, about, how = (OPTIONS_OF_WATCH.get(option) if name == "watch" else None) or OPTIONS[option]
+    for option, (value, about, how) in _options_of(name).items():
         if value is None:
-            parser.add_argument(f"--{option}", action="store_true", help=about)
+            layout.add_argument(f"--{option}", action="store_true", help=about)
         else:
-            parser.add_argument(f"--{option}", metavar=value, help=about, **how)
-    return parser
+            layout.add_argument(f"--{option}", metavar=value, help=about, **how)
+    return layout.format_help()
 
 
 def general_help() -> str:
@@ -246,24 +237,110 @@ def general_help() -> str:
     ])  # fmt: skip
 
 
-def _place(name: str, words: Sequence[str]) -> dict[str, str]:
-    """The words of a command that are no options, by what they are. A path begins with a slash, and servers don't."""
-    command, left, found = COMMANDS[name], list(words), dict[str, str]()
-    wanted = command.words.split()
-    if "[SERVERS]" in wanted:
-        if left and not left[0].startswith("/"):
-            found["SERVERS"] = left.pop(0)
-        wanted.remove("[SERVERS]")
-    for kind in wanted:
-        if left:
-            found[kind.strip("[]")] = left.pop(0)
-    lacking = [kind for kind in wanted if not kind.startswith("[") and kind not in found]
-    if lacking:
-        lines = "".join(f"\n  <{kind}>" for kind in lacking)
-        raise usage(f"the following required arguments were not provided:{lines}\n\nFor more information, try '--help'.")
-    if left:
-        raise usage(f"unexpected argument '{left[0]}' found\n\nFor more information, try '--help'.")
-    return found
+class _Words:
+    """The words of a command, taken one after the other: the first that has a fault is told, as `zk_shell` does."""
+
+    def __init__(self, name: str, words: Sequence[str]) -> None:
+        self._options = _options_of(name)
+        self._kinds = COMMANDS[name].words.split()
+        if "[SERVERS]" in self._kinds and self._names_no_servers(words):
+            self._kinds.remove("[SERVERS]")
+        self.found = dict[str, str]()
+        """The words that are no options, by what they are."""
+        self.chosen = argparse.Namespace()
+        for option, (value, _, how) in self._options.items():
+            setattr(self.chosen, how.get("dest", option), False if value is None else copy.copy(how.get("default")))
+        self._used = set[str]()
+        self._last: Optional[tuple[str, Optional[str]]] = None
+        """An option that takes a value, until another word is understood."""
+        self.asks_help = False
+        self._take(words)
+
+    def _names_no_servers(self, words: Sequence[str]) -> bool:
+        """Whether the first word that is no option, and no option's value, is a path, or there is none."""
+        is_value = False
+        for word in words:
+            if not is_value and not _is_option(word):
+                return word.startswith("/")
+            option = None if is_value else self._options.get(word[2:])
+            is_value = option is not None and option.value is not None and word.startswith("--")
+        return True
+
+    def _take(self, words: Sequence[str]) -> None:
+        end = words.index("--") if "--" in words else len(words)
+        for word in words[:end]:
+            if not _is_option(word):
+                self._take_plain(word)
+            elif word.startswith("--"):
+                self._take_option(word[2:])
+            else:
+                self._take_letters(word)
+            if self.asks_help:
+                return
+        for word in words[end + 1 :]:
+            self._take_operand(word)
+        self._settle()
+        lacking = [kind for kind in self._kinds if not kind.startswith("[")]
+        if lacking:
+            raise refused(f"the following required arguments were not provided:{''.join(f'{chr(10)}  <{kind}>' for kind in lacking)}")
+
+    def _take_plain(self, word: str) -> None:
+        if self._last is not None and self._last[1] is None:
+            self._last = self._last[0], word
+        else:
+            self._take_operand(word)
+
+    def _take_operand(self, word: str) -> None:
+        if not self._kinds:
+            raise refused(f"unexpected argument '{word}' found")
+        self._settle()
+        self.found[self._kinds.pop(0).strip("[]")] = word
+
+    def _take_letters(self, word: str) -> None:
+        if word[1] != "h":
+            raise refused(f"unexpected argument '{word[:2]}' found")
+        self._settle()
+        self.asks_help = True
+
+    def _take_option(self, word: str) -> None:
+        name, equals, value = word.partition("=")
+        option = self._options.get(name)
+        if option is None and name != "help":
+            raise refused(f"unexpected argument '--{name}' found")
+        takes_value = option is not None and option.value is not None
+        if equals and not takes_value:
+            raise refused(f"unexpected value '{value}' for '--{name}' found; no more were expected")
+        self._settle()
+        if takes_value:
+            self._last = name, value if equals else None
+        elif option is None:
+            self.asks_help = True
+        else:
+            self._note(name, True)
+
+    def _settle(self) -> None:
+        """Notes the option that was read last, with its value."""
+        if self._last is None:
+            return
+        (name, value), self._last = self._last, None
+        if value is None:
+            raise refused(f"a value is required for '--{name} <{self._options[name].value}>' but none was supplied")
+        self._note(name, value)
+
+    def _note(self, name: str, value: Union[str, bool]) -> None:
+        kind, _, how = self._options[name]
+        dest = how.get("dest", name)
+        if how.get("action") == "append":
+            getattr(self.chosen, dest).append(value)
+            return
+        if name in self._used:
+            raise refused(f"the argument '--{name}{f' <{kind}>' if kind is not None else ''}' cannot be used multiple times")
+        self._used.add(name)
+        setattr(self.chosen, dest, value)
+
+
+def _is_option(word: str) -> bool:
+    return word.startswith("-") and word != "-"
 
 
 def _number(word: str, least: int, most: int, what: str) -> int:
@@ -272,21 +349,21 @@ def _number(word: str, least: int, most: int, what: str) -> int:
     return int(word)
 
 
-def _read_numbers(chosen: argparse.Namespace) -> None:
-    given = vars(chosen)
-    for name, least, most, what in (
-        ("wait", 1, MOST_SECONDS, "time to wait: a number of seconds"),
-        ("duration", 1, MOST_SECONDS, "time to watch: a number of seconds"),
-        ("timeout", 1, MOST_MS, "timeout: a number of milliseconds"),
-        ("depth", 0, MOST_NODES, "depth: a number"),
-        ("most", 1, MOST_NODES, "number of nodes: a number"),
-        ("version", 0, MOST_VERSION, "version: a number"),
-        ("port", 0, 65_535, "port: a number"),
-    ):
-        if given.get(name) is not None:
-            given[name] = _number(given[name], least, most, what)
-    if "version" in given and chosen.version is None:
-        chosen.version = -1
+NUMBERS = {
+    "wait": (1, MOST_SECONDS, "time to wait: a number of seconds"),
+    "timeout": (1, MOST_MS, "timeout: a number of milliseconds"),
+    "duration": (1, MOST_SECONDS, "time to watch: a number of seconds"),
+    "depth": (0, MOST_NODES, "depth: a number"),
+    "most": (1, MOST_NODES, "number of nodes: a number"),
+    "version": (0, MOST_VERSION, "version: a number"),
+    "port": (0, 65_535, "port: a number"),
+}
+
+
+def _read_numbers(chosen: argparse.Namespace, *names: str) -> None:
+    for name in names:
+        if getattr(chosen, name, None) is not None:
+            setattr(chosen, name, _number(getattr(chosen, name), *NUMBERS[name]))
 
 
 def _read_seed(chosen: argparse.Namespace) -> None:
@@ -370,38 +447,28 @@ def read_file(chosen: argparse.Namespace) -> None:
         raise Ending(UNREAD, f"unread: {chosen.file}: it has more than {LONGEST_FILE:,} bytes")
 
 
-def _check_once(name: str, words: Sequence[str]) -> None:
-    """Raises `Ending` if an option is used twice that may be used once."""
-    used = [word[2:].partition("=")[0] for word in words if word.startswith("--")]
-    for place, option in enumerate(used):
-        value, _, how = (OPTIONS_OF_WATCH.get(option) if name == "watch" else None) or OPTIONS[option]
-        if option in used[:place] and how.get("action") != "append":
-            shown = f"--{option} <{value}>" if value is not None else f"--{option}"
-            raise usage(f"the argument '{shown}' cannot be used multiple times\n\nFor more information, try '--help'.")
-
-
-def read(name: str, words: Sequence[str]) -> argparse.Namespace:
-    """What the words after a command's name say. Raises `Ending`, and `SystemExit` after it has printed help."""
-    end = words.index("--") if "--" in words else len(words)
-    chosen, rest = _parser_of(name).parse_known_args(words[:end])
-    below = (value for option, value in zip(words[:end], words[1:end]) if option.startswith("--") and re.match(r"-\d", value))
-    unexpected = {word for word in [*below, *rest] if word.startswith("-") and word != "-"}
-    strange = next((word for word in words[:end] if word in unexpected), None)
-    if strange is not None:
-        strange = strange.partition("=")[0] if strange.startswith("--") else strange[:2]
-        raise usage(f"unexpected argument '{strange}' found\n\nFor more information, try '--help'.")
-    _check_once(name, words[:end])
-    found = _place(name, [*rest, *words[end + 1 :]])
-    _read_numbers(chosen)
+def read(name: str, words: Sequence[str]) -> Optional[argparse.Namespace]:
+    """What the words after a command's name say, or None if they ask for help. Raises `Ending`."""
+    taken = _Words(name, words)
+    if taken.asks_help:
+        return None
+    chosen, found = taken.chosen, taken.found
+    chosen.command, chosen.path = name, found.get("PATH", "")
+    is_watch = name == "watch"
+    _read_numbers(chosen, "wait", "timeout", "duration", "depth", "port", *(() if is_watch else ("most",)))
     _read_seed(chosen)
     if "auth" in chosen:
         _read_servers(chosen, found.get("SERVERS"))
-        for path in [*([found["PATH"]] if "PATH" in found else ()), *(chosen.data + chosen.children + chosen.tree if name == "watch" else ())]:
+        if is_watch:
+            _read_numbers(chosen, "most")
+        for path in chosen.data + chosen.children + chosen.tree if is_watch else [chosen.path]:
             _check_path(path, chosen.chroot)
-    chosen.command, chosen.path = name, found.get("PATH", "")
     if "null" in chosen:
         _read_data(chosen, found.get("DATA"))
     if "ACL" in found:
         chosen.acl = found["ACL"]
         read_acl(chosen)
+    _read_numbers(chosen, "version")
+    if "version" in chosen and chosen.version is None:
+        chosen.version = -1
     return chosen

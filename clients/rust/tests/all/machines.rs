@@ -193,8 +193,7 @@ fn a_refused_read_of_what_is_followed_is_told_once_and_made_again() {
 fn what_follows_ends_with_its_session() {
     let partner = Partner::start(|number, mut line| {
         if number == 1 {
-            line.frame();
-            line.send(&jute::Record::expired());
+            line.expire();
         } else if line.admit(10_000) {
             let request = line.request().unwrap();
             line.tell_data(request.xid);
@@ -223,8 +222,7 @@ fn what_follows_ends_with_its_session() {
 fn what_is_followed_goes_on_with_a_renewed_session() {
     let partner = Partner::start(|number, mut line| {
         if number == 1 {
-            line.frame();
-            line.send(&jute::Record::expired());
+            line.expire();
         } else if line.admit(10_000) {
             let request = line.request().unwrap();
             line.answer(&request);

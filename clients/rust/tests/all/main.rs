@@ -1,4 +1,4 @@
-//! The tests of sessions and at servers in memory, as one program: it is built once, and most of its time are waits side by side, so give it many threads.
+//! The tests of sessions and of servers in memory, as one program, which is built once. They mostly wait, so run them on many threads.
 
 #[cfg(dirwolleu_bench)]
 #[path = "../../src/testing/bench.rs"]
@@ -16,31 +16,65 @@ mod runtime;
 #[path = "../server/mod.rs"]
 mod server;
 
-use dirwolleu::{Error, ErrorKind};
+use dirwolleu::{Error, ErrorKind, KeptNode, Session, SessionOptions};
 use std::fmt::Debug;
-use std::time::Duration;
+use std::thread::sleep;
+use std::time::{Duration, Instant};
 
-/// How long what is awaited may take.
+/// The longest that a test waits for anything.
 const PATIENCE: Duration = Duration::from_secs(120);
 
-/// How much later than it could a program on a busy machine may act.
+/// How late a program on a busy machine may act.
 const SLACK: Duration = Duration::from_secs(15);
 
-/// The timeout of a session whose test says no other.
+/// The default timeout of a session.
 const TIMEOUT: Duration = Duration::from_secs(10);
 
 fn millis(count: u64) -> Duration {
     Duration::from_millis(count)
 }
 
-/// Of what kind the error of a call is.
+/// The kind of error with which a call failed.
 fn kind_of<T: Debug>(ending: Result<T, Error>) -> ErrorKind {
     ending.unwrap_err().kind().clone()
 }
 
-/// The server in memory, and none where there is no python3: then the test passes, and says so.
+/// The server in memory, or none if there is no python3; the test then says so and passes.
 fn started() -> Option<server::Server> {
     server::Server::start(&[])
+}
+
+fn wait_until(what: &str, is_so: impl Fn() -> bool) {
+    let until = Instant::now() + PATIENCE;
+    while !is_so() {
+        assert!(Instant::now() < until, "{what}");
+        sleep(Duration::from_millis(5));
+    }
+}
+
+/// A session that is renewed when it has expired.
+fn renewing(server: &server::Server) -> Session {
+    let options = SessionOptions::new(TIMEOUT).renews(true);
+    options.open(server.address).unwrap()
+}
+
+/// Makes the node `/a`, changes it while there is no connection, ends the session, and deletes the node. `next` is what the session shows next.
+fn tells_each_change(server: &mut server::Server, mut next: impl FnMut() -> Option<String>) {
+    assert_eq!(next(), None);
+    server.tell("create /a one");
+    assert_eq!(next().as_deref(), Some("one"));
+    server.tell("down");
+    server.tell("set /a two");
+    server.tell("up");
+    assert_eq!(next().as_deref(), Some("two"));
+    server.tell("expire");
+    assert_eq!(next().as_deref(), Some("two"));
+    server.tell("delete /a");
+    assert_eq!(next(), None);
+}
+
+fn text(node: Option<KeptNode>) -> Option<String> {
+    node.map(|node| String::from_utf8(node.data.unwrap()).unwrap())
 }
 
 #[cfg(dirwolleu_bench)]

@@ -1,25 +1,16 @@
 //! What is counted of a session, and told its observer, at the server in memory. Where there is no python3, each test says so and passes.
 
-use crate::{started, PATIENCE};
+use crate::{started, wait_until, PATIENCE};
 use dirwolleu::{
     CallKind, CallOutcome, Code, ConnectionEnd, Observation, Request, Session, SessionOptions,
     SharedSession,
 };
 use std::mem;
 use std::sync::{Arc, Mutex, OnceLock};
-use std::thread::sleep;
-use std::time::{Duration, Instant};
+use std::time::Duration;
 
 /// A timeout of which no ping comes within a test.
 const LONG: Duration = Duration::from_secs(600);
-
-fn wait_until(what: &str, is_so: impl Fn() -> bool) {
-    let until = Instant::now() + PATIENCE;
-    while !is_so() {
-        assert!(Instant::now() < until, "{what}");
-        sleep(Duration::from_millis(5));
-    }
-}
 
 /// By the protocol a ConnectRequest has 49 bytes, its answer 40 where the server has no read-only mode; a request without a body 12, a path and a
 /// watch 4 + 2 + 1 more; a header of a reply 20 bytes, a Stat 68, data 4 more than they have.

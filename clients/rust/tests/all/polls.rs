@@ -3,43 +3,22 @@
 use crate::jute::{Record, EXISTS, GET_DATA, PING, PONG};
 use crate::partner::{Line, Partner};
 use crate::runtime::block_on;
-use crate::server::Server;
-use crate::started;
-use dirwolleu::{Event, KeptNode, Session, SessionOptions, State};
+use crate::{renewing, started, tells_each_change, text};
+use dirwolleu::{Event, Session, State};
 use std::future::poll_fn;
 use std::sync::{mpsc, Arc};
 use std::task::{Context, Wake};
 use std::time::{Duration, Instant};
-
-fn renewing(server: &Server) -> Session {
-    let options = SessionOptions::new(Duration::from_secs(10)).renews(true);
-    options.open(server.address).unwrap()
-}
-
-fn text(node: Option<KeptNode>) -> Option<String> {
-    node.map(|node| String::from_utf8(node.data.unwrap()).unwrap())
-}
 
 #[test]
 fn a_node_is_followed_by_any_runtime() {
     let Some(mut server) = started() else { return };
     let session = renewing(&server).shared();
     let mut nodes = session.follow("/a");
-    let mut next = || {
+    tells_each_change(&mut server, || {
         let node = block_on(poll_fn(|context| nodes.poll_next(context)));
         text(node.expect("the session lives").unwrap())
-    };
-    assert_eq!(next(), None);
-    server.tell("create /a one");
-    assert_eq!(next().as_deref(), Some("one"));
-    server.tell("down");
-    server.tell("set /a two");
-    server.tell("up");
-    assert_eq!(next().as_deref(), Some("two"));
-    server.tell("expire");
-    assert_eq!(next().as_deref(), Some("two"));
-    server.tell("delete /a");
-    assert_eq!(next(), None);
+    });
     session.close().unwrap();
     let over = block_on(poll_fn(|context| nodes.poll_next(context)));
     assert!(over.is_none(), "{over:?}");

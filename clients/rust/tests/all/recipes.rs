@@ -1,27 +1,14 @@
 //! Paths, counters, queues, barriers and semaphores, at the server in memory. Where there is no python3, each test says so and passes.
 
 use crate::server::Server;
-use crate::{kind_of, started, PATIENCE, TIMEOUT};
+use crate::{kind_of, renewing, started, wait_until, PATIENCE, TIMEOUT};
 use dirwolleu::{
     Barrier, Code, Counter, ErrorKind, LocalSession, LockNames, Mode, Queue, Semaphore, Session,
-    SessionOptions, ANY_VERSION,
+    ANY_VERSION,
 };
 use std::sync::atomic::{AtomicUsize, Ordering};
 use std::thread::{scope, sleep};
-use std::time::{Duration, Instant};
-
-fn opened(server: &Server) -> Session {
-    let options = SessionOptions::new(TIMEOUT).renews(true);
-    options.open(server.address).unwrap()
-}
-
-fn wait_until(what: &str, is_so: impl Fn() -> bool) {
-    let until = Instant::now() + PATIENCE;
-    while !is_so() {
-        assert!(Instant::now() < until, "{what}");
-        sleep(Duration::from_millis(5));
-    }
-}
+use std::time::Duration;
 
 /// How often the connection ends at another place, and after how many bytes each time.
 const PLACES: std::ops::Range<usize> = 0..14;
@@ -43,7 +30,7 @@ fn spare(session: &Session, server: &mut Server) {
 #[test]
 fn a_path_is_made_with_all_above_it() {
     let Some(server) = started() else { return };
-    let session = opened(&server);
+    let session = renewing(&server);
     for path in ["/a/b/c", "/a/b/d", "/a/b/d", "/"] {
         assert_eq!(session.ensure_path(path), Ok(()));
         assert!(session.exists(path).unwrap().is_some());
@@ -67,7 +54,7 @@ fn a_path_is_made_with_all_above_it() {
 #[test]
 fn a_tree_is_deleted_from_below() {
     let Some(server) = started() else { return };
-    let session = opened(&server);
+    let session = renewing(&server);
     for path in ["/a/b/c", "/a/b/d", "/a/e"] {
         session.ensure_path(path).unwrap();
     }
@@ -79,7 +66,7 @@ fn a_tree_is_deleted_from_below() {
 #[test]
 fn paths_are_made_and_deleted_wherever_connections_end() {
     let Some(mut server) = started() else { return };
-    let session = opened(&server);
+    let session = renewing(&server);
     for place in PLACES {
         cut(&mut server, place, 17);
         assert_eq!(session.ensure_path("/a/b/c"), Ok(()), "{place}");
@@ -93,7 +80,7 @@ fn paths_are_made_and_deleted_wherever_connections_end() {
 #[test]
 fn a_counter_counts_what_all_add() {
     let Some(mut server) = started() else { return };
-    let (session, other) = (opened(&server), opened(&server));
+    let (session, other) = (renewing(&server), renewing(&server));
     let counter = Counter::new(&session, "/jobs/count");
     assert_eq!(counter.get(), Ok(0));
     assert_eq!(counter.add(5), Ok(5));
@@ -119,7 +106,7 @@ fn a_counter_counts_what_all_add() {
 #[test]
 fn a_change_of_a_counter_happens_once_or_may_have_happened() {
     let Some(mut server) = started() else { return };
-    let session = opened(&server);
+    let session = renewing(&server);
     let counter = Counter::new(&session, "/count");
     let mut before = counter.get().unwrap();
     for place in PLACES {
@@ -139,7 +126,7 @@ fn a_change_of_a_counter_happens_once_or_may_have_happened() {
 #[test]
 fn a_queue_gives_each_entry_to_one() {
     let Some(mut server) = started() else { return };
-    let (session, other) = (opened(&server), opened(&server));
+    let (session, other) = (renewing(&server), renewing(&server));
     let queue = Queue::new(&session, "/queue");
     assert_eq!(queue.take_within(Duration::ZERO), Ok(None));
     for (data, priority) in [("c", 100), ("d", 2000), ("a", 5), ("b", 100)] {
@@ -171,7 +158,7 @@ fn a_queue_gives_each_entry_to_one() {
 #[test]
 fn an_entry_is_put_once_wherever_connections_end() {
     let Some(mut server) = started() else { return };
-    let session = opened(&server);
+    let session = renewing(&server);
     let queue = Queue::new(&session, "/queue");
     queue.put(b"first").unwrap();
     for place in PLACES {
@@ -185,7 +172,7 @@ fn an_entry_is_put_once_wherever_connections_end() {
 #[test]
 fn a_barrier_holds_back_until_it_is_removed() {
     let Some(mut server) = started() else { return };
-    let (session, other) = (opened(&server), opened(&server));
+    let (session, other) = (renewing(&server), renewing(&server));
     let (barrier, same) = (
         Barrier::new(&session, "/step/one"),
         Barrier::new(&other, "/step/one"),
@@ -210,7 +197,7 @@ fn a_barrier_holds_back_until_it_is_removed() {
 #[test]
 fn so_many_hold_a_semaphore_as_it_says() {
     let Some(mut server) = started() else { return };
-    let (session, other) = (opened(&server), opened(&server));
+    let (session, other) = (renewing(&server), renewing(&server));
     let semaphore = Semaphore::new(&session, "/s/two", 2);
     let same = Semaphore::new(&other, "/s/two", 2);
     let first = semaphore.acquire(b"one").unwrap();
@@ -257,7 +244,7 @@ fn so_many_hold_a_semaphore_as_it_says() {
 #[test]
 fn no_lease_is_left_wherever_connections_end() {
     let Some(mut server) = started() else { return };
-    let (session, other) = (opened(&server), opened(&server));
+    let (session, other) = (renewing(&server), renewing(&server));
     for place in PLACES {
         cut(&mut server, place, 83);
         let semaphore = Semaphore::new(&session, "/s/one", 1);

@@ -1,22 +1,13 @@
 //! Registrations, at the server in memory. Where there is no python3, each test says so and passes.
 
 use crate::server::Server;
-use crate::{started, PATIENCE, TIMEOUT};
-use dirwolleu::{NoReply, Registration, Session, SessionOptions, SharedSession};
+use crate::{started, wait_until, TIMEOUT};
+use dirwolleu::{NoReply, Registration, Session, SharedSession};
 use std::thread::sleep;
-use std::time::{Duration, Instant};
+use std::time::Duration;
 
 fn renewing(server: &Server) -> SharedSession {
-    let options = SessionOptions::new(TIMEOUT).renews(true);
-    options.open(server.address).unwrap().shared()
-}
-
-fn wait_until(what: &str, is_so: impl Fn() -> bool) {
-    let until = Instant::now() + PATIENCE;
-    while !is_so() {
-        assert!(Instant::now() < until, "{what}");
-        sleep(Duration::from_millis(5));
-    }
+    crate::renewing(server).shared()
 }
 
 /// The session whose node it is.

@@ -2,7 +2,7 @@
 
 use crate::example;
 use crate::server::Server;
-use crate::{kind_of, started, PATIENCE};
+use crate::{kind_of, renewing, started, tells_each_change, text, PATIENCE};
 use dirwolleu::{
     Cause, Code, DataAnswer, ErrorKind, Event, Fault, Mark, Mode, NoReply, NodeEvent, Request,
     Session, SessionOptions, Side, State, ANY_VERSION,
@@ -336,24 +336,11 @@ fn all_paths_are_below_the_chroot() {
 #[test]
 fn a_node_is_followed_through_all() {
     let Some(mut server) = started() else { return };
-    let options = SessionOptions::new(Duration::from_secs(10)).renews(true);
-    let session = options.open(server.address).unwrap();
+    let session = renewing(&server);
     let mut nodes = session.follow("/a");
-    let mut next = || {
-        let node = nodes.next().expect("the session lives").unwrap();
-        node.map(|node| String::from_utf8(node.data.unwrap()).unwrap())
-    };
-    assert_eq!(next(), None);
-    server.tell("create /a one");
-    assert_eq!(next().as_deref(), Some("one"));
-    server.tell("down");
-    server.tell("set /a two");
-    server.tell("up");
-    assert_eq!(next().as_deref(), Some("two"));
-    server.tell("expire");
-    assert_eq!(next().as_deref(), Some("two"));
-    server.tell("delete /a");
-    assert_eq!(next(), None);
+    tells_each_change(&mut server, || {
+        text(nodes.next().expect("the session lives").unwrap())
+    });
     let shared = session.ask(dirwolleu::Request::create("/b", b"", Mode::Persistent));
     assert_eq!(shared.wait().as_deref(), Ok("/b"));
 }

@@ -1,6 +1,6 @@
 //! Sessions that live by a thread of their own, and calls that are on their way at once.
 
-use crate::jute::{self, GET_DATA, SET_DATA};
+use crate::jute::{GET_DATA, SET_DATA};
 use crate::memory;
 use crate::partner::{Line, Partner};
 use crate::runtime::block_on;
@@ -41,8 +41,7 @@ fn serve_or_expire(stream: TcpStream, timeout: Duration, expiries: &AtomicUsize)
     let mut line = Line::over(stream);
     let granted = i32::try_from(timeout.as_millis()).unwrap();
     if expiries.load(Ordering::SeqCst) > 0 {
-        line.frame();
-        line.send(&jute::Record::expired());
+        line.expire();
         return;
     }
     line.admit(granted);
@@ -369,8 +368,7 @@ fn an_expired_session_renews_itself_where_it_is_told_to() {
     let is_expired = Arc::new(Mutex::new(true));
     let partner = Partner::start(move |number, mut line| {
         if number == 1 && std::mem::take(&mut *is_expired.lock().unwrap()) {
-            line.frame();
-            line.send(&jute::Record::expired());
+            line.expire();
             return;
         }
         line.admit(10_000);

@@ -2,7 +2,7 @@
 
 use crate::runtime::block_on;
 use crate::server::Server;
-use crate::{PATIENCE, TIMEOUT};
+use crate::{renewing, PATIENCE, TIMEOUT};
 use dirwolleu::{
     Code, DataAnswer, Error, ErrorKind, Fault, LocalSession, Mark, Mode, NoReply, Request, Session,
     SessionOptions, Snapshots, SubtreeNode, Tree, TreeSnapshot,
@@ -19,11 +19,6 @@ fn server() -> Option<Server> {
         server.tell(&format!("create {node}"));
     }
     Some(server)
-}
-
-fn session_at(server: &Server) -> Session {
-    let options = SessionOptions::new(TIMEOUT).renews(true);
-    options.open(server.address).unwrap()
 }
 
 fn paths<'a>(nodes: impl IntoIterator<Item = &'a SubtreeNode>) -> Vec<&'a str> {
@@ -57,7 +52,7 @@ fn next_trouble(snapshots: &mut Snapshots<'_>) -> Error {
 #[test]
 fn all_nodes_are_there_and_no_other() {
     let Some(server) = server() else { return };
-    let session = session_at(&server);
+    let session = renewing(&server);
     let tree = session.tree("/t").unwrap();
     let snapshot = tree.wait_for(PATIENCE).unwrap();
     let all = ["/t", "/t/a", "/t/a/deep", "/t/b"];
@@ -73,7 +68,7 @@ fn all_nodes_are_there_and_no_other() {
 #[test]
 fn changes_are_followed_through_all() {
     let Some(mut server) = server() else { return };
-    let session = session_at(&server);
+    let session = renewing(&server);
     let tree = session.tree("/t").unwrap();
     let mut snapshots = tree.snapshots();
     let first = next(&mut snapshots, |_| true);
@@ -103,7 +98,7 @@ fn changes_are_followed_through_all() {
 #[test]
 fn a_node_that_comes_and_goes_is_there_or_not() {
     let Some(mut server) = server() else { return };
-    let session = session_at(&server);
+    let session = renewing(&server);
     let tree = session.tree("/t").unwrap();
     let mut snapshots = tree.snapshots();
     let first = next(&mut snapshots, |_| true);
@@ -122,7 +117,7 @@ fn a_node_that_comes_and_goes_is_there_or_not() {
 #[test]
 fn a_root_that_is_not_there_is_told_and_waited_for() {
     let Some(mut server) = server() else { return };
-    let session = session_at(&server);
+    let session = renewing(&server);
     let tree = session.tree("/later").unwrap();
     let none = tree.wait_for(PATIENCE).unwrap_err();
     assert_eq!(none.to_string(), "no node: /later");
@@ -145,7 +140,7 @@ fn a_root_that_is_not_there_is_told_and_waited_for() {
 #[test]
 fn more_nodes_than_wanted_are_told() {
     let Some(mut server) = server() else { return };
-    let session = session_at(&server);
+    let session = renewing(&server);
     let tree = session.bounded_tree("/t", 3).unwrap();
     let mut snapshots = tree.snapshots();
     let many = next_trouble(&mut snapshots);
@@ -191,7 +186,7 @@ fn a_tree_is_below_the_chroot() {
 #[test]
 fn many_trees_and_calls_go_on_at_once() {
     let Some(server) = server() else { return };
-    let session = session_at(&server);
+    let session = renewing(&server);
     let names: Vec<_> = (0..400).map(|number| format!("/t/n{number}")).collect();
     let create = |name: &String| session.ask(Request::create(name, b"", Mode::Persistent));
     let made: Vec<_> = names.iter().map(create).collect();
@@ -211,7 +206,7 @@ fn many_trees_and_calls_go_on_at_once() {
 #[test]
 fn trees_may_have_the_same_nodes() {
     let Some(mut server) = server() else { return };
-    let session = session_at(&server);
+    let session = renewing(&server);
     let trees = ["/t", "/t/a"].map(|root| {
         let tree = session.tree(root).unwrap();
         tree.wait_for(PATIENCE).unwrap();
@@ -230,7 +225,7 @@ fn trees_may_have_the_same_nodes() {
 #[test]
 fn a_transaction_is_in_a_snapshot_as_a_whole() {
     let Some(server) = server() else { return };
-    let (session, writer) = (session_at(&server), session_at(&server));
+    let (session, writer) = (renewing(&server), renewing(&server));
     let tree = session.tree("/t").unwrap();
     let set = |word: &str| {
         let both = writer.transaction().set("/t/a", word.as_bytes(), -1);
@@ -252,7 +247,7 @@ fn a_transaction_is_in_a_snapshot_as_a_whole() {
 #[test]
 fn threads_look_at_one_tree() {
     let Some(mut server) = server() else { return };
-    let session = session_at(&server).shared();
+    let session = renewing(&server).shared();
     let tree = Arc::new(session.tree("/t").unwrap());
     let looks: Vec<_> = (0..4)
         .map(|_| {
@@ -312,7 +307,7 @@ fn a_session_without_a_thread_has_trees() {
 #[test]
 fn a_tree_is_followed_by_any_runtime() {
     let Some(mut server) = server() else { return };
-    let session = session_at(&server).shared();
+    let session = renewing(&server).shared();
     let tree = session.tree("/t").unwrap();
     let mut snapshots = tree.snapshots();
     let mut next = || block_on(poll_fn(|context| snapshots.poll_next(context)));
@@ -326,7 +321,7 @@ fn a_tree_is_followed_by_any_runtime() {
 #[test]
 fn listed_nodes_are_of_one_moment_or_there_is_none() {
     let Some(mut server) = server() else { return };
-    let session = session_at(&server);
+    let session = renewing(&server);
     assert_eq!(session.snapshot(&["/t/a"], &[]), Ok(None));
     session.watch("/t/a").unwrap();
     session.watch("/none").unwrap();

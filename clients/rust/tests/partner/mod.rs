@@ -61,6 +61,11 @@ impl Line {
         self.frame().is_some() && self.send(&Record::accepted(timeout, 0x1234))
     }
 
+    /// Says that the session is over.
+    pub fn expire(&mut self) -> bool {
+        self.frame().is_some() && self.send(&Record::expired())
+    }
+
     /// The next request.
     pub fn request(&mut self) -> Option<Request> {
         let frame = self.frame()?;

@@ -1,5 +1,5 @@
 -- The place goes where the answer leads: `hears_of_place`.
-use Rattle.std.proofs.Common.{◌≡◌, ℤ, Option, arith, w64, subst, ap}
+use Rattle.std.proofs.Common.{◌≡◌, ℤ, arith, w64, subst, ap}
 use Rattle.std.proofs.lemmas.Int.{ints}
 use mir.Val.{to_z, of_z}
 use Rattle.zk_client.specs.Views.{outcome_view}
