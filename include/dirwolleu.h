@@ -310,8 +310,12 @@ enum dw_result dw_session_cut(dw_session *handle, uint64_t now_ms);
 /* A moment, and nothing else: at the latest at dw_session_deadline. */
 enum dw_result dw_session_moment(dw_session *handle, uint64_t now_ms);
 
-/* The list of addresses is another one, of this many, and they are dialled in a new order. A connection that is there stays. */
-enum dw_result dw_session_addresses(dw_session *handle, uint64_t now_ms, size_t count);
+/* The list of addresses is another one: first those that were in the list before, as many as kept, and after them those that were not, as many
+ * as added. A place is one of this list from now on. is_listed says whether the list has the address of the connection or of the attempt, or
+ * else the one that was dialled last; it is 1 before the first. The session may move, as those of ZooKeeper's own clients do: it always does if
+ * is_listed is 0, by the chance by which the list has grown if it has, and else never, so with the same addresses. One that moves is told
+ * DW_KIND_HANG_UP, and what was on its way is as after any cut. */
+enum dw_result dw_session_addresses(dw_session *handle, uint64_t now_ms, size_t kept, size_t added, bool is_listed);
 
 /* Calls. Each waits in one line until a server has accepted the connection and fewer than 1,024 are on their way, until the moment until_ms at
  * most, and without a limit where that is UINT64_MAX. It is answered once, or times out once. A read that is lost with its connection is asked

@@ -32,14 +32,13 @@ class World:
         self._piece = piece
         self._server, self._lock = Server(), threading.Lock()
         self._family = socket.AF_INET6 if ":" in host else socket.AF_INET
-        self._listener = socket.create_server((host, 0), family=self._family)
-        self._listener_at = self._listener.getsockname()
-        self.port: int = self._listener_at[1]
+        self._held = socket.socket(self._family)
+        """Has the port while nobody listens, so that the system gives it to nobody else."""
+        self._held.setsockopt(socket.SOL_SOCKET, socket.SO_REUSEADDR, 1)
+        self._held.bind((host, 0))
+        self.port: int = self._held.getsockname()[1]
         self._connection: socket.socket | None = None
-        self._accept()
-
-    def _accept(self) -> None:
-        threading.Thread(target=self._serve, args=(self._listener,), daemon=True).start()
+        self.join()
 
     def _serve(self, listener: socket.socket) -> None:
         with contextlib.suppress(OSError):  # which says that nothing listens there any more
@@ -90,9 +89,13 @@ class World:
         self._listener.close()
 
     def join(self) -> None:
-        """It listens again."""
-        self._listener = socket.create_server(self._listener_at, family=self._family)
-        self._accept()
+        """It listens, at its port."""
+        self._listener = socket.create_server(self._held.getsockname(), family=self._family)
+        threading.Thread(target=self._serve, args=(self._listener,), daemon=True).start()
+
+    def end(self) -> None:
+        self.part()
+        self._held.close()
 
 
 @contextlib.contextmanager
@@ -101,5 +104,5 @@ def world(host: str = "127.0.0.1", piece: int | None = None) -> Iterator[World]:
     try:
         yield served
     finally:
-        served.part()
+        served.end()
 

@@ -25,6 +25,7 @@ TIMEOUT_MS, PING_S = 3_000, 1.0
 """A client that sends nothing else sends a ping after a third of the timeout."""
 PING = bytes.fromhex("00000008fffffffe0000000b")
 WATCH_S = 600
+"""How long a watch goes on, and how long an answer may take on a busy machine."""
 
 
 def data_of(size: int) -> bytes:
@@ -52,19 +53,19 @@ class WatchingTest(unittest.TestCase):
     def _set_and_get(self, piece: int | None) -> None:
         """Each size is set and read by commands."""
         with world(piece=piece) as served:
-            address = f"127.0.0.1:{served.port}"
+            node = [f"127.0.0.1:{served.port}", NODE, "--wait", str(WATCH_S)]
             served.change(bench.MADE, NODE)
             for size in SIZES:
                 row = f"{size} bytes in pieces of {piece}"
-                self.assertEqual("||0", outcome(["set", address, NODE, "--from", "-"], data_of(size)), row)
+                self.assertEqual("||0", outcome(["set", *node, "--from", "-"], data_of(size)), row)
                 shown = data_of(size).hex() or "\\e"
-                self.assertEqual(f"{shown}\n||0", outcome(["get", address, NODE, "--hex"]), row)
+                self.assertEqual(f"{shown}\n||0", outcome(["get", *node, "--hex"]), row)
 
     def _follow(self, piece: int | None) -> None:
         """Another session sets each size, and each is shown and good."""
         with world(piece=piece) as served:
             served.change(bench.MADE, NODE, b"begin")
-            with watch(served) as shown:
+            with watch(served, "--timeout", str(1_000 * WATCH_S)) as shown:
                 self.assertEqual(b"begin".hex().encode(), next(shown))
                 for size in SIZES:
                     served.change(bench.WRITTEN, NODE, data_of(size))
@@ -83,7 +84,7 @@ class WatchingTest(unittest.TestCase):
         self._follow(PIECES[2])
 
     def test_three_changes_and_a_ping_after_a_third_of_the_timeout(self) -> None:
-        """The last request follows the last change, so the first ping comes no earlier than a third of the timeout after that."""
+        """The last request follows the last change, so the first ping after it comes no earlier than a third of the timeout after that."""
         with world() as served:
             begun = changed = time.monotonic()
             with watch(served, "--timeout", str(TIMEOUT_MS)) as shown:
@@ -92,7 +93,8 @@ class WatchingTest(unittest.TestCase):
                     changed = time.monotonic()
                     served.change(bench.WRITTEN if number else bench.MADE, NODE, data)
                     self.assertEqual(data.hex().encode(), next(shown))
-                pings = (heard.moment for heard in self._heard(served, changed) if heard.data == PING)
+                since_read = itertools.dropwhile(lambda heard: heard.data == PING, self._heard(served, changed))
+                pings = (heard.moment for heard in since_read if heard.data == PING)
                 self.assertLessEqual(changed + PING_S, next(pings))
 
     def _heard(self, served: World, since: float) -> Iterator[Heard]:

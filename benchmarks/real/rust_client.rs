@@ -1,8 +1,12 @@
-//! The rows over the client for Rust, by its session with a thread: the same words and lines as dirwolleu.c, without `make` and `change`.
+//! The rows over the client for Rust: the same words and lines as dirwolleu.c, without `make` and `change`.
 //!
-//! usage: rust_client PORT ROW COUNT TIMES
+//! usage: rust_client KIND PORT ROW COUNT TIMES
+//!
+//! KIND is `thread`, or `local`: by the session without a thread, which asks one call at a time.
 
-use dirwolleu::{Error, Event, Node, NodeEvent, Request, Session, SessionOptions, State, Ticket};
+use dirwolleu::{
+    Error, Event, LocalSession, Node, NodeEvent, Request, Session, SessionOptions, State, Ticket,
+};
 use std::io::{self, Write};
 use std::time::{Duration, Instant};
 use std::{env, fs};
@@ -113,6 +117,24 @@ fn measure_over(session: &Session, writes: bool, count: usize, times: usize) -> 
     since.tell()
 }
 
+/// One call at a time, by the session without a thread.
+fn measure_alone(session: &mut LocalSession, writes: bool, times: usize) -> Result<(), Fault> {
+    let mut ask = |times| -> Result<(), Error> {
+        for _ in 0..times {
+            if writes {
+                session.set(NODE, DATA, -1)?;
+            } else {
+                session.get(NODE)?;
+            }
+        }
+        Ok(())
+    };
+    ask(times.div_ceil(10))?;
+    let since = Mark::now()?;
+    ask(times)?;
+    since.tell()
+}
+
 /// Takes events until so many of this kind have come. Of those that nobody has taken in time it is told how many there were.
 fn wait_for(
     session: &Session,
@@ -166,11 +188,17 @@ fn measure_reconnect(session: &Session, count: usize) -> Result<(), Fault> {
 
 fn main() -> Result<(), Fault> {
     let words: Vec<String> = env::args().collect();
-    let [_, port, row, count, times] = words.as_slice() else {
-        return Err("usage: rust_client PORT ROW COUNT TIMES".into());
+    let [_, kind, port, row, count, times] = words.as_slice() else {
+        return Err("usage: rust_client KIND PORT ROW COUNT TIMES".into());
     };
     let (count, times) = (count.parse()?, times.parse()?);
-    let session = SessionOptions::new(TIMEOUT).open(format!("127.0.0.1:{port}").as_str())?;
+    let (options, host) = (SessionOptions::new(TIMEOUT), format!("127.0.0.1:{port}"));
+    if kind == "local" {
+        let mut session = options.open_local(host.as_str())?;
+        measure_alone(&mut session, row == "write", times)?;
+        return Ok(session.close()?);
+    }
+    let session = options.open(host.as_str())?;
     match row.as_str() {
         "watch" => measure_watches(&session, count)?,
         "reconnect" => measure_reconnect(&session, count)?,

@@ -68,7 +68,8 @@ enum dws_event {
     DWS_EXPIRED,        /* the session has expired: its ephemeral nodes and its watches are gone */
     DWS_CLOSED,         /* it was closed, as it was asked */
     DWS_BARRED,         /* the server does not take the credentials of the session, which is over: requests.h */
-    DWS_FAILED          /* memory ran out: the session is over */
+    DWS_FAILED,         /* memory ran out: the session is over */
+    DWS_RECORD_ENDED    /* the record cannot be written, and ends; the session goes on */
 };
 
 /* What is observed of a session, for counters and traces. stats.h counts it. */
@@ -121,6 +122,9 @@ typedef struct dws_options {
     bool is_over_at_expiry; /* no new session begins after one has expired */
     const uint8_t *saved;   /* a session that dws_saved gave, to be taken up; NULL begins one */
     size_t saved_length;
+    /* The file, begun again, into which is written what the library is handed and what it sends: zk_shell plays it again, to show a fault. No password is
+     * in it, nor a credential; paths and data are. It is whole up to the last turn. NULL: nothing is recorded. */
+    const char *record;
     void (*told)(dws_session *session, enum dws_event event, const char *server, const char *words);
     /* As recv and send of a socket that does not block: for TLS. NULL is these. */
     ssize_t (*read)(dws_wire *wire, void *room, size_t size, void *context);
@@ -245,7 +249,7 @@ struct dws_tree {
 
 /* Opens a session at these hosts: HOST:PORT,HOST:PORT/CHROOT. A port of 2181 may be left out, and an IPv6 address is in brackets. The session looks
  * names up at each attempt to connect, and makes the first one at the first turn. Options may be NULL. It answers NULL if the text is no such thing, a
- * timeout or a limit is out of range, or memory ran out: then `why`, which has `size` bytes and may be NULL with none, says so. */
+ * timeout or a limit is out of range, the record cannot be opened, or memory ran out: then `why`, which has `size` bytes and may be NULL with none, says so. */
 dws_session *dws_open(const char *hosts, const dws_options *options, char *why, size_t size);
 
 /* Prints an event on standard error, for `told` of the options: so a program says why it has no session as long as no server can be reached. */
@@ -302,8 +306,9 @@ bool dws_may_repeat(const dws_session *s, const dws_call *call);
 /* Has `changed` of a call be called no more. */
 void dws_unwatch(dws_session *s, dws_call *call);
 
-/* Dials these hosts from the next attempt on, in a new order. A connection that is there stays. It answers false if the text is no such thing or has
- * another chroot than the session, or memory ran out: then nothing is changed, and `why`, which has `size` bytes and may be NULL with none, says so. */
+/* Goes on with these hosts. The session moves to another one, as after a cut, if its own is not among them, and by the chance by which there are more
+ * than before; else it stays. It answers false if the text is no such thing or has another chroot than the session, or memory ran out: then nothing
+ * is changed, and `why`, which has `size` bytes and may be NULL with none, says so. */
 bool dws_set_hosts(dws_session *s, const char *hosts, char *why, size_t size);
 
 /* Tells the servers who the session is, in the words of a scheme, as `digest` and `user:password`: this connection at once, and each later one before

@@ -1,5 +1,5 @@
-/* A session by session.h that does what it is told, for the table of cases: session HOSTS TRIES. Reads that are lost are asked again by the library,
- * whatever the tries. */
+/* A session by session.h that does what it is told, for the table of cases: session HOSTS TRIES [RECORD]. Reads that are lost are asked again by the
+ * library, whatever the tries. */
 #define _POSIX_C_SOURCE 200809L
 #include "requests.h"
 #include "lock.h"
@@ -406,19 +406,29 @@ static bool next_line(dws_session *session, char *line, int size)
     return fgets(line, size, stdin) != NULL;
 }
 
+static void tell(dws_session *session, enum dws_event event, const char *server, const char *words)
+{
+    if (event == DWS_RECORD_ENDED) {
+        dws_print_event(session, event, server, words);
+    }
+}
+
 int main(int argc, char **argv)
 {
-    char line[1000];
-    dws_session *session = argc == 3 ? dws_open(argv[1], NULL, NULL, 0) : NULL;
+    char line[1000], why[1000];
+    dws_options options = {.told = tell, .record = argc == 4 ? argv[3] : NULL};
+    dws_session *session = argc >= 3 ? dws_open(argv[1], &options, why, sizeof why) : NULL;
+    if (session == NULL) {
+        fprintf(stderr, "%s\n", why);
+        return EXIT_FAILURE;
+    }
     setvbuf(stdin, NULL, _IONBF, 0); /* so that poll tells of each line */
-    while (session != NULL && next_line(session, line, sizeof line) && obey(session, line)) {
+    while (next_line(session, line, sizeof line) && obey(session, line)) {
     }
     dws_release(&call);
     dws_request_release(&request);
     dws_lock_release(&lock);
-    if (session != NULL) {
-        dws_close(session);
-        print_line("closed");
-    }
+    dws_close(session);
+    print_line("closed");
     return EXIT_SUCCESS;
 }

@@ -1,4 +1,4 @@
-"""A session by the client for Python that does what it is told, for the table of cases: session.py HOSTS TRIES."""
+"""A session by the client for Python that does what it is told, for the table of cases: session.py HOSTS TRIES [RECORD]."""
 
 from __future__ import annotations
 
@@ -144,14 +144,15 @@ class Told:
         return "done"
 
     def close(self) -> str:
+        self.client.stop()
         self.client.close()
         return "closed"
 
 
 def main() -> None:
-    hosts, tries = sys.argv[1:]
+    hosts, tries, *record = sys.argv[1:]
     retry = dirwolleu.Retry(tries=int(tries) + 1) if int(tries) else None
-    client = dirwolleu.Client(hosts, timeout=10.0, retry=retry)
+    client = dirwolleu.Client(hosts, timeout=10.0, retry=retry, record=record[0] if record else None)
     client.start()
     told = Told(client)
     for line in sys.stdin:

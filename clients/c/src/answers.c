@@ -27,7 +27,9 @@ void dws_send_later(dws_session *s, size_t length)
         dws_fail(s, DW_NO_MEMORY);
         return;
     }
-    s->unsent.length += dw_session_copy(&s->machine, 0, s->unsent.at + s->unsent.length, length);
+    uint8_t *frame = s->unsent.at + s->unsent.length;
+    s->unsent.length += dw_session_copy(&s->machine, 0, frame, length);
+    dws_record_frame(s, frame, length);
 }
 
 /* The path that the program knows, of one that the servers know. */

@@ -65,7 +65,7 @@ static void dws_hand_credentials(dws_session *s, struct dws_credentials **at)
     struct dws_credentials *one = *at;
     dws_call *call = one->call;
     size_t named = strlen(one->text), length = one->length - named - 1;
-    enum dw_result result = dw_session_credential(&s->machine, dws_in_time(s), one->text, named, (const uint8_t *)one->text + named + 1, length);
+    enum dw_result result = dw_session_credential(&s->machine, dws_at(s, dws_in_time(s)), one->text, named, (const uint8_t *)one->text + named + 1, length);
     one->is_handed = result == DW_OK || result == DW_HALTED || result == DW_CLOSED;
     if (one->is_handed) {
         dws_act(s, result);

@@ -81,25 +81,73 @@ bool dws_set_hosts(dws_session *s, const char *hosts, char *why, size_t size)
         snprintf(why, size, "the chroot of the session is '%s', and not '%s'", root, s->root);
     }
     free(is_same ? text : s->hosts_text);
-    free(is_same ? before : s->hosts);
-    if (!is_same) {
+    free(is_same ? s->others : s->hosts);
+    if (is_same) {
+        s->others = s->hosts;
+        s->other_count = s->host_count;
+    } else {
         s->hosts_text = text;
         s->root = root;
-        s->hosts = before;
-        s->host_count = count;
     }
-    s->must_list = s->must_list || is_same;
+    s->hosts = before;
+    s->host_count = count;
     return is_same;
 }
 
-/* Tells the library that the hosts are others, since no step is made in a callback. */
+static void dws_name_host(const struct dws_host *host, char *room, size_t size)
+{
+    snprintf(room, size, strchr(host->name, ':') != NULL ? "[%s]:%s" : "%s:%s", host->name, host->port);
+}
+
+/* Whether one of these hosts has the name and the port of a text. */
+static bool dws_has_host(const struct dws_host *hosts, size_t count, const char *text)
+{
+    char named[sizeof ((dws_session *)NULL)->server];
+    for (size_t i = 0; i < count; i++) {
+        dws_name_host(&hosts[i], named, sizeof named);
+        if (strcmp(named, text) == 0) {
+            return true;
+        }
+    }
+    return false;
+}
+
+/* Puts those of the new hosts first that are listed now, unless all are dialled in the order that they have. It answers how many these are. */
+static size_t dws_keep_hosts(dws_session *s)
+{
+    char named[sizeof s->server];
+    size_t kept = 0;
+    for (size_t i = 0; i < s->other_count; i++) {
+        struct dws_host one = s->others[i];
+        dws_name_host(&one, named, sizeof named);
+        if (!dws_has_host(s->hosts, s->host_count, named)) {
+            continue;
+        }
+        if (!s->options.is_in_order) {
+            memmove(&s->others[kept + 1], &s->others[kept], (i - kept) * sizeof one);
+            s->others[kept] = one;
+        }
+        kept++;
+    }
+    return kept;
+}
+
+/* Tells the library that the hosts are others, since no step is made in a callback. A host that is still to be dialled is one of these. */
 void dws_list_hosts(dws_session *s)
 {
-    if (s->must_list && !s->is_over) {
-        s->must_list = false;
-        s->dials = 0;
-        dws_act(s, dw_session_addresses(&s->machine, dws_in_time(s), s->host_count));
+    if (s->others == NULL || s->is_over) {
+        return;
     }
+    size_t kept = dws_keep_hosts(s);
+    bool is_listed = s->is_dial_due || s->server[0] == 0 || dws_has_host(s->others, s->other_count, s->server);
+    free(s->hosts);
+    s->hosts = s->others;
+    s->host_count = s->other_count;
+    s->others = NULL;
+    s->dials = 0;
+    s->is_listing = true;
+    dws_act(s, dw_session_addresses(&s->machine, dws_in_time(s), kept, s->host_count - kept, is_listed));
+    s->is_listing = false;
 }
 
 /* An address of the host, of which a name may have several: the next one at each look-up, which may take a while. */
@@ -109,7 +157,7 @@ bool dws_find_address(dws_session *s, struct dws_host *host, struct sockaddr_sto
     memset(&wanted, 0, sizeof wanted);
     wanted.ai_family = AF_UNSPEC;
     wanted.ai_socktype = SOCK_STREAM;
-    snprintf(s->server, sizeof s->server, strchr(host->name, ':') != NULL ? "[%s]:%s" : "%s:%s", host->name, host->port);
+    dws_name_host(host, s->server, sizeof s->server);
     int unknown = getaddrinfo(host->name, host->port, &wanted, &found);
     if (unknown != 0) {
         snprintf(s->trouble, sizeof s->trouble, "%s", gai_strerror(unknown));

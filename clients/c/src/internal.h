@@ -35,6 +35,7 @@ enum {
     DWS_LONGEST_HOST = 256,  /* the most bytes of a host's name */
     DWS_PAUSE_MS = 100,      /* the first pause before a call is asked again; each further one is twice as long, up to a second */
     DWS_SHARE = 10,          /* a look at a whole tree takes at most this part of the time: after one that took long, the next one waits */
+    DWS_PASSWORD = 16,      /* the bytes of the password with which a new session is asked for */
     DWS_CLOSE_MS = 1000     /* the longest wait for the server's word that the session is closed */
 };
 
@@ -94,6 +95,16 @@ struct dws_errand {
     struct dws_errand *next;
 };
 
+/* The record of a session, and what of its connection was recorded. */
+struct dws_recorder {
+    FILE *file;              /* NULL if nothing is recorded */
+    bool is_begun;           /* there is a first moment */
+    bool is_open, has_sent;  /* there is a connection, and its first frame was sent */
+    uint64_t begun_ms, now_ms, told_ms; /* the first moment, that of the last step, and that of the last line */
+    size_t came;             /* bytes of the connection */
+    uint32_t password;       /* how many of them are the password, once that is known */
+};
+
 /* The log-in by SASL on a connection. */
 struct dws_login {
     dws_sasl step;
@@ -109,18 +120,20 @@ struct dws_session {
     struct dws_credentials *credentials;
     int32_t barred;                    /* the code of the server that does not take the credentials */
     char *hosts_text, *root;           /* the connection string, and the chroot in it: empty if there is none */
-    struct dws_host *hosts;
-    size_t host_count, place, dials;   /* which one is to be dialled, and how many times one was */
+    struct dws_host *hosts, *others;   /* those that the library knows, and those that it is to be told of; NULL is none */
+    size_t host_count, other_count;
+    size_t place, dials;               /* which one is to be dialled, and how many times one was */
     char server[DWS_LONGEST_HOST + 8]; /* the one that was dialled last */
     char dialled[DWS_LONGEST_HOST];    /* its name */
     char trouble[256];                 /* what became of the last attempt */
     dws_wire wire;
     struct dws_login login;
+    struct dws_recorder recorder;
     short read_wants, write_wants;     /* what poll is to wait for besides, to read and to write */
     bool is_dial_due, is_connecting, is_expired, is_closing, is_over, is_resumed;
     bool has_more, has_news;           /* bytes that poll does not tell of, and something that a program may wait for */
     bool must_follow, must_introduce;  /* subjects or trees are new or gone; credentials are new */
-    bool must_list;                    /* the hosts are others */
+    bool is_listing;                   /* the library takes other hosts */
     bool is_acting;                    /* what a step says is being taken */
     bool is_unread;                    /* a reply does not read */
     bool is_moment;                    /* what the library says is due, and no word of the server's */
@@ -261,6 +274,18 @@ void dws_begin_login(dws_session *s);
 void dws_end_login(dws_session *s);
 size_t dws_may_send(dws_session *s);
 bool dws_log_in(dws_session *s, const uint8_t *bytes, size_t length, struct dws_bytes *passed);
+
+/* recording.c */
+uint64_t dws_at(dws_session *s, uint64_t now_ms); /* the moment of a step, which is noted for the record */
+bool dws_open_record(dws_session *s, char *why, size_t size);
+void dws_record_machine(dws_session *s, const uint8_t *saved, size_t length);
+void dws_record_session(dws_session *s, int64_t id, size_t password, int64_t zxid);
+void dws_record_opened(dws_session *s);
+void dws_record_cut(dws_session *s);
+void dws_record_bytes(dws_session *s, const uint8_t *bytes, size_t length);
+void dws_record_frame(dws_session *s, const uint8_t *frame, size_t length);
+void dws_flush_record(dws_session *s);
+void dws_end_record(dws_session *s);
 
 /* hosts.c */
 bool dws_read_string(dws_session *s, const char *text, char *why, size_t size);

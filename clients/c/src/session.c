@@ -45,6 +45,8 @@ void dws_free(dws_session *s)
     while (s->errands != NULL) {
         s->errands->end(s, s->errands);
     }
+    dws_flush_record(s);
+    dws_end_record(s);
     dws_forget_credentials(s);
     dw_session_free(&s->machine);
     dws_release(&s->close);
@@ -54,6 +56,7 @@ void dws_free(dws_session *s)
     free(s->gone);
     free(s->seen);
     free(s->hosts);
+    free(s->others);
     free(s->hosts_text);
     free(s);
 }
@@ -72,7 +75,7 @@ dws_session *dws_open(const char *hosts, const dws_options *options, char *why, 
         }
         dws_take_options(s, options);
         dws_begin_wait(s);
-        if (!dws_read_string(s, hosts, why, size)) {
+        if (!dws_read_string(s, hosts, why, size) || !dws_open_record(s, why, size)) {
             dws_free(s);
             return NULL;
         }

@@ -92,7 +92,8 @@ static void dws_count_event(dws_stats *stats, const dws_observation *seen)
     case DWS_CLOSED: stats->ends[DWS_END_CLOSED]++; break;
     case DWS_BARRED: stats->ends[DWS_END_CREDENTIALS_REFUSED]++; break;
     case DWS_FAILED: stats->ends[DWS_END_DROPPED]++; break;
-    case DWS_READ_REFUSED: break;
+    case DWS_READ_REFUSED:
+    case DWS_RECORD_ENDED: break;
     }
 }
 

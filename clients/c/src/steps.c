@@ -71,6 +71,7 @@ void dws_hang_up(dws_session *s)
         s->wire.release(s->wire.state);
     }
     dws_end_login(s);
+    dws_record_cut(s);
     close(s->wire.socket);
     s->wire.socket = -1;
     s->wire.state = NULL;
@@ -136,17 +137,20 @@ static void dws_take_drop(dws_session *s, const dw_output *drop)
     dws_tell(s, DWS_CUT, result == DW_OK ? words : dw_result_words(result));
 }
 
-/* The connection is to be closed. If it was not said why, the attempt took too long, or a server has told that the session is not its own. */
+/* The connection is to be closed. If it was not said why, the attempt took too long, or the session moves to another host, or a server has told
+ * that the session is not its own. */
 static void dws_take_hang_up(dws_session *s)
 {
     if (s->is_connecting || s->is_dial_due) {
         s->is_dial_due = false;
         dws_hang_up(s);
-        dws_tell_missed(s, "connection timed out");
+        dws_tell_missed(s, s->is_listing ? "the hosts are others" : "connection timed out");
     } else if (s->wire.socket >= 0) {
         s->cause = s->is_moment ? (int32_t)DW_CAUSE_SILENT : 0;
         dws_hang_up(s);
-        dws_tell(s, DWS_CUT, s->is_moment ? "an answer does not come" : "the session is not of this connection any more");
+        dws_tell(s, DWS_CUT, s->is_listing ? "the hosts are others"
+                             : s->is_moment ? "an answer does not come"
+                                            : "the session is not of this connection any more");
     }
 }
 
@@ -188,7 +192,10 @@ static void dws_take(dws_session *s, const dw_output *action)
         break;
     case DW_KIND_HANG_UP: dws_take_hang_up(s); break;
     case DW_KIND_TIMED_OUT: dws_take_late(s, action); break;
-    case DW_KIND_RENEWED: dws_name_all(s); break;
+    case DW_KIND_RENEWED:
+        dws_record_session(s, 0, DWS_PASSWORD, dw_session_last_zxid(&s->machine));
+        dws_name_all(s);
+        break;
     case DW_KIND_SHOWN: dws_take_shown(s, action->ticket); break;
     case DW_KIND_REFUSED: dws_take_refusal(s, action); break;
     case DW_KIND_TAKEN_ON:
@@ -230,6 +237,7 @@ void dws_act(dws_session *s, enum dw_result result)
 /* Ends a connection that was open. */
 void dws_cut(dws_session *s, const char *why)
 {
+    dws_at(s, s->now_ms);
     dws_hang_up(s);
     dws_tell(s, DWS_CUT, why);
     if (!s->is_over) {
@@ -260,11 +268,14 @@ enum dw_result dws_make_machine(dws_session *s, const uint8_t *saved, size_t len
 {
     const dws_options *of = &s->options;
     uint64_t seed = dws_chance(s);
-    if (saved == NULL) {
-        return dw_session_open_with_limits(&s->machine, of->timeout_ms, s->host_count, seed, of->longest_answer, of->longest_request);
+    enum dw_result result =
+        saved == NULL ? dw_session_open_with_limits(&s->machine, of->timeout_ms, s->host_count, seed, of->longest_answer, of->longest_request)
+                      : dw_session_resume_with_limits(&s->machine, of->timeout_ms, s->host_count, seed, of->longest_answer, of->longest_request,
+                                                      saved, length);
+    if (result == DW_OK) {
+        dws_record_machine(s, saved, length);
     }
-    return dw_session_resume_with_limits(&s->machine, of->timeout_ms, s->host_count, seed, of->longest_answer, of->longest_request, saved,
-                                         length);
+    return result;
 }
 
 /* The machine that takes the session up has been handed none of what was followed, nor any credentials. */
@@ -354,7 +365,7 @@ static void dws_send(dws_session *s, uint64_t now_ms)
     dws_call *call = dws_remove(&s->queue, &s->queue.first);
     call->ticket = ++s->last_ticket;
     dws_append(&s->sent, call);
-    enum dw_result result = dws_step(s, call, now_ms);
+    enum dw_result result = dws_step(s, call, dws_at(s, now_ms));
     if (result == DW_OK || result == DW_HALTED || result == DW_CLOSED) {
         dws_act(s, result);
     } else if (dws_answered(s, call->ticket) != NULL) {

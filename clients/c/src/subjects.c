@@ -275,8 +275,8 @@ static void dws_begin_subject(dws_session *s, dws_subject *subject, uint64_t now
     uint64_t ticket = subject->keys[DWS_BY_TICKET] = ++s->last_ticket;
     dws_chain(s, subject, DWS_BY_TICKET);
     dws_move(s, subject, DWS_NAMED);
-    dws_act(s, subject->side == DW_SIDE_DATA ? dw_session_follow_data(&s->machine, now_ms, ticket, path, strlen(path))
-                                             : dw_session_follow_names(&s->machine, now_ms, ticket, path, strlen(path)));
+    dws_act(s, subject->side == DW_SIDE_DATA ? dw_session_follow_data(&s->machine, dws_at(s, now_ms), ticket, path, strlen(path))
+                                             : dw_session_follow_names(&s->machine, dws_at(s, now_ms), ticket, path, strlen(path)));
 }
 
 /* Has the library follow a tree that it does not follow yet. False if there is none. */
@@ -290,7 +290,7 @@ static bool dws_begin_tree(dws_session *s, uint64_t now_ms)
         return false;
     }
     tree->ticket = ++s->last_ticket;
-    dws_act(s, dw_session_follow_tree(&s->machine, now_ms, tree->ticket, tree->path, strlen(tree->path), tree->most));
+    dws_act(s, dw_session_follow_tree(&s->machine, dws_at(s, now_ms), tree->ticket, tree->path, strlen(tree->path), tree->most));
     return true;
 }
 
@@ -298,8 +298,8 @@ static bool dws_begin_tree(dws_session *s, uint64_t now_ms)
 static void dws_unfollow_last(dws_session *s, uint64_t now_ms)
 {
     const struct dws_gone *gone = &s->gone[--s->gone_count];
-    dws_act(s, gone->is_tree ? dw_session_unfollow_tree(&s->machine, now_ms, gone->ticket)
-                             : dw_session_unfollow(&s->machine, now_ms, gone->ticket));
+    dws_act(s, gone->is_tree ? dw_session_unfollow_tree(&s->machine, dws_at(s, now_ms), gone->ticket)
+                             : dw_session_unfollow(&s->machine, dws_at(s, now_ms), gone->ticket));
 }
 
 /* Has the library follow what is to be followed, and no more what is not. Callbacks may change both. */

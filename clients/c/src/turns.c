@@ -6,7 +6,7 @@ static void dws_keep_time(dws_session *s)
 {
     if (dws_deadline(s) <= s->now_ms) {
         s->is_moment = true;
-        dws_act(s, dw_session_moment(&s->machine, s->now_ms));
+        dws_act(s, dw_session_moment(&s->machine, dws_at(s, s->now_ms)));
         s->is_moment = false;
     }
     dws_finish_credentials(s, s->now_ms, DWS_LATE);
@@ -57,6 +57,7 @@ void dws_go_on(dws_session *s, short told)
         dws_work(s);
     }
     dws_answer_rest(s);
+    dws_flush_record(s);
 }
 
 /* The first moment at which something is to be done. */
@@ -74,11 +75,12 @@ int dws_wanted(dws_session *s, struct pollfd *polled)
     dws_begin_wait(s);
     if (!s->is_over) {
         dws_work(s);
+        dws_flush_record(s);
     }
     polled->fd = s->is_over ? -1 : s->wire.socket;
     polled->events = (short)(POLLIN | (s->is_connecting ? POLLOUT : s->read_wants) | (dws_may_send(s) > 0 ? s->write_wants : 0));
     polled->revents = 0;
-    if (s->has_news || s->is_over || s->has_more || s->is_dial_due || s->must_follow || s->must_introduce || s->must_list
+    if (s->has_news || s->is_over || s->has_more || s->is_dial_due || s->must_follow || s->must_introduce || s->others != NULL
         || s->subjects[DWS_NAMED].first != NULL || s->subjects[DWS_CHANGED].first != NULL) {
         return 0;
     }

@@ -35,7 +35,7 @@ static void dws_miss(dws_session *s, const char *why)
     dws_hang_up(s);
     dws_tell_missed(s, why);
     if (!s->is_over) {
-        dws_act(s, dw_session_failed(&s->machine, s->now_ms));
+        dws_act(s, dw_session_failed(&s->machine, dws_at(s, s->now_ms)));
     }
 }
 
@@ -78,7 +78,9 @@ void dws_finish_connection(dws_session *s)
     s->write_wants = POLLOUT;
     snprintf(s->trouble, sizeof s->trouble, "connected, and it has not accepted the session");
     dws_begin_login(s);
-    dws_act(s, dw_session_opened(&s->machine, s->now_ms));
+    enum dw_result result = dw_session_opened(&s->machine, dws_at(s, s->now_ms));
+    dws_record_opened(s);
+    dws_act(s, result);
 }
 
 bool dws_is_passing(int error)
@@ -123,10 +125,11 @@ void dws_begin_wait(dws_session *s)
 static void dws_hear(dws_session *s, uint64_t came_ms, const uint8_t *bytes, size_t length)
 {
     s->heard_suspended_ms = s->suspended_ms;
-    enum dw_result result = dw_session_bytes(&s->machine, came_ms, bytes, length);
+    enum dw_result result = dw_session_bytes(&s->machine, dws_at(s, came_ms), bytes, length);
     if (result == DW_NO_MEMORY) {
         dws_cut(s, dw_result_words(result)); /* no step was made */
     } else {
+        dws_record_bytes(s, bytes, length);
         dws_act(s, result);
     }
 }

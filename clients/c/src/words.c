@@ -228,7 +228,7 @@ void dws_write_why(char *room, size_t size, int32_t why, const char *path)
 void dws_print_event(dws_session *s, enum dws_event event, const char *server, const char *words)
 {
     (void)s;
-    if (event == DWS_READ_REFUSED) {
+    if (event == DWS_READ_REFUSED || event == DWS_RECORD_ENDED) {
         fprintf(stderr, "%s\n", words);
     } else {
         fprintf(stderr, "%s: %s\n", server, words);

@@ -104,17 +104,12 @@ static void ask_no_lost_write_again(void)
 /* A call that waits where the session expires was not sent: it is asked in the next one. */
 static void ask_in_the_next_session(void)
 {
-    struct bytes expired;
     begin_session();
     end_line();
     wait_for_cut();
     begin(1, 60000);
     dws_create(session, &call, "/a", "one", 3, DW_MODE_EPHEMERAL);
-    accept_line();
-    hear();
-    expired.length = 0;
-    add_expired(&expired);
-    answer_at_once(&expired);
+    expire_session();
     EXPECT(!call.is_answered);
     end_line();
     admit();

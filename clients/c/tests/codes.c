@@ -45,7 +45,7 @@ static void expect_closed_steps(dw_session *none)
     EXPECT_NUMBER(DW_CLOSED, dw_session_raw(none, NOW, 1, NEVER, DW_OPERATION_SYNC, DATA("x")));
     EXPECT_NUMBER(DW_CLOSED, dw_session_credential(none, NOW, TEXT("digest"), DATA("x")));
     EXPECT_NUMBER(DW_CLOSED, dw_session_failed(none, NOW));
-    EXPECT_NUMBER(DW_CLOSED, dw_session_addresses(none, NOW, ADDRESSES));
+    EXPECT_NUMBER(DW_CLOSED, dw_session_addresses(none, NOW, ADDRESSES, 0, true));
     EXPECT_NUMBER(DW_CLOSED, dw_session_follow_data(none, NOW, 1, TEXT("/a")));
     EXPECT_NUMBER(DW_CLOSED, dw_session_follow_names(none, NOW, 1, TEXT("/a")));
     EXPECT_NUMBER(DW_CLOSED, dw_session_unfollow(none, NOW, 1));

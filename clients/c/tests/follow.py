@@ -9,7 +9,7 @@ import time
 
 from programs import BOUND, DATA, EXISTS, GET_DATA, NOBODY, PING, SLACK, STAT, Case, program
 
-PROGRAM, ASKS = program("follow"), program("tests/asks")
+PROGRAM, ASKS, CLOSE_S = program("follow"), program("tests/asks"), 1.0
 
 
 class Followed(Case):
@@ -37,12 +37,25 @@ class Followed(Case):
             self.assertGreaterEqual(int(zxid), self.last_zxid)
             self.last_zxid = int(zxid)
 
+    def said(self):
+        """What the program has said on standard error."""
+        self.errors.seek(0)
+        return self.errors.read()
+
+    def wait_for_words(self, words):
+        """Waits until it has said this: so it has begun, and takes a signal."""
+        end = time.monotonic() + BOUND
+        while words not in self.said():
+            self.assertLess(time.monotonic(), end, words)
+            time.sleep(0.05)
+
     def expect_end(self, number, is_closed):
-        """The program ends well at this signal, and says whether the server has closed the session."""
+        """The program ends well at this signal, and says whether the server has closed the session, for whose word it waits a second."""
+        begun = time.monotonic()
         self.followed.process.send_signal(number)
         self.assertEqual(self.followed.process.wait(BOUND), 0)
-        self.errors.seek(0)
-        self.assertEqual("the session is closed" in self.errors.read(), is_closed)
+        is_late = time.monotonic() - begun >= CLOSE_S
+        self.assertTrue(("the session is closed" in self.said()) == is_closed or is_closed and is_late)
 
     def server(self, serve):
         server = super().server(serve)
@@ -107,7 +120,7 @@ class Follow(Followed):
             line.admit(3_000)
             xid, _ = line.request()
             line.answer(xid, 0, DATA)
-            shown.wait(BOUND)
+            line.serve_until(shown, {PING: line.answer})  # a ping without an answer would end the connection
             self.followed.process.send_signal(signal.SIGSTOP)
             line.answer(-1, 0, struct.pack(">iii", 3, 3, 7) + b"/config")
             time.sleep(2.4)
@@ -137,8 +150,7 @@ class Follow(Followed):
         self.server(serve)
         self.expect('good "one"')
         self.assertGreater(min(after - before for before, after in zip(answers, reads[1:])), 0.95)
-        self.errors.seek(0)
-        self.assertEqual(self.errors.read().count("does not admit this client: /config\n"), 1)
+        self.assertEqual(self.said().count("does not admit this client: /config\n"), 1)
 
     def test_lost_session(self):
         """Where a server says that the session is not its own, another connection is made at once."""
@@ -202,6 +214,7 @@ class Follow(Followed):
     def test_hostile_server(self):
         partner = self.partner("--hostile", "7")
         self.follow(partner.address)
+        self.wait_for_words(partner.address)
         with self.assertRaises(subprocess.TimeoutExpired):
             self.followed.process.wait(3)
         self.followed.process.send_signal(signal.SIGTERM)
@@ -209,6 +222,7 @@ class Follow(Followed):
 
     def test_no_server(self):
         self.follow(NOBODY)
+        self.wait_for_words("connection refused\n")
         with self.assertRaises(subprocess.TimeoutExpired):
             self.followed.process.wait(1)
         self.expect_end(signal.SIGTERM, False)

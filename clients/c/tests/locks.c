@@ -447,17 +447,23 @@ static void try_names(void)
     stand_in_line(DWS_NAMES_CURATOR, DWS_WRITING, "-__WRIT__", "_c_1-__READ__0000000000", true);
 }
 
+/* A session that takes a lock: its place is made, and the session has asked for the names beside it. */
+static void begin_taking(dws_lock *lock, char *place, size_t size)
+{
+    begin_session();
+    EXPECT(dws_lock_take(session, lock, "/l", DWS_EXCLUSIVE, "me", NULL));
+    make_place(1, "0000000002", place, size);
+    hear_about(2, TYPE_GET, place);
+    hear_about(3, TYPE_CHILDREN, "/l");
+    answer_place(2, 6);
+}
+
 /* An exclusive lock waits for one that shares, and is held once that is gone. Where its place is deleted, it takes another one. */
 static void wait_for_a_lock(void)
 {
     static dws_lock lock;
     char place[256], again[256];
-    begin_session();
-    EXPECT(dws_lock_take(session, &lock, "/l", DWS_EXCLUSIVE, "me", NULL));
-    make_place(1, "0000000002", place, sizeof place);
-    hear_about(2, TYPE_GET, place);
-    hear_about(3, TYPE_CHILDREN, "/l");
-    answer_place(2, 6);
+    begin_taking(&lock, place, sizeof place);
     answer_names(3, 7, place + 3, "a__rlock__0000000001");
     EXPECT(!lock.is_held);
     hear_about(4, TYPE_GET, "/l/a__rlock__0000000001");
@@ -492,21 +498,11 @@ static void lose_a_lock(void)
 {
     static dws_lock lock;
     char place[256], again[256];
-    struct bytes expired;
-    begin_session();
-    EXPECT(dws_lock_take(session, &lock, "/l", DWS_EXCLUSIVE, "me", NULL));
-    make_place(1, "0000000002", place, sizeof place);
-    hear_about(2, TYPE_GET, place);
-    answer_place(2, 6);
-    hear_about(3, TYPE_CHILDREN, "/l");
+    begin_taking(&lock, place, sizeof place);
     answer_names(3, 7, place + 3, "note");
     EXPECT(lock.is_held);
     end_line();
-    accept_line();
-    hear();
-    expired.length = 0;
-    add_expired(&expired);
-    answer_at_once(&expired);
+    expire_session();
     turn(0);
     EXPECT(!lock.is_held && lock.why == 0);
     end_line();

@@ -10,6 +10,7 @@ import importlib
 import json
 import pathlib
 import queue
+import select
 import socket
 import struct
 import subprocess
@@ -129,8 +130,17 @@ class Line:
     def serve(self, kinds):
         """Answers each request by what its type has."""
         while True:
-            xid, kind = self.request()
-            kinds[kind](xid)
+            self.serve_one(kinds)
+
+    def serve_one(self, kinds):
+        xid, kind = self.request()
+        kinds[kind](xid)
+
+    def serve_until(self, event, kinds):
+        """The same, until something has happened."""
+        while not event.is_set():
+            if select.select([self._socket], [], [], 0.01)[0]:
+                self.serve_one(kinds)
 
     def dribble(self, data):
         while True:

@@ -46,14 +46,15 @@ static dws_session *open_session(int place)
     return open_at(place, "", options);
 }
 
-/* Has the server do something. */
-static void command(const char *words, size_t number)
+/* Has the server do something, and gives the number that it answers. */
+static size_t command(const char *words, size_t number)
 {
     char answer[64];
     printf(words, number);
     puts("");
     fflush(stdout);
     EXPECT(fgets(answer, sizeof answer, stdin) != NULL);
+    return (size_t)strtoul(answer, NULL, 10);
 }
 
 /* A turn of all sessions. */
@@ -498,9 +499,15 @@ static void test_hosts(void)
     EXPECT(dws_set_hosts(s, hosts, why, sizeof why)); /* there are more of them */
     EXPECT_NUMBER(0, exists(s, "/"));
     int64_t id = dws_id(s);
-    EXPECT(dws_set_hosts(s, "127.0.0.1:1", why, sizeof why)); /* the connection stays */
+    size_t came = command("connections", 0);
+    EXPECT(dws_set_hosts(s, real, why, sizeof why)); /* it is listed still */
     EXPECT_NUMBER(0, exists(s, "/"));
-    EXPECT(dws_set_hosts(s, real, why, sizeof why));
+    EXPECT_NUMBER(came, command("connections", 0));
+    EXPECT(dws_set_hosts(s, "127.0.0.1:1", why, sizeof why)); /* of two lists in one turn the first is no list */
+    snprintf(hosts, sizeof hosts, "localhost:%s", strrchr(real, ':') + 1);
+    EXPECT(dws_set_hosts(s, hosts, why, sizeof why)); /* the session moves there */
+    EXPECT_NUMBER(0, exists(s, "/"));
+    EXPECT_NUMBER(came + 1, command("connections", 0));
     command("drop", 0);
     EXPECT_NUMBER(0, exists(s, "/"));
     EXPECT(dws_id(s) == id);

@@ -397,10 +397,7 @@ static void keep_limits(void)
 {
     open_within(RAISED, 0);
     end_line();
-    accept_line();
-    hear();
-    add_expired(&came);
-    answer_all();
+    expire_session();
     end_line();
     admit();
     EXPECT(strchr(events, '0' + DWS_EXPIRED) != NULL);

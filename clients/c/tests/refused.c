@@ -227,7 +227,7 @@ static enum dw_result below(struct play *play)
 
 MOVE(unfollow_tree, dw_session_unfollow_tree(&play->session, play->now_ms, 21))
 MOVE(unfollow, dw_session_unfollow(&play->session, play->now_ms, 20))
-MOVE(addresses, dw_session_addresses(&play->session, play->now_ms, 5))
+MOVE(addresses, dw_session_addresses(&play->session, play->now_ms, 3, 2, true))
 MOVE(close_session, dw_session_close(&play->session, play->now_ms, 17, UINT64_MAX))
 
 REPLY(closed, add_header, 13, 8, 0)
@@ -383,7 +383,7 @@ static void expect_room_first(void)
     EXPECT_NUMBER(0, heap.blocks);
 }
 
-/* A credential is overwritten before its block is given back: where it was told, and where the handle is freed. The outputs are told one by one. */
+/* A credential is overwritten before its block is given back: where it was told, one by one or all at once, and where the handle is freed. */
 static void expect_overwritten(void)
 {
     static const char secret[] = "ann:secret";
@@ -395,6 +395,7 @@ static void expect_overwritten(void)
         uint8_t frame[64];
         dw_output output;
         EXPECT_NUMBER(DW_OK, opened(&play));
+        want_room(&play);
         do {
             EXPECT_NUMBER(DW_OK, dw_session_next(&play.session, &output));
         } while (output.kind != DW_KIND_SEND || output.length != 40);

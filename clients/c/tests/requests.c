@@ -465,10 +465,7 @@ static void introduce_first(void)
     expect_credentials("ann:secret");
     hear_request(-8, TYPE_SET_WATCHES, NULL);
     end_line();
-    accept_line(); /* the session has expired */
-    hear();
-    add_expired(&came);
-    answer_all();
+    expire_session();
     end_line();
     admit();
     expect_credentials("ann:secret");

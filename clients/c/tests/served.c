@@ -155,9 +155,7 @@ static bool are_all_expired(void)
 /* The session has a connection, loses it, and is told on the next one that it has expired. Reads wait meanwhile, and all are told so. */
 static void expire(bool is_over_at_expiry)
 {
-    struct bytes expired;
     dws_options options;
-    expired.length = 0;
     memset(&options, 0, sizeof options);
     options.is_over_at_expiry = is_over_at_expiry;
     open_session_with(options);
@@ -169,11 +167,7 @@ static void expire(bool is_over_at_expiry)
         dws_get(session, &many[i], "/b", false);
     }
     end_line();
-    accept_line();
-    hear();
-    EXPECT_NUMBER(SESSION, dws_read_long(out.at + 16));
-    add_expired(&expired);
-    answer_at_once(&expired);
+    expire_session();
     wait_for(&get);
     EXPECT_NUMBER(DW_OUTCOME_EXPIRED, get.why);
     turn(0);
@@ -396,14 +390,9 @@ static void expect_nothing_owned(const char *lost)
 /* After an expiry, where no other session begins. */
 static void lose_all_at_expiry(bool ends)
 {
-    struct bytes expired;
     own(ends);
     end_line();
-    accept_line();
-    hear();
-    expired.length = 0;
-    add_expired(&expired);
-    answer_at_once(&expired);
+    expire_session();
     EXPECT(has_told(DWS_EXPIRED));
     expect_nothing_owned("lock 0\nnode 0\nnames 0\n");
 }

@@ -286,6 +286,16 @@ static inline void admit(void)
     admit_by(0);
 }
 
+/* Takes the next connection, and says that the session has expired. */
+static inline void expire_session(void)
+{
+    accept_line();
+    hear();
+    EXPECT_NUMBER(SESSION, dws_read_long(out.at + 16));
+    add_expired(&came);
+    answer_all();
+}
+
 /* A session that a server has admitted. */
 static inline void begin_session(void)
 {

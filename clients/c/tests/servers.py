@@ -19,11 +19,6 @@ def reply(xid, zxid, text):
 class Servers(Followed):
     """Tests of servers, by the program that follows a node."""
 
-    def said(self):
-        """What the program has said on standard error."""
-        self.errors.seek(0)
-        return self.errors.read()
-
     def test_server_that_is_behind(self):
         """An answer that is older than what was seen is not shown: the connection is given up, and another server is dialled."""
         seen, shown = [], threading.Semaphore(0)
@@ -83,12 +78,6 @@ class Servers(Followed):
         partner = self.partner()
         self.follow(f"{mute.address},{partner.address}")
         self.expect("good absent")
-
-    def wait_for_words(self, words):
-        end = time.monotonic() + BOUND
-        while words not in self.said():
-            self.assertLess(time.monotonic(), end, words)
-            time.sleep(0.05)
 
     def test_server_that_takes_no_connection(self):
         """An attempt is given up after a third of the timeout, which is 10 seconds."""

@@ -8,9 +8,9 @@ from typing import Any, Optional, Union
 from dirwolleu._contact import Pings, is_ping
 from dirwolleu._handle import made
 from dirwolleu._library import Drop, NoMemory, Send
-from dirwolleu._observing import DROPPED, ELSEWHERE, LATE, reason_of
+from dirwolleu._observing import DROPPED, ELSEWHERE, LATE, MOVED, reason_of
 from dirwolleu._orders import NO_ORDERS, Orders
-from dirwolleu._session import Dial, Session, Sign
+from dirwolleu._session import Dial, Session, Sign, unbegun
 from dirwolleu._views import Views
 from dirwolleu.types import State
 
@@ -32,10 +32,14 @@ class Connection(Views):
 
     # What happens to it.
 
-    def addresses(self, now: int, count: int) -> None:
-        """There is a list of this many servers, or another one. The first one has the session ask for a connection."""
-        self._count = count
-        self._step(now, Session.addresses, count)
+    def addresses(self, now: int, kept: int, added: int, is_listed: bool = True) -> None:
+        """There is a list of servers, or another one: first those that were in the list before. The first list has the session ask for a
+        connection; with another one it may move to another server, and does if that of the connection is not listed.
+        """
+        self._count = kept + added
+        self._why = MOVED
+        self._step(now, Session.addresses, kept, added, is_listed)
+        self._why = ""
 
     def opened(self, now: int) -> None:
         """The connection that was asked for is there."""
@@ -94,6 +98,8 @@ class Connection(Views):
 
     def take_orders(self) -> Orders:
         """What is to be done about the connection."""
+        if self._recorder is not None:
+            self._flush_record()
         if not self._frames and not self._hangs_up and self._dial is None:
             return NO_ORDERS
         orders = made(Orders, (self._hangs_up, self._dial, b"".join(self._frames)))
@@ -135,6 +141,8 @@ class Connection(Views):
 
     def _take_frame(self, send: Send) -> None:
         self._frames.append(send.frame)
+        if self._recorder is not None:
+            self._recorder.sent(send.frame)
         if is_ping(send.frame):
             self._pings.sent(self._now)
 
@@ -151,6 +159,8 @@ class Connection(Views):
             self._why = self._why or ELSEWHERE
             self._hangs_up, self._dial = True, None
             self._leave_connection()
+        elif self._recorder is not None:
+            self._recorder.begin(self._timeout_ms, unbegun(self._session.last_zxid()))
 
     def _bring_again(self, now: int, piece: Union[bytes, memoryview]) -> None:
         """Hands bytes to the session once more, which had no memory for them."""
@@ -179,6 +189,8 @@ class Connection(Views):
             logger.log(level, "the connection to %s is over: %s", where, reason, extra=self._fields())
         if self._is_open:
             self._observe("over", reason_of(self._cause, self._why, bool(self.refused), self.is_running), self._why)
+        if self._recorder is not None:
+            self._recorder.cut()
         self._why, self._cause, self._is_open = "", 0, False
         self._frames.clear()
         self._pings = Pings()

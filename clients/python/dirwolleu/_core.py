@@ -3,6 +3,7 @@
 from __future__ import annotations
 
 import contextlib
+import logging
 from collections.abc import Iterator
 from typing import Any, Callable, Optional
 
@@ -12,11 +13,14 @@ from dirwolleu._library import NoMemory
 from dirwolleu._listening import Listeners
 from dirwolleu._observing import Observed
 from dirwolleu._process import this_process
+from dirwolleu._recording import Recorder
 from dirwolleu._root import Root
 from dirwolleu._session import Action
 from dirwolleu.exceptions import ConnectionClosedError, ZookeeperError
 from dirwolleu.security import AuthFailedError
 from dirwolleu.types import State
+
+logger = logging.getLogger("dirwolleu")
 
 Listener = Callable[[State], object]
 Tell = Callable[[Callable[[Any], object], Any], object]
@@ -45,6 +49,7 @@ class Core(Observed):
         self.refused = ""
         """That a server has refused credentials of the client, in words, where that has ended it: until it is begun again."""
         self._process: Optional[int] = None
+        self._recorder: Optional[Recorder] = None
         self.is_running = False
         self.state = State.LOST
 
@@ -130,7 +135,10 @@ class Core(Observed):
         self._now = now
         session = self._session
         try:
-            for action in step(session, now, *words):
+            actions = step(session, now, *words)
+            if self._recorder is not None:
+                self._recorder.stepped(now, step, words)
+            for action in actions:
                 self._takers[type(action)](self, action)
                 if self._session is not session:
                     return  # it is closed, and what else it asks for is not done
@@ -145,6 +153,23 @@ class Core(Observed):
         if fault:
             self._cause = library.BAD_PAYLOAD
             self.drop(now, fault)
+
+    # The record.
+
+    def _flush_record(self) -> None:
+        """Writes what was recorded since the last turn. If that fails, the record ends, and the session goes on."""
+        recorder = self._recorder
+        if recorder is not None:
+            try:
+                recorder.flush()
+            except OSError as error:
+                logger.warning("the record ends: %s", error.strerror)
+                self._end_record()
+
+    def _end_record(self) -> None:
+        recorder, self._recorder = self._recorder, None
+        if recorder is not None:
+            recorder.close()
 
     def _recast(self) -> None:
         """What is due, and when, is another thing than before."""

@@ -200,7 +200,7 @@ class Driver:
         """Tells the engine of the servers, or of other ones."""
         hosts = self._hosts = self.servers.hosts
         self._engine.hosts = hosts.text
-        self._engine.addresses(moment(), len(hosts.servers))
+        self._engine.addresses(moment(), *self.servers.arrange(hosts.servers))
 
     def _hang_up(self) -> None:
         """Closes the connection, or gives the attempt up."""

@@ -24,6 +24,7 @@ from dirwolleu._library import Answer, Closed, Drop, Report, Send, StateChange
 from dirwolleu._listening import Listeners
 from dirwolleu._orders import News as News
 from dirwolleu._process import this_process
+from dirwolleu._recording import Path, Recorder
 from dirwolleu._root import Root
 from dirwolleu._session import (
     Bounded,
@@ -75,10 +76,17 @@ class Engine(Connection):
         """How often it was begun."""
 
     def _new_session(self, saved: Optional[bytes], addresses: int = 0) -> Session:
+        if self._recorder is not None:
+            self._recorder.begin(self._timeout_ms, saved)
         seed = int.from_bytes(os.urandom(8), "big")
         session = Session(self._timeout_ms, seed, saved, self._root, addresses, self._limits)
         self._introductions.begin(session)
         return session
+
+    def record(self, path: Path, saved: Optional[bytes]) -> None:
+        """Has a file written with all that the session is handed, and what it sends."""
+        self._recorder = Recorder(path)
+        self._recorder.begin(self._timeout_ms, saved)
 
     # The life of a client.
 
@@ -122,6 +130,10 @@ class Engine(Connection):
             self._saved_at_close = self._session.saved()
             self._granted_ms = self._timeout_ms
             self._session.close()
+        if self._recorder is not None:
+            self._recorder.cut()
+            self._flush_record()
+            self._end_record()
 
     def stats(self) -> Stats:
         contact, sent = self.contact, len(self._sent) + len(self._introductions.waiting())

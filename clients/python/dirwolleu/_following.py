@@ -164,17 +164,19 @@ class Watching(Follower[Told]):
     def _next_good(self) -> Steps[Optional[Told]]:
         while self._engine.is_running and self._is_wanted():
             self._news.clear()
-            kept = self._subject.settled()
-            if kept is not None:
-                self._read_at = None
-                if self._is_another(kept):
-                    return kept
-            yield from self._read_or_wait()
+            kept = self._subject.settled()  # looked up once: what another read brings right after it is no news
+            if kept is None:
+                yield from self._read_when_due()
+                continue
+            self._read_at = None
+            if self._is_another(kept):
+                return kept
+            yield Wait(None)
         return None
 
-    def _read_or_wait(self) -> Steps[None]:
-        """A read where nothing good is kept, though a second after one that brought nothing; else news is waited for."""
-        if self._engine.state is not State.CONNECTED or self._subject.settled() is not None:
+    def _read_when_due(self) -> Steps[None]:
+        """A read, though a second after one that brought nothing. Without a server news is waited for."""
+        if self._engine.state is not State.CONNECTED:
             yield Wait(None)
             return
         now = time.monotonic()

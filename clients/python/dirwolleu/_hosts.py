@@ -98,22 +98,33 @@ class Servers:
         self.hosts = hosts_of(hosts)
         self._is_by_chance = is_by_chance
         self._round = _Round(self.hosts.servers, is_by_chance)
+        self._listed: tuple[Server, ...] = ()
+        self._dialled: Optional[Server] = None
         self._lookups: dict[Server, LookUp] = {}
 
     def replace(self, hosts: str) -> None:
-        """Has the next dial go to one of these servers. Raises `ValueError` where the root is another one."""
+        """Names these servers, for who calls `arrange`. Raises `ValueError` where the root is another one."""
         new = hosts_of(hosts)
         if new.root != self.hosts.root:
             raise ValueError(f"the root of a client stays {self.hosts.root.path or '/'}")
-        self._round = _Round(new.servers, self._is_by_chance)
         self.hosts = new
+
+    def arrange(self, servers: tuple[Server, ...]) -> tuple[int, int, bool]:
+        """Has places be those of these servers, of which first those stand that were arranged before. Gives how many they are, how many
+        were not, and whether the server that was dialled last is one of them.
+        """
+        before, self._listed = self._listed, servers
+        kept = tuple(server for server in servers if server in before)
+        added = tuple(server for server in servers if server not in before)
+        self._round = _Round(kept + added if self._is_by_chance else servers, self._is_by_chance)
+        return len(kept), len(added), self._dialled is None or self._dialled in servers
 
     def find(self, place: int, soon: Callable[[Callable[[], object]], object], tell: Found) -> None:
         """Finds an address of the server at a place of the list, and tells it, or why there is none. A name is looked up each time: `soon` has a
         function called afterwards, from another thread.
         """
         current = self._round
-        host, port = current.server_at(place)
+        host, port = self._dialled = current.server_at(place)
 
         def choose(addresses: list[str], error: Optional[OSError]) -> None:
             tell(current.choose([Place(host, address, port) for address in addresses]) if addresses else None, error)

@@ -224,7 +224,7 @@ _FUNCTIONS: dict[str, tuple[Any, tuple[Any, ...]]] = {
     "dw_session_bytes": (c_int32, (_HANDLE, c_uint64, c_void_p, c_size_t)),
     "dw_session_cut": (c_int32, (_HANDLE, c_uint64)),
     "dw_session_moment": (c_int32, (_HANDLE, c_uint64)),
-    "dw_session_addresses": (c_int32, (_HANDLE, c_uint64, c_size_t)),
+    "dw_session_addresses": (c_int32, (_HANDLE, c_uint64, c_size_t, c_size_t, c_bool)),
     "dw_session_exists": (c_int32, (_HANDLE, c_uint64, c_uint64, c_uint64, c_void_p, c_size_t, c_bool)),
     "dw_session_get_data": (c_int32, (_HANDLE, c_uint64, c_uint64, c_uint64, c_void_p, c_size_t, c_bool)),
     "dw_session_get_children": (c_int32, (_HANDLE, c_uint64, c_uint64, c_uint64, c_void_p, c_size_t, c_bool)),

@@ -35,6 +35,7 @@ DROPPED = -1
 """That the host itself has given a connection up: beside the causes of the library."""
 LATE = "an answer has taken more than two thirds of the timeout"
 ELSEWHERE = "the server has said that the session is over or elsewhere"
+MOVED = "the hosts are others"
 _REASONS = {
     DROPPED: "dropped",
     library.BAD_FRAME: "unreadable",

@@ -9,6 +9,7 @@ have or had one.
 from __future__ import annotations
 
 import enum
+import functools
 import operator
 import struct
 from collections.abc import Sequence
@@ -30,6 +31,8 @@ MOST_AT_ONCE = 98_304
 """How many bytes of what a step says are taken together, at most. What is longer is taken one output after the other, and copied once."""
 LONG = 65_536
 """An output of this many bytes is copied once, if as many have come for it."""
+KEPT = 2_097_152
+"""Twice as many bytes stay with the process once long answers are let go."""
 _REFUSALS = frozenset((library.READ_CODE, library.READ_TOO_MANY_WATCHES, library.READ_TOO_LARGE, library.READ_CLOSED))
 _EVENTS = frozenset((library.NODE_CREATED, library.NODE_DELETED, library.DATA_CHANGED, library.CHILDREN_CHANGED))
 _SIDES = frozenset((library.DATA_SIDE, library.CHILDREN_SIDE))
@@ -132,6 +135,15 @@ class Limits(NamedTuple):
 Action = Union[library.Output, Dial, Sign, TimedOut, Shown, Refused, TakenOn, LetGo, Bounded, Whole, CredentialAnswer]
 
 
+@functools.cache
+def keep_what_is_let_go() -> None:
+    """Has glibc keep the memory of long answers for the next ones. What is free at the end of its heap it gives back to the system where that is more
+    than 128 KB, or twice the longest block that was mapped by itself and freed: then each page of the next answer is a fault, which takes as long as
+    all else.
+    """
+    bytes(KEPT)
+
+
 def unbegun(last_zxid: int) -> bytes:
     """What takes up no session, but admits no server that is behind this zxid."""
     return struct.pack(">qi", 0, 16) + bytes(16) + struct.pack(">q", last_zxid)
@@ -186,14 +198,18 @@ class Session(LookUps):
         at = data if isinstance(data, bytes) else byref(c_char.from_buffer(data))
         code = self._calls.bytes(self._handle, now, at, len(data))
         self._untold += len(data)
-        outputs = self._outputs(code) if self._untold < LONG or code < library.OK else self._each_output(LONG)
+        if self._untold < LONG or code < library.OK:
+            outputs = self._outputs(code)
+        else:
+            keep_what_is_let_go()
+            outputs = self._each_output(LONG)
         if outputs:
             self._untold = 0
         return outputs
 
-    def addresses(self, now: int, count: int) -> list[Action]:
-        """The list of addresses is another one, of this many."""
-        return self._outputs(self._calls.addresses(self._handle, now, count))
+    def addresses(self, now: int, kept: int, added: int, is_listed: bool) -> list[Action]:
+        """The list of addresses is another one: those that were in the list before, and after them those that were not."""
+        return self._outputs(self._calls.addresses(self._handle, now, kept, added, is_listed))
 
     def exists(self, now: int, ticket: int, until: int, path: str, watch: bool) -> list[Action]:
         spelled = self._root.spell(path)

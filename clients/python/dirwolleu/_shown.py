@@ -13,6 +13,7 @@ from dirwolleu._clock import moment
 from dirwolleu._credentials import Credential
 from dirwolleu._engine import Engine, Listener, News, Tell
 from dirwolleu._hosts import Servers
+from dirwolleu._recording import Path
 from dirwolleu._retry import Retry
 from dirwolleu._session import Limits
 from dirwolleu._steps import Result, Steps
@@ -45,6 +46,7 @@ def parts_of(
     auth_data: AuthData,
     randomize_hosts: bool,
     limits: Limits,
+    record: Optional[Path],
     tell: Tell,
 ) -> tuple[Servers, Engine]:
     """What both clients are made of, by their parameters."""
@@ -53,7 +55,10 @@ def parts_of(
     for name, limit in limits._asdict().items():
         checked_int(name, limit, 64)
     servers = Servers(hosts, randomize_hosts)
-    return servers, Engine(timeout, saved, tell, servers.hosts.root, _credentials_of(auth_data), limits)
+    engine = Engine(timeout, saved, tell, servers.hosts.root, _credentials_of(auth_data), limits)
+    if record is not None:
+        engine.record(record, saved)
+    return servers, engine
 
 
 def _named(one: object) -> str:
@@ -113,7 +118,8 @@ class Shown:
         return self._servers.hosts.root.path
 
     def set_hosts(self, hosts: str) -> None:
-        """Has each dial from now on go to one of these servers. A connection that there is goes on.
+        """Goes on with these servers. The session moves to another one, as after a cut, if its own is not among them, and by the
+        chance by which there are more than before: as those of ZooKeeper's own clients do. Else it stays.
 
         Raises `ValueError` where the text is no list of hosts, or has another root than before.
 

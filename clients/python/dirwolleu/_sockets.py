@@ -14,8 +14,8 @@ from dirwolleu._poll import READ, WRITE, Reactor
 if TYPE_CHECKING:
     import ssl
 
-SEGMENT = 65_536
-"""After this many bytes the rest of a long message is there by now, or soon."""
+MOST_ROOMS = 8
+"""How often a room that came full is filled again at once, at most: then others have their turn."""
 
 Do = Callable[..., object]
 
@@ -160,19 +160,18 @@ class Link:
             self._watch(READ)
 
     def _read(self) -> None:
-        if self._socket is None:
-            return
+        """Reads on only where the room came full: else the rest of what is long is mostly not there yet."""
         room = self._reactor.room
-        count = self._socket.recv_into(room)
-        if count < SHORT:  # a copy takes less than to lend it
-            return self._driver.bring(room[:count].tobytes()) if count else self.end(CLOSED)
-        try:
-            if count >= SEGMENT:
-                count += self._socket.recv_into(room[count:])
-        except self.not_now:
-            pass
-        finally:
-            self._driver.bring(room[:count])
+        for _ in range(MOST_ROOMS):
+            if self._socket is None:
+                return
+            count = self._socket.recv_into(room)
+            if not count:
+                return self.end(CLOSED)
+            piece = room[:count]
+            self._driver.bring(piece.tobytes() if count < SHORT else piece)  # a copy takes less than to lend it
+            if count < len(room):
+                return
 
 
 def link(reactor: Reactor, do: Do, driver: Driver, tls: Optional[ssl.SSLContext]) -> Link:

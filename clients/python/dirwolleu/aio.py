@@ -20,6 +20,7 @@ from dirwolleu._clock import moment
 from dirwolleu._driver import Driver
 from dirwolleu._engine import News as AnyNews
 from dirwolleu._plans import Plan
+from dirwolleu._recording import Path
 from dirwolleu._requests import Request, Result
 from dirwolleu._retry import Retry
 from dirwolleu._session import LONGEST_ANSWER, LONGEST_REQUEST, Limits
@@ -133,9 +134,10 @@ class Client(Shown):
         randomize_hosts: bool = True,
         longest_answer: int = LONGEST_ANSWER,
         longest_request: int = LONGEST_REQUEST,
+        record: Optional[Path] = None,
     ) -> None:
         limits = Limits(longest_answer, longest_request)
-        super().__init__(*parts_of(hosts, timeout, saved, auth_data, randomize_hosts, limits, self._tell), retry)
+        super().__init__(*parts_of(hosts, timeout, saved, auth_data, randomize_hosts, limits, record, self._tell), retry)
         self._tls, self._sasl = ssl, sasl
         self._driver: Optional[Driver] = None
         self._callbacks: set[asyncio.Future[Any]] = set()
@@ -186,7 +188,7 @@ class Client(Shown):
             if self.connected:
                 with contextlib.suppress(ZookeeperError, asyncio.TimeoutError):
                     farewell = min(self._engine.timeout() / 3, LONGEST_FAREWELL)
-                    await asyncio.wait_for(self._ask(requests.close_session()), farewell)
+                    await asyncio.wait_for(self._send(requests.close_session()), farewell)
         finally:
             self._end_driver(self._engine.end)
 
@@ -282,11 +284,10 @@ class Client(Shown):
             while (kept := await self._drive(next_one(), news)) is not None:
                 yield kept
 
-    async def _call(self, request: Request[Result], timeout: Optional[float] = None) -> Result:
+    def _call(self, request: Request[Result], timeout: Optional[float] = None) -> Awaitable[Result]:
         if self._retry is None:
-            return await self._ask(request, timeout)
-        result: Result = await self._drive(steps_of.by_policy(request, self._retry, steps_of.until_of(timeout)))
-        return result
+            return self._send(request, timeout)
+        return self._drive(steps_of.by_policy(request, self._retry, steps_of.until_of(timeout)))
 
     async def _run(self, plan: Plan[Result], timeout: Optional[float] = None) -> Result:
         """Asks what a plan asks for, one request after the other, within a number of seconds in all."""
@@ -318,11 +319,7 @@ class Client(Shown):
         if isinstance(step, Call):
             told = step.function()
             return (await told) if inspect.isawaitable(told) else told
-        return await (self._ask(step.request, step.timeout) if isinstance(step, Ask) else self._ask(step))
-
-    async def _ask(self, request: Request[Result], timeout: Optional[float] = None) -> Result:
-        result: Result = await self._send(request, timeout)
-        return result
+        return await (self._send(step.request, step.timeout) if isinstance(step, Ask) else self._send(step))
 
     def _send(self, request: Request[Any], timeout: Optional[float] = None) -> _Waiter:
         waiter = _Waiter(loop=asyncio.get_running_loop())

@@ -23,6 +23,7 @@ from dirwolleu._calls import Wanted
 from dirwolleu._clock import moment
 from dirwolleu._engine import News as AnyNews
 from dirwolleu._plans import Plan
+from dirwolleu._recording import Path
 from dirwolleu._requests import Request, Result
 from dirwolleu._retry import Retry
 from dirwolleu._session import LONGEST_ANSWER, LONGEST_REQUEST, Limits
@@ -99,6 +100,10 @@ class Client(Shown):
     that they may be, unless you say more, and at most 1,073,741,823. A longer answer, as the names of very many children, ends the
     connection; a longer request raises `TooLargeError`. The servers' `jute.maxbuffer` has to be as high.
 
+    What the session is handed, and what it sends, is written into the file `record`, from its beginning: `zk_shell` plays it again,
+    to show a fault. No password is in it, nor a credential; paths and data are. If it cannot be written any further, that
+    is logged, and the session goes on.
+
     A call waits for a server and for its answer within a bound: its own `timeout` in seconds, which counts all tries,
     or that of the session. Where its connection is lost, a read is asked again, and a write is not. By the time that it
     returns or raises, all that came with its answer is taken in, and functions are told of it: `state` and the next
@@ -142,9 +147,10 @@ class Client(Shown):
         randomize_hosts: bool = True,
         longest_answer: int = LONGEST_ANSWER,
         longest_request: int = LONGEST_REQUEST,
+        record: Optional[Path] = None,
     ) -> None:
         limits = Limits(longest_answer, longest_request)
-        super().__init__(*parts_of(hosts, timeout, saved, auth_data, randomize_hosts, limits, self._tell), retry)
+        super().__init__(*parts_of(hosts, timeout, saved, auth_data, randomize_hosts, limits, record, self._tell), retry)
         self._tls, self._sasl = ssl, sasl
         self._hold_threads()
 

@@ -45,6 +45,8 @@ SET_DATA = 5
 
 
 class TimeoutTest(ClientCase):
+    is_long = True
+
     def test_a_call_that_was_sent_may_still_happen(self) -> None:
         partner = self.partner()
         client = self.client(partner.host, 60.0)

@@ -23,6 +23,8 @@ def shown(seed: int) -> list[str]:
 
 
 class DemoTest(unittest.TestCase):
+    is_long = True
+
     def test_each_seed_has_its_own_lines(self) -> None:
         histories = [shown(seed) for seed in range(4)]
         self.assertEqual(shown(3)[1:], histories[3][1:])

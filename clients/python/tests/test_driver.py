@@ -5,11 +5,13 @@ from __future__ import annotations
 import asyncio
 import contextlib
 import errno
+import fcntl
 import pathlib
 import signal
 import struct
 import subprocess
 import sys
+import termios
 import threading
 import time
 import unittest
@@ -255,7 +257,7 @@ class DialTest(PartnerCase):
 
         The clock is the test's own: it goes on by 2.4 seconds, while the loop is held up for longer than its timer takes.
         """
-        is_held_up, is_asked, is_there = threading.Event(), threading.Event(), threading.Event()
+        is_held_up, is_asked, sent = threading.Event(), threading.Event(), list[int]()
         clock = [1_000_000]
 
         def serve(peer: Peer) -> None:
@@ -263,9 +265,17 @@ class DialTest(PartnerCase):
             asked = peer.take()
             is_asked.set()
             is_held_up.wait(WAIT)
-            peer.send(*[notice("/elsewhere")] * 200, data_reply(asked, b"one"))
-            is_there.set()
+            frames = [*[notice("/elsewhere")] * 200, data_reply(asked, b"one")]
+            peer.send(*frames)
+            sent.append(sum(4 + len(frame) for frame in frames))
             time.sleep(9 * WAIT)
+
+        def unread(client: aio.Client) -> int:
+            """How many bytes the socket of a client has. What was sent comes later if the system is busy."""
+            driver: Any = client._driver
+            connection = driver._link._transport.get_extra_info("socket")
+            (count,) = struct.unpack("i", fcntl.ioctl(connection, termios.FIONREAD, bytes(4)))
+            return int(count)
 
         async def run() -> None:
             async with aio.Client(server.host, 3.0) as client:
@@ -275,7 +285,7 @@ class DialTest(PartnerCase):
                 is_held_up.set()
                 time.sleep(0.5)
                 clock[0] += 2400
-                self.assertTrue(is_there.wait(WAIT))
+                within(lambda: sent == [unread(client)])
                 self.assertEqual((await asyncio.wait_for(read, WAIT))[0], b"one")
                 self.assertEqual(client.stats().connections, 1)
 

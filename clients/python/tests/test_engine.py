@@ -86,7 +86,7 @@ class EngineTest(support.PartnerCase):
         self.engine = Engine(6.0, None, lambda function, argument: self.told.append((function, argument)))
         self.addCleanup(self.engine.close)
         self.engine.begin()
-        self.engine.addresses(100, 1)
+        self.engine.addresses(100, 0, 1)
         self.admit(100)
 
     def admit(self, now: int, granted_ms: int = 4000) -> None:
@@ -172,7 +172,7 @@ class EngineTest(support.PartnerCase):
         self.engine.tick(10_000)
         self.assertEqual(self.engine.take_orders(), (False, None, b""))
         self.engine.begin()
-        self.engine.addresses(20_000, 1)
+        self.engine.addresses(20_000, 0, 1)
         self.engine.take_orders()
         self.engine.opened(20_000)
         self.assertEqual(struct.unpack(">iiqiq", self.engine.take_orders().frames[:28])[2:], (9, 6000, 0))
@@ -231,7 +231,7 @@ class EngineTest(support.PartnerCase):
         with self.raises(AuthFailedError, -115):
             self.ask(records.sync("/"))
         self.engine.begin()
-        self.engine.addresses(2000, 1)
+        self.engine.addresses(2000, 0, 1)
         self.admit(2000)
         self.engine.received(2100, reply(-4, 0) + reply(-4, 0))
         self.assertTrue(self.engine.is_introduced())

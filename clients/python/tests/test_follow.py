@@ -63,6 +63,8 @@ def overtakes(peer: Peer) -> None:
 
 
 class BlockingTest(PartnerCase):
+    is_long = True
+
     def follow(self, server: RawServer, told: list[Kept], errors: list[Exception]) -> None:
         client = dirwolleu.Client(server.host, 30.0)
         self.addCleanup(client.close)
@@ -137,6 +139,8 @@ class BlockingTest(PartnerCase):
 
 
 class AioTest(unittest.IsolatedAsyncioTestCase, PartnerCase):
+    is_long = True
+
     async def follow(self, server: RawServer, told: list[Kept]) -> None:
         client = AioClient(server.host, 30.0)
         self.addAsyncCleanup(client.close)

@@ -10,14 +10,17 @@ import threading
 import time
 import unittest
 from collections.abc import Sequence
-from typing import Any, Callable
+from typing import Any, Callable, Optional
 from unittest import mock
 
-from support import WAIT, ClientCase, Partner, PartnerCase, Peer, within
+from support import TIMEOUT, WAIT, ClientCase, Partner, PartnerCase, Peer, within
+from test_library import CONNECT_RESPONSE
 
 from dirwolleu import Client, EventType, Mark, NoNodeError, State, WatchedEvent
 from dirwolleu._aio_link import address_at
 from dirwolleu._hosts import Place, Servers, hosts_of
+from dirwolleu._session import Dial, Session, Sign
+from dirwolleu.testing import Server
 
 WRONG = (
     "", "a:", "a:x", "a:0", ":1", "a..b:1", "a:1,,b:2", "a:1/a/", "a:1//a", "a:1/../a", "a:1/.", "a:1/a,b:1/b/",
@@ -57,13 +60,53 @@ class HostsTest(PartnerCase):
     def test_a_place_of_a_longer_list_is_one_of_this(self) -> None:
         servers = Servers("10.0.0.1:1,10.0.0.2:2,10.0.0.3:3")
         servers.replace("10.0.0.4:4")
+        servers.arrange(servers.hosts.servers)
         self.assertEqual([place.port for place in self.dialled(servers, 1, (2,))], [4])
+
+    def test_servers_that_were_listed_before_have_the_first_places(self) -> None:
+        servers = Servers("10.0.0.1:1,10.0.0.2:2")
+        self.assertEqual(servers.arrange(servers.hosts.servers), (0, 2, True))  # nothing was dialled yet
+        self.dialled(servers, 1, (1,))
+        servers.replace("10.0.0.4:4,10.0.0.2:2,10.0.0.3:3,10.0.0.1:1")
+        self.assertEqual(servers.arrange(servers.hosts.servers), (2, 2, True))
+        self.assertEqual([place.port for place in self.dialled(servers, 4, (0, 1, 2, 3))], [2, 1, 4, 3])
+        servers.replace("10.0.0.2:3,10.0.0.1:1")  # the last one that was dialled is 10.0.0.3:3
+        self.assertEqual(servers.arrange(servers.hosts.servers), (1, 1, False))
+        self.assertEqual([place.port for place in self.dialled(servers, 2, (0, 1))], [1, 3])
+
+    def moved(self, before: str, after: str) -> list[Optional[int]]:
+        """Of sessions by 200 seeds, connected to servers of the one list: the port that each moves to with the other list, or None."""
+        found = list[Optional[int]]()
+        for seed in range(200):
+            servers, session = Servers(before), Session(6000, seed)
+            self.addCleanup(session.close)
+            dialled = next(action for action in session.addresses(0, *servers.arrange(servers.hosts.servers)) if isinstance(action, Dial))
+            self.dialled(servers, 1, (dialled.place,))
+            session.opened(0)
+            session.received(0, CONNECT_RESPONSE)
+            servers.replace(after)
+            told = session.addresses(400, *servers.arrange(servers.hosts.servers)) + session.moment(800)
+            places = [action.place for action in told if isinstance(action, Dial)]
+            self.assertEqual(Sign.HANG_UP in told, len(places) == 1)
+            found.append(self.dialled(servers, 1, places)[0].port if places else None)
+        return found
+
+    def test_as_many_sessions_move_as_a_list_has_grown(self) -> None:
+        three, four = "10.0.0.1:1,10.0.0.2:2,10.0.0.3:3", "10.0.0.1:1,10.0.0.4:4,10.0.0.2:2,10.0.0.3:3"
+        self.assertEqual(self.moved(three, three), [None] * 200)
+        self.assertEqual(self.moved(four, "10.0.0.3:3,10.0.0.4:4,10.0.0.2:2,10.0.0.1:1"), [None] * 200)
+        grown = self.moved(three, four)  # StaticHostProvider: one stays with the chance 3 / 4, and goes to a new server else
+        self.assertTrue(30 <= grown.count(4) <= 70, grown.count(4))
+        self.assertEqual(grown.count(4) + grown.count(None), 200)
+        less = self.moved(three, "10.0.0.1:1,10.0.0.2:2")  # those of the server that has left, a third of all, move
+        self.assertTrue(40 <= 200 - less.count(None) <= 95, less)
+        self.assertTrue(10 <= less.count(1) and 10 <= less.count(2), less)
 
     def test_the_order_is_that_of_the_text_where_it_is_not_left_to_chance(self) -> None:
         servers = Servers("10.0.0.1:1,10.0.0.2:2", is_by_chance=False)
         for order in ((0, 1), (1, 0)):
             self.assertEqual([place.port for place in self.dialled(servers, 4, order)], [1, 2, 1, 2])
-            servers.replace(servers.hosts.text)
+            servers.arrange(servers.hosts.servers)
 
     def test_a_name_is_looked_up_at_each_dial_and_each_address_has_its_turn(self) -> None:
         with mock.patch("socket.getaddrinfo", return_value=found("10.0.0.1", "10.0.0.2")) as look_up:
@@ -128,16 +171,45 @@ class NamesTest(ClientCase):
         first, second = self.partner(), self.partner()
         second.do("create /a second", "create /b", "create /c")
         client = self.client(first.host)
-        client.set_hosts(second.host)
+        client.set_hosts(first.host)
         self.assertTrue(client.connected)
-        first.do("down")
-        within(lambda: client.state is not State.CONNECTED)
-        within(lambda: client.connected)
+        client.set_hosts(second.host)
+        within(lambda: client.connected and client._engine.place == second.host)
         self.assertEqual(client.get("/a")[0], b"second")
         with self.assertRaises(ValueError):
             client.set_hosts(second.host + "/program")
         with self.assertRaises(ValueError):
             client.set_hosts("")
+
+    def test_a_session_whose_server_leaves_the_list_goes_on_at_another_one(self) -> None:
+        with Server() as server:
+            listed = [f"127.0.0.{number}:{server.port}" for number in (1, 2, 3)]
+            running = server._alive()
+            for name in ("127.0.0.2", "127.0.0.3"):
+                listens = running.loop.create_server(running.ensemble.make_connection, name, server.port, reuse_address=True)
+                asyncio.run_coroutine_threadsafe(listens, running.loop).result()
+            client, others = self.client(",".join(listed)), listed
+            client.create("/a", b"0", ephemeral=True)
+            number, came, shown = client.session_id, server.connections, queue.Queue[Optional[bytes]]()
+
+            def follow() -> None:
+                for kept in client.follow("/a"):
+                    shown.put(kept.data)
+
+            threading.Thread(target=follow, daemon=True).start()
+            self.assertEqual(shown.get(timeout=WAIT), b"0")
+            for change in (1, 2, 3):  # to one of two, to the one that is left, and to one of two that were listed before
+                others = [one for one in (others if change == 2 else listed) if one != client._engine.place]
+                reads = [client.get_async("/a") for _ in range(100)]
+                client.set_hosts(",".join(others))
+                self.assertEqual({read.result(WAIT)[0] for read in reads}, {b"%d" % (change - 1)})
+                within(lambda: client.connected and client._engine.place in others)
+                server.set("/a", b"%d" % change)
+                while shown.get(timeout=WAIT) != b"%d" % change:
+                    pass
+                self.assertEqual((client.session_id, server.connections - came), (number, change))
+            self.assertEqual(server.sessions, (number,))
+            client.stop()
 
     def test_an_address_of_ipv6(self) -> None:
         class Peer6:

@@ -175,6 +175,8 @@ class ForkTest(InterruptedCase):
 
 
 class EndTest(InterruptedCase):
+    is_long = True
+
     def test_a_callback_that_does_not_return_holds_no_stop(self) -> None:
         partner = self.partner()
         client, runs, ends = self.client(partner.host), threading.Event(), threading.Event()

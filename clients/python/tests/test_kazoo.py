@@ -217,6 +217,8 @@ class CallsTest(KazooCase):
 
 
 class StatesTest(KazooCase):
+    is_long = True
+
     def test_states_and_listeners(self) -> None:
         zk = self.unstarted()
         states: list[str] = []
@@ -397,6 +399,8 @@ class StatesTest(KazooCase):
 
 
 class KeywordsTest(KazooCase):
+    is_long = True
+
     def test_what_is_not_done_is_named(self) -> None:
         keywords: list[tuple[type[Exception], dict[str, Any]]] = [
             (ConfigurationError, {"sasl_options": {"mechanism": "GSSAPI"}}),
@@ -514,11 +518,11 @@ class KeywordsTest(KazooCase):
                 peer.send_bytes(answers[word])
                 return
             peer._take(int.from_bytes(word, "big"))
-            peer.send(bytes(4) + (6000).to_bytes(4, "big") + (7).to_bytes(8, "big") + (16).to_bytes(4, "big") + bytes(17))
+            peer.send(bytes(4) + (60_000).to_bytes(4, "big") + (7).to_bytes(8, "big") + (16).to_bytes(4, "big") + bytes(17))
             peer.take()
 
         server = self.raw_server(serve)
-        zk = KazooClient(server.host, timeout=6.0)
+        zk = KazooClient(server.host, timeout=TIMEOUT)  # the server ends the connection at the first ping
         self.addCleanup(zk.stop)
         zk.start(WAIT)
         self.assertEqual(zk.server_version(), (3, 8, 0))
@@ -570,6 +574,8 @@ class HandlersTest(PartnerCase):
 
 class InternalsTest(KazooCase):
     """What patroni reaches for."""
+
+    is_long = True
 
     def test_a_client_that_does_not_queue(self) -> None:
         class Impatient(KazooClient):

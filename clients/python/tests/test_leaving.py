@@ -5,6 +5,7 @@ from __future__ import annotations
 import asyncio
 import contextlib
 import itertools
+import math
 import socket
 import struct
 import threading
@@ -36,11 +37,13 @@ class Relay:
         threading.Thread(target=self._accept, daemon=True).start()
 
     def cut(self, kind: int, at: str, outage: float) -> None:
-        """Cuts at the next request of this type, or at the answer to it; then there is no server for so long."""
+        """Cuts at the next request of this type, or at the answer to it; then there is no server for so long, or until `open`."""
         self.kind, self.at, self.outage, self.cuts = kind, at, outage, 0
 
-    def opens_in(self) -> float:
-        return self._opens_at - time.monotonic()
+    def open(self) -> None:
+        """Ends an outage. There is one until now."""
+        assert self._opens_at > time.monotonic()
+        self._opens_at = 0.0
 
     def stop(self) -> None:
         with contextlib.suppress(OSError):
@@ -88,8 +91,8 @@ class Relay:
         return True
 
 
-T, LONG_OUTAGE = 2.0, 12.0
-"""The timeout of a session in seconds, and for how long it has no server where that is longer than its recipes wait."""
+T = 2.0
+"""The timeout of a session that has no server for longer than its recipes wait, in seconds."""
 
 
 class LeavingRules(BothCase):
@@ -176,21 +179,22 @@ class LeavingRules(BothCase):
         """The session lives on, and its client deletes the place when it has a server again."""
         self.one = self.client(self.relay.host + self.root, T)
         held = self.lock(keeps_while_suspended=True).acquire(WAIT)
-        self.relay.cut(DELETE, "request", LONG_OUTAGE)
+        self.relay.cut(DELETE, "request", math.inf)
         with self.assertRaises(ConnectionLoss):
             held.release()
         self.assertEqual(len(self.other.get_children("/locks")), 1)
+        self.relay.open()
         self.is_free()
 
     def test_an_outage_that_is_longer_than_a_wait_looks_for_its_place(self) -> None:
         self.one = self.client(self.relay.host + self.root, T)
         with self.recipe("Lock", self.other, "/locks"):
-            self.relay.cut(CREATE, "answer", LONG_OUTAGE)
+            self.relay.cut(CREATE, "answer", math.inf)
             while not self.relay.cuts:
                 with self.assertRaises(LockTimeout):
                     self.lock().acquire(0.5)
-            self.assertGreater(self.relay.opens_in(), 0)
             self.assertEqual(len(self.other.get_children("/locks")), 2)
+            self.relay.open()
             within(lambda: len(self.other.get_children("/locks")) == 1)
         self.is_free()
 

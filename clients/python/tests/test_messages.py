@@ -35,6 +35,8 @@ class MessageCase(PartnerCase):
 
 
 class RefusalTest(MessageCase):
+    is_long = True
+
     def test_a_refused_call_has_its_path_and_reason(self) -> None:
         partner = self.partner()
         partner.do("create /a one", "create /a/b two")

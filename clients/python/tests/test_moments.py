@@ -299,7 +299,8 @@ class BehindTest(UntimedCase):
             for command in ("create /a one", "set /a two", "set /a three"):
                 await first.obey(command)
             async with self.client(first.port, timeout=6.0) as client:
-                await client.get("/a")
+                client.set_hosts(f"127.0.0.1:1,127.0.0.1:{first.port}")
+                await client.get("/a")  # it has moved, if it does with a longer list
                 client.set_hosts(f"127.0.0.1:{late.port},127.0.0.1:{first.port}")
                 await first.obey("expire")
                 await self.until(lambda: client.stats().expiries == 1 and client.connected, 30.0)

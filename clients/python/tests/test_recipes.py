@@ -34,6 +34,8 @@ from dirwolleu._locks import in_line
 
 
 class LockTest(ClientCase):
+    is_long = True
+
     def setUp(self) -> None:
         self.server, self.root = self.shared_partner(), self.own_root()
         self.host = self.server.host + self.root

@@ -300,6 +300,8 @@ class SpellingTest(RawCase):
 
 
 class OrderTest(RawCase):
+    is_long = True
+
     def test_replies_come_in_the_order_of_both(self) -> None:
         def answer(peer: Peer, asked: Asked) -> None:
             data = struct.pack(">i", asked.xid)
@@ -556,6 +558,8 @@ class AuthTest(RawCase):
 class RefusedTest(BothCase):
     """A server that refuses what a client introduces itself by, from some moment on."""
 
+    is_long = True
+
     def setUp(self) -> None:
         super().setUp()
         self.refuses, self.admits = set[str](), threading.Event()
@@ -694,7 +698,7 @@ class RefusedTest(BothCase):
         cut = in_thread(lambda: client.get("/cut"))
         within(lambda: client.state is State.SUSPENDED)
         adds = in_thread(lambda: client.add_auth("digest", "eve:secret"))
-        within(lambda: client.stats().waiting >= 2)
+        within(lambda: client.stats().waiting >= 2 and not client._engine._handed)  # the loop has taken them
         self.assertTrue(adds.empty())
         self.admits.set()
         self.assertIsNone(adds.get(timeout=WAIT))

@@ -101,11 +101,14 @@ class WaiterTest(unittest.TestCase):
             thread.join()
 
     def test_who_has_waited_leaves_its_semaphore_to_the_next_one(self) -> None:
-        waiter = Waiter(self.sleepers)
-        waiter.set_result("one")
-        threading.Timer(0.05, self.sleepers.wake).start()
-        self.assertEqual(waiter.result(None), "one")
-        others = [Waiter(self.sleepers) for _ in range(2)]
+        for seconds in (0.05, 1.0, 10.0):  # a busy machine begins to wait later
+            waiter = Waiter(self.sleepers)
+            waiter.set_result("one")
+            threading.Timer(seconds, self.sleepers.wake).start()
+            self.assertEqual(waiter.result(None), "one")
+            others = [Waiter(self.sleepers) for _ in range(2)]
+            if others[0]._news is waiter._news:
+                break
         self.assertEqual([other._news is waiter._news for other in others], [True, False])
         self.assertRaises(TimeoutError, others[0].result, 0.01)  # it is not set
         others[1].set_result("two")

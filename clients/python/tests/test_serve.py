@@ -27,6 +27,8 @@ ENVIRONMENT = {**os.environ, "PYTHONPATH": str(CLIENTS / "python")}
 
 
 class ServeTest(unittest.TestCase):
+    is_long = True
+
     def setUp(self) -> None:
         folder = tempfile.TemporaryDirectory()
         self.addCleanup(folder.cleanup)

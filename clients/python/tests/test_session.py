@@ -2,6 +2,8 @@
 
 from __future__ import annotations
 
+import platform
+import resource
 import struct
 import unittest
 from unittest import mock
@@ -54,7 +56,7 @@ class SessionTest(unittest.TestCase):
 
     def connected(self, root: Root = Root()) -> Session:
         session = self.session(root)
-        session.addresses(100, 1)
+        session.addresses(100, 0, 1, True)
         session.opened(100)
         self.assertEqual(session.received(100, CONNECT_RESPONSE), CONNECTED)
         return session
@@ -62,7 +64,7 @@ class SessionTest(unittest.TestCase):
     def test_it_asks_for_a_connection_and_gives_an_attempt_up(self) -> None:
         session = self.session()
         self.assertEqual(session.moment(100), [])  # there is no address
-        self.assertEqual(session.addresses(100, 1), [Dial(0, 2000)])
+        self.assertEqual(session.addresses(100, 0, 1, True), [Dial(0, 2000)])
         self.assertEqual((session.deadline(), session.moment(2099), session.moment(2100)), (2100, [], [Sign.HANG_UP]))
         self.assertEqual(session.opened(2101), [Sign.HANG_UP])  # it comes too late
         self.assertEqual(session.moment(2434), [Dial(0, 2000)])
@@ -74,7 +76,7 @@ class SessionTest(unittest.TestCase):
 
     def test_each_address_has_its_turn(self) -> None:
         session, places = self.session(), list[int]()
-        session.addresses(0, 3)
+        session.addresses(0, 0, 3, True)
         for now in range(400, 100_000, 400):
             places += [action.place for action in session.failed(now) + session.moment(now) if isinstance(action, Dial)]
         self.assertEqual({len(set(places[begin : begin + 3])) for begin in range(0, len(places) - 2)}, {3})
@@ -110,7 +112,7 @@ class SessionTest(unittest.TestCase):
 
     def test_calls_wait_and_are_answered(self) -> None:
         session = self.session()
-        session.addresses(100, 1)
+        session.addresses(100, 0, 1, True)
         self.assertEqual(session.get_data(100, 7, NO_LIMIT, "/a", True), [])
         self.assertEqual(session.set_data(100, 8, 1000, "/a", None, -1), [])
         session.opened(100)
@@ -243,3 +245,16 @@ class SessionTest(unittest.TestCase):
 
 if __name__ == "__main__":
     unittest.main()
+
+
+@unittest.skipUnless(platform.libc_ver()[0] == "glibc", "another C library keeps memory by rules of its own")
+class MemoryTest(unittest.TestCase):
+    def test_the_memory_of_long_answers_serves_the_next_ones(self) -> None:
+        of_session.keep_what_is_let_go()
+        faults = list[int]()
+        for _ in range(5):
+            answers = [bytes([number]) * 100_000 for number in range(20)]
+            faults.append(resource.getrusage(resource.RUSAGE_SELF).ru_minflt)
+            self.assertEqual(len(answers.pop()), 100_000)
+            del answers
+        self.assertLess(faults[-1] - faults[0], 100)  # where it goes back to the system they are 500 each time

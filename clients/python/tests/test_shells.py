@@ -89,10 +89,13 @@ def header(xid: int, zxid: int = 5) -> bytes:
     return struct.pack(">iqi", xid, zxid, 0)
 
 
-FAULTS: list[tuple[str, Callable[[Asked], bytes]]] = [
+FAULTS_OF_REPLIES: list[tuple[str, Callable[[Asked], bytes]]] = [
     ("C1", lambda asked: framed(bytes(15))), ("C3 1 77", lambda asked: framed(header(77))), ("C4 J1 at 16", lambda asked: framed(reply(asked))),
     ("C2 77", lambda asked: framed(data_reply(asked, b"x"), data_reply(asked._replace(xid=2), b"y"), header(77))),
-    ("C4 J2 at 16", lambda asked: framed(reply(asked, struct.pack(">i", -2)))), ("C5 J1 at 24", lambda asked: framed(notice("/a")[:24])),
+    ("C4 J2 at 16", lambda asked: framed(reply(asked, struct.pack(">i", -2)))),
+]  # fmt: skip
+FAULTS: list[tuple[str, Callable[[Asked], bytes]]] = [
+    ("C5 J1 at 24", lambda asked: framed(notice("/a")[:24])),
     ("C5 J4 at 28", lambda asked: framed(notice("/a")[:-1] + b"\xff")), ("F1", lambda asked: b"\xff" * 4), ("F2", lambda asked: b"\x7f" * 4),
     ("D2 5 4", lambda asked: framed(data_reply(asked, b"x"), data_reply(asked._replace(xid=2), b"y", zxid=4))), ("D1", lambda asked: b""),
 ]  # fmt: skip
@@ -174,19 +177,26 @@ CODES = {-4: "the server has lost its connection", -6: "the server does not know
          -118: "the session was taken up over another connection", -999: "the server refuses it", 1: "the server refuses it"}  # fmt: skip
 NAMES = [b"b", b" ", b"\\", "\u00e9".encode(), b"a\tb", "\u202ex".encode(), b"b"]
 UNACCEPTING: list[Serve] = [closes, functools.partial(says, b"\xff" * 4), functools.partial(says, b"\0\0\0\x25\0")]
-ENDS: list[tuple[Serve, list[str], int, str, str]] = [
-    *((serve, words, 7, "", UNACCEPTED) for serve in UNACCEPTING for words in (GET, SET)),
-    *((refuses, words, 8, "", EXPIRED) for words in (GET, SET, TREE)),
-    *((functools.partial(is_silent, 30_000), words, 8, "", f"{LATE}\n") for words in (GET, LS, TREE, ["stat", "/a"])),
-    *((functools.partial(is_silent, 30_000), words, 8, "", f"{LATE}, and it may or may not have happened\n") for words in (SET, ["create", "/a", ""], ["delete", "/a"])),
+End = tuple[Serve, list[str], int, str, str]
+"""What a server does, a command, and its end in both: the status, the output, and what is said."""
+ENDS_OF_READS: list[End] = [(functools.partial(is_silent, 30_000), words, 8, "", f"{LATE}\n") for words in (GET, LS, TREE, ["stat", "/a"])]
+ENDS_OF_CHANGES: list[End] = [(functools.partial(is_silent, 30_000), words, 8, "", f"{LATE}, and it may or may not have happened\n")
+                              for words in (SET, ["create", "/a", ""], ["delete", "/a"])]  # fmt: skip
+ENDS_OF_CONNECTIONS: list[End] = [
     (functools.partial(is_silent, None), GET, 8, "", f"{LATE}\n"), (functools.partial(is_silent, None), SET, 8, "", LOST),
     (cuts, GET, 8, "", f"{LATE}\n"), (cuts, SET, 8, "", LOST),
+]  # fmt: skip
+ENDS_WITH_AN_ANSWER: list[End] = [
     *((functools.partial(answers, functools.partial(reply, code=code)), words, 6, "", f"refused: /a: {why} ({code})\n")
       for code, why in CODES.items() for words in (GET, SET)),
     *((functools.partial(answers, functools.partial(reply, code=-101)), words, 5, "", "no node: /a\n") for words in (GET, SET, TREE)),
     (functools.partial(answers, functools.partial(listing, NAMES)), LS, 0, " \n\\\na\\x09b\nb\n\u00e9\n\\xe2\\x80\\xaex\n", ""),
 ]  # fmt: skip
-"""What a server does, a command, and its end in both: the status, the output, and what is said."""
+
+
+def ends_without_a_session(words: list[str]) -> list[End]:
+    return [*((serve, words, 7, "", UNACCEPTED) for serve in UNACCEPTING), (refuses, words, 8, "", EXPIRED)]
+
 
 FORMS: list[list[str]] = [[], ["--text"], ["--json"]]
 
@@ -245,6 +255,13 @@ class ShellsTest(unittest.TestCase):
         printed.flush()
         return status, masked(spelled.getvalue().decode()), said.getvalue()
 
+    def run_both(self, hosts: str, words: list[str]) -> tuple[tuple[int, str, str], tuple[int, str, str]]:
+        """Of `zk_shell` and of Python, side by side."""
+        with ThreadPoolExecutor(1) as pool:
+            zk = pool.submit(self.run_zk, hosts, words)
+            python = self.run_python(hosts, words)
+        return zk.result(), python
+
     def test_changes(self) -> None:
         with Server() as one, Server() as other:
             for words in CHANGES:
@@ -266,9 +283,9 @@ class ShellsTest(unittest.TestCase):
             for hosts, *words in (
                 (f"{server.hosts}/a", "get", "/b"), (f"{server.hosts}/a", "get", "/"), (f"{server.hosts}/a", "create", "/c", "x"),
                 (f"{server.hosts}/a", "tree", "/"), (f"{server.hosts}/none", "get", "/b"), (f"{server.hosts}/", "get", "/a"),
-                (f"127.0.0.1:1,{server.hosts}", "get", "/a"), ("127.0.0.1:1", "get", "/a", "--wait", "3"), ("a:x", "get", "/a"),
+                (f"127.0.0.1:1,{server.hosts}", "get", "/a"), ("a:x", "get", "/a"),
                 ("127.0.0.1:99999", "get", "/a"), (f"{server.hosts}//a", "get", "/a"), (f"{server.hosts},", "get", "/a"),
-                ("host.invalid:1", "get", "/a", "--wait", "3"), (f"{server.hosts}/a", "delete", "/c"),
+                (f"{server.hosts}/a", "delete", "/c"),
             ):  # fmt: skip
                 zk = self.run_zk(hosts, words)
                 if words[0] == "create":
@@ -276,6 +293,9 @@ class ShellsTest(unittest.TestCase):
                 if words[0] == "delete":
                     server.create("/a/c")
                 self.assertEqual(zk, self.run_python(hosts, words), (hosts, words))
+        for hosts in ("127.0.0.1:1", "host.invalid:1"):
+            zk, python = self.run_both(hosts, ["get", "/a", "--wait", "3"])
+            self.assertEqual(zk, python, hosts)
 
     def test_servers_of_the_environment(self) -> None:
         """They are those of a command whose words name none."""
@@ -287,14 +307,14 @@ class ShellsTest(unittest.TestCase):
                 for words in (["get", "/b", "--wait", wait], ["tree", "--depth", "0", "/", "--json", f"--wait={wait}"], ["ls", "--wait", wait, "--", "/"],
                               ["get", "a"], ["get"], ["get", server.hosts, "/a"], ["set", "/none/c", "--from", "-", "--wait", wait]):  # fmt: skip
                     with patch.dict(os.environ, DIRWOLLEU_HOSTS=hosts):
-                        (*zk, zk_said), (*python, said) = self.run_zk("", words), self.run_python("", words)
+                        (*zk, zk_said), (*python, said) = self.run_both("", words)
                     self.assertEqual((zk, zk_said.split("\n\nUsage")[0]), (python, said.split("\n\nFor")[0]), (hosts, words))
 
     def test_a_server_that_accepts_no_session(self) -> None:
         with socket.create_server(("127.0.0.1", 0)) as listener:
             hosts, words = f"127.0.0.1:{listener.getsockname()[1]}", ["get", "/a", "--wait", "3"]
-            zk = self.run_zk(hosts, words)
-            self.assertEqual(zk, self.run_python(hosts, words))
+            zk, python = self.run_both(hosts, words)
+            self.assertEqual(zk, python)
             self.assertIn("connected, but no session was accepted", zk[2])
 
     def test_answers_that_tell_of_a_session(self) -> None:
@@ -329,12 +349,33 @@ class ShellsTest(unittest.TestCase):
             ends = self.run_python(servers[1].host, words), zk.result()
         return [(status, out.replace(server.host, "HOST"), said.replace(server.host, "HOST")) for (status, out, said), server in zip(reversed(ends), servers)]
 
-    def test_ends(self) -> None:
-        for serve, words, *due in ENDS:
+    def check_ends(self, ends: list[End]) -> None:
+        for serve, words, *due in ends:
             with self.subTest(serve=serve, words=words):
-                zk, python = self.ends_of(serve, [*words, "--wait", "3"])
+                for seconds in ("3", "10", "40"):  # a busy machine sends a call later
+                    zk, python = self.ends_of(serve, [*words, "--wait", seconds])
+                    if UNACCEPTED in due or not re.search("not connected|was not sent", zk[2] + python[2]):
+                        break
                 self.assertEqual(zk, python)
                 self.assertEqual(list(zk), due)
+
+    def test_ends_of_reads_without_a_session(self) -> None:
+        self.check_ends([*ends_without_a_session(GET), (refuses, TREE, 8, "", EXPIRED)])
+
+    def test_ends_of_changes_without_a_session(self) -> None:
+        self.check_ends(ends_without_a_session(SET))
+
+    def test_ends_of_reads_without_an_answer(self) -> None:
+        self.check_ends(ENDS_OF_READS)
+
+    def test_ends_of_changes_without_an_answer(self) -> None:
+        self.check_ends(ENDS_OF_CHANGES)
+
+    def test_ends_with_the_connection(self) -> None:
+        self.check_ends(ENDS_OF_CONNECTIONS)
+
+    def test_ends_with_an_answer(self) -> None:
+        self.check_ends(ENDS_WITH_AN_ANSWER)
 
     def test_names_that_no_path_has(self) -> None:
         """A tree below which is one is refused; a list has it; and a name that comes twice is one."""
@@ -371,13 +412,19 @@ class ShellsTest(unittest.TestCase):
         with Server() as server:
             server.create("/a", b"one")
             for _ in range(2):
-                for run in (self.run_zk, self.run_python):
-                    self.assertEqual(run(f"{silent.host},{server.hosts}", ["get", "/a", "--wait", "6"]), (0, "one\n", ""))
+                for seconds in ("6", "24", "60"):  # a busy machine takes longer
+                    ends = self.run_both(f"{silent.host},{server.hosts}", ["get", "/a", "--wait", seconds])
+                    if all(status == 0 for status, _, _ in ends):
+                        break
+                self.assertEqual(ends, ((0, "one\n", ""), (0, "one\n", "")))
 
     def test_hosts(self) -> None:
         """A host whose name cannot be one is refused, and none is dialled; any other is."""
         for host in (*NO_HOSTS, *(f"{host},127.0.0.1:1" for host in NO_HOSTS), *HOSTS):
-            zk, python = (run("", ["get", host, "/a", "--wait", "1"]) for run in (self.run_zk, self.run_python))
+            for seconds in ("1", "10", "40"):
+                zk, python = self.run_both("", ["get", host, "/a", "--wait", seconds])
+                if host not in HOSTS or all(said.count("not found") > host.count(",") for _, _, said in (zk, python)):
+                    break
             lines, others = (sorted(said.splitlines()) for _, _, said in (zk, python))  # the servers are dialled in a random order
             self.assertEqual((zk[:2], lines), (python[:2], others), host)
             self.assertEqual(zk[0], 7 if host in HOSTS else 2)
@@ -462,7 +509,7 @@ class ShellsTest(unittest.TestCase):
         with Server() as server:
             for seconds in ("2", "10", "40"):  # a busy machine takes longer
                 words = ["watch", "--data", "/", "--children", "/none", "--for", seconds]
-                ends = [run(server.hosts, words) for run in (self.run_zk, self.run_python)]
+                ends = self.run_both(server.hosts, words)
                 if all("/none does not exist" in printed for _, printed, _ in ends):
                     break
         self.assertEqual([(status, said) for status, _, said in ends], [(0, ""), (0, "")])
@@ -494,7 +541,7 @@ class ShellsTest(unittest.TestCase):
     def test_a_host_that_is_not_found(self) -> None:
         """It is dialled, and told."""
         self._never_connect("nowhere.invalid", "dial nowhere.invalid")
-        self.assertEqual(*(run("nowhere.invalid", ["get", "/a", "--wait", "2"]) for run in (self.run_zk, self.run_python)))
+        self.assertEqual(*self.run_both("nowhere.invalid", ["get", "/a", "--wait", "2"]))
 
     def test_a_watch_of_a_server_that_ends_the_connection(self) -> None:
         def serve() -> None:
@@ -521,18 +568,20 @@ class ShellsTest(unittest.TestCase):
 
         for form in FORMS:
             for seconds in ("2", "10", "40"):
-                ends = []
-                for run in (self.run_zk, self.run_python):
-                    server = RawServer(serve)
-                    self.addCleanup(server.stop)
-                    status, printed, said = run(server.host, ["watch", "--data", "/a", "--for", seconds, *form])
-                    ends.append((status, [plain(line) for line in printed.replace(server.host, "HOST").splitlines()], said))
+                found = self.ends_of(serve, ["watch", "--data", "/a", "--for", seconds, *form])
+                ends = [(status, [plain(line) for line in printed.splitlines()], said) for status, printed, said in found]
                 if all("refused" in str(lines) for _, lines, _ in ends):
                     break
             self.assertEqual(ends[0], ends[1])
             self.assertEqual(str(ends[0]).count("refused"), 1)
 
+    def test_a_watch_whose_connection_is_given_up_for_a_reply(self) -> None:
+        self._given_up(FAULTS_OF_REPLIES)
+
     def test_a_watch_whose_connection_is_given_up(self) -> None:
+        self._given_up(FAULTS)
+
+    def _given_up(self, faults: list[tuple[str, Callable[[Asked], bytes]]]) -> None:
         """The code of the fault is printed, its values, and what it means."""
 
         def serve(message: Callable[[Asked], bytes], peer: Peer) -> None:
@@ -541,25 +590,21 @@ class ShellsTest(unittest.TestCase):
             while True:
                 peer.take()
 
-        for fault, message in FAULTS:
+        for fault, message in faults:
             timeout = "900" if fault == "D1" else "30000"
-            dropped = []
-            for run in (self.run_zk, self.run_python):
-                server = RawServer(functools.partial(serve, message))
-                self.addCleanup(server.stop)
-                for seconds in ("1", "10", "40"):
-                    _, printed, _ = run(server.host, ["watch", "--data", "/a", "--data", "/b", "--for", seconds, "--timeout", timeout])
-                    drops = [plain(line).replace(server.host, "HOST") for line in printed.splitlines() if " drop " in line]
-                    if drops:
-                        break
-                dropped.append(drops[0])
-            self.assertEqual(dropped[0], dropped[1])
-            self.assertIn(f"drop {fault} HOST ", dropped[0])
+            for seconds in ("1", "10", "40"):
+                words = ["watch", "--data", "/a", "--data", "/b", "--for", seconds, "--timeout", timeout]
+                ends = self.ends_of(functools.partial(serve, message), words)
+                zk, python = ([plain(line) for line in printed.splitlines() if " drop " in line] for _, printed, _ in ends)
+                if zk and python:
+                    break
+            self.assertEqual(zk[0], python[0])
+            self.assertIn(f"drop {fault} HOST ", zk[0])
 
     def _never_connect(self, hosts: str, line: str) -> None:
         """Both print the same lines, among them one that begins so."""
         for seconds in ("1", "10", "40"):
-            ends = [run(hosts, ["watch", "--data", "/a", "--for", seconds]) for run in (self.run_zk, self.run_python)]
+            ends = self.run_both(hosts, ["watch", "--data", "/a", "--for", seconds])
             if all(line in printed for _, printed, _ in ends):
                 break
         self.assertEqual([(status, said) for status, _, said in ends], [(9, ""), (9, "")])

@@ -25,6 +25,8 @@ from dirwolleu.testing import Server
 
 
 class ServerTest(unittest.TestCase):
+    is_long = True
+
     def setUp(self) -> None:
         stack = contextlib.ExitStack()
         self.addCleanup(stack.close)

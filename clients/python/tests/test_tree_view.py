@@ -51,7 +51,7 @@ class GrowingTest(unittest.TestCase):
         self.engine = Engine(6.0, None, lambda function, argument: None)
         self.addCleanup(self.engine.close)
         self.engine.begin()
-        self.engine.addresses(100, 1)
+        self.engine.addresses(100, 0, 1)
         self.admit(100)
 
     def admit(self, now: int) -> None:
@@ -261,7 +261,7 @@ class GrowingTest(unittest.TestCase):
         self.engine.end()
         self.assertFalse(tree.is_current())
         self.engine.begin()
-        self.engine.addresses(500, 1)
+        self.engine.addresses(500, 0, 1)
         self.engine.take_handed(500)
         self.engine.take_orders()
         self.engine.opened(600)

@@ -20,7 +20,7 @@ from dirwolleu._poll import READ, ROOM, WRITE, Reactor, join
 from dirwolleu._process import this_process
 from dirwolleu._registry import Watchers
 from dirwolleu._requests import Watcher
-from dirwolleu._sockets import SEGMENT, Link
+from dirwolleu._sockets import MOST_ROOMS, Link
 from dirwolleu._waiting import Future, Sleepers
 
 
@@ -77,24 +77,38 @@ class FutureTest(unittest.TestCase):
 class LinkTest(unittest.TestCase):
     """What a connection hands in of what came, and how it ends."""
 
-    def test_after_a_long_piece_it_reads_on_at_once(self) -> None:
-        for then, wanted in (
-            (BlockingIOError(), [SEGMENT]), (40_000, [SEGMENT + 40_000]), (0, [SEGMENT]), (ConnectionResetError(104, "reset"), [SEGMENT, "[Errno 104] reset"]),
-        ):  # fmt: skip
-            told = list[object]()
-            driver: Any = SimpleNamespace(bring=lambda piece: told.append(len(piece)), leave=told.append)
-            reactor: Any = SimpleNamespace(room=memoryview(bytearray(ROOM)), leave=mock.Mock())
-            link = Link(reactor, mock.Mock(), driver)
-            link._socket = mock.Mock(recv_into=mock.Mock(side_effect=[SEGMENT, then]))
-            link._ready(READ)
-            self.assertEqual(told, wanted)
-
-    def test_a_short_piece_is_handed_in_at_once(self) -> None:
-        driver: Any = mock.Mock()
-        link = Link(SimpleNamespace(room=memoryview(bytearray(ROOM))), mock.Mock(), driver)  # type: ignore[arg-type]
-        link._socket = mock.Mock(recv_into=mock.Mock(side_effect=[SEGMENT - 1]))
+    def read(self, *counts: object) -> tuple[list[object], int]:
+        """What a connection tells of reads that bring these, and how often it reads."""
+        told = list[object]()
+        driver: Any = SimpleNamespace(bring=lambda piece: told.append(len(piece)), leave=told.append)
+        reactor: Any = SimpleNamespace(room=memoryview(bytearray(ROOM)), leave=mock.Mock())
+        link = Link(reactor, mock.Mock(), driver)
+        receives = mock.Mock(side_effect=counts)
+        link._socket = mock.Mock(recv_into=receives)
         link._ready(READ)
-        self.assertEqual(len(driver.bring.call_args[0][0]), SEGMENT - 1)
+        return told, receives.call_count
+
+    def test_a_room_that_came_full_is_filled_again_at_once(self) -> None:
+        self.assertEqual(self.read(ROOM, BlockingIOError()), ([ROOM], 2))
+        self.assertEqual(self.read(ROOM, 40_000), ([ROOM, 40_000], 2))
+        self.assertEqual(self.read(ROOM, 0), ([ROOM, "the server has closed it"], 2))
+        self.assertEqual(self.read(ROOM, ConnectionResetError(104, "reset")), ([ROOM, "[Errno 104] reset"], 2))
+
+    def test_others_have_their_turn_whatever_comes(self) -> None:
+        self.assertEqual(self.read(*[ROOM] * 100), ([ROOM] * MOST_ROOMS, MOST_ROOMS))
+
+    def test_a_piece_is_handed_in_at_once(self) -> None:
+        for count in (1, 65_536, ROOM - 1):
+            self.assertEqual(self.read(count), ([count], 1))
+
+    def test_nothing_is_read_of_a_connection_that_a_piece_has_ended(self) -> None:
+        driver: Any = mock.Mock()
+        link = Link(SimpleNamespace(room=memoryview(bytearray(ROOM)), leave=mock.Mock()), mock.Mock(), driver)  # type: ignore[arg-type]
+        driver.bring = lambda _: link.close()
+        receives = mock.Mock(return_value=ROOM)
+        link._socket = mock.Mock(recv_into=receives)
+        link._ready(READ)
+        self.assertEqual(receives.call_count, 1)
 
 
 class ReactorTest(unittest.TestCase):

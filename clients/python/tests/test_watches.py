@@ -3,19 +3,22 @@
 from __future__ import annotations
 
 import asyncio
+import itertools
 import queue
 import struct
 import threading
 import time
 import unittest
+from types import SimpleNamespace
 from typing import Any, Callable, Optional
 
 from both import AioCase, Blocking, BothCase, in_thread
-from support import GET_DATA, TIMEOUT, WAIT, Peer, data_reply, notice, reply, within
+from support import GET_DATA, TIMEOUT, WAIT, Asked, Peer, data_reply, notice, reply, within
 
 import dirwolleu
 from dirwolleu import KeptChildren, Mark, NoAuthError, State, aio
 from dirwolleu import _requests as requests
+from dirwolleu._following import Watching
 from dirwolleu._steps import Ask, Call, Steps, Wait
 from dirwolleu._tasks import Task
 
@@ -144,7 +147,7 @@ class WatchRules(BothCase):
         self.assertEqual(bad, [])
 
     def test_an_answer_that_a_notice_overtakes_is_not_told(self) -> None:
-        is_calm = threading.Event()
+        is_calm, overtaken = threading.Event(), list[Asked]()
 
         def serve(peer: Peer) -> None:
             peer.admit()
@@ -156,10 +159,11 @@ class WatchRules(BothCase):
                     peer.send(data_reply(asked, b"calm"))
                 else:
                     peer.send(data_reply(asked, b"overtaken"), notice("/a"))
+                    overtaken.append(asked)
 
-        client, told = self.client(self.raw_server(serve).host), queue.Queue[Any]()
+        client, told = self.client(self.raw_server(serve).host, 3.0), queue.Queue[Any]()  # a watch waits so long for its first call
         self.watch(client, "DataWatch", "/a", lambda data, _: told.put(data))
-        time.sleep(0.2)
+        within(lambda: len(overtaken) > 2)
         is_calm.set()
         self.assertEqual(self.next_of(told), b"calm")
 
@@ -419,6 +423,20 @@ class TaskTest(unittest.TestCase):
             Task(AtOnce(), lambda _, fails=fails: steps(fails), lambda *end: ends.append(end)).start()  # type: ignore[misc]
         self.assertEqual(ends[0], ([request, request, 7, None], None))
         self.assertIsInstance(ends[1][1], LookupError)
+
+
+class LookTest(unittest.TestCase):
+    def test_an_answer_that_comes_right_after_a_look_is_told(self) -> None:
+        """One read for another watch brings it, which is no news."""
+        good: Any = object()
+        engine: Any = SimpleNamespace(is_running=True, state=State.CONNECTED, life=0)
+        looks = itertools.chain([None], itertools.repeat(good))
+        subject: Any = SimpleNamespace(settled=lambda: next(looks), fields=lambda kept: kept, read=lambda: iter([requests.get("/a", True)]))
+        steps = Watching(engine, subject, threading.Event(), lambda: True)._next_good()
+        with self.assertRaises(StopIteration) as told:
+            while not isinstance(steps.send(None), Wait):
+                pass
+        self.assertIs(told.exception.value, good)
 
 
 class FutureTest(BothCase):

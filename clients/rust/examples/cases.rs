@@ -1,8 +1,8 @@
-//! A session that does what it is told, for the table of cases, `clients/cases`: `cases HOSTS TRIES`.
+//! A session that does what it is told, for the table of cases, `clients/cases`: `cases HOSTS TRIES [RECORD]`.
 
 use dirwolleu::{
-    Acl, Follow, Kept, Lock, Mark, Mode, Permissions, Request, Retry, Session, SessionOptions,
-    Sharing, Snapshots, SubtreeNode, TreeSnapshot,
+    Acl, Follow, Kept, Lock, Mark, Mode, Observation, Permissions, Request, Retry, Session,
+    SessionOptions, Sharing, Snapshots, SubtreeNode, TreeSnapshot,
 };
 use std::env;
 use std::error::Error;
@@ -278,7 +278,14 @@ fn main() -> Result<(), Box<dyn Error>> {
     let mut words = env::args().skip(1);
     let hosts = words.next().unwrap_or_default();
     let tries = words.next().unwrap_or_default().parse()?;
-    let options = SessionOptions::new(Duration::from_secs(10)).renews(true);
+    let mut options = SessionOptions::new(Duration::from_secs(10)).renews(true);
+    if let Some(file) = words.next() {
+        options = options.record(file).observe(|seen| {
+            if let Observation::RecordEnded { why } = seen {
+                eprintln!("the record ends: {why}");
+            }
+        });
+    }
     let session = options.retry(Retry::times(tries)).open(&hosts)?;
     let mut told = Told {
         session: &session,

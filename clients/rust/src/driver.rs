@@ -111,7 +111,7 @@ impl Driver {
     /// A connection to a host, and its address.
     fn connect(&mut self, attempt: &Attempt) -> io::Result<(SocketAddr, Connection)> {
         let address = self.addresses.of(&attempt.host)?;
-        let now = self.shared.look(Engine::clock).now();
+        let now = self.shared.clock().now();
         let within = attempt.until.saturating_duration_since(now);
         let server = Server::new(&attempt.host.name, address);
         let made = self.dial.dial(&server, within.max(SHORTEST_DIAL));
@@ -121,7 +121,7 @@ impl Driver {
 
     /// Hands in what the connection brings next. If something was due before, it catches up.
     fn listen(&mut self, until: Moment) -> Result<(), Fault> {
-        let now = self.shared.look(Engine::clock).now();
+        let now = self.shared.clock().now();
         let mut wait = until.saturating_duration_since(now).min(LONGEST_WAIT);
         if self.shared.writes_on() {
             wait = wait.min(WAIT_FOR_ROOM);
@@ -135,7 +135,7 @@ impl Driver {
     /// Hands in all that the connection has, and then the moment before the last read. So a late session does not take a server for silent
     /// that has answered.
     fn catch_up(&mut self) -> Result<(), Fault> {
-        let clock = self.shared.look(Engine::clock);
+        let clock = self.shared.clock();
         let mut now = clock.now();
         for _ in 0..MOST_PIECES {
             now = clock.now();

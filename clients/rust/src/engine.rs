@@ -22,6 +22,7 @@ use crate::machine::{Limits, Machine, State};
 use crate::moment::{Clock, Moment};
 use crate::outbox::Outbox;
 use crate::pending::PendingCalls;
+use crate::recording::Recorder;
 use crate::saved::SavedSession;
 use crate::stats::{ConnectionEnd, Observation, Stats, Tally};
 use crate::ticket::{CallResult, Slot};
@@ -129,6 +130,8 @@ pub(crate) struct Engine {
     attempts: u64,
     wanted: Option<Attempt>,
     dialling: Option<u64>,
+    /// The host that was dialled last.
+    server: Option<Host>,
     outbox: Option<Arc<Outbox>>,
     /// Those that have frames to write, or have ended: written without the lock.
     outboxes: Vec<Arc<Outbox>>,
@@ -141,6 +144,7 @@ pub(crate) struct Engine {
     credentials: Credentials,
     deletions: Deletions,
     tally: Tally,
+    recorder: Option<Recorder>,
     /// Why the connection will be closed, if that is known.
     ending: Option<ConnectionEnd>,
     /// The call that closes the session, if one was asked.
@@ -172,6 +176,7 @@ impl Engine {
             attempts: 0,
             wanted: None,
             dialling: None,
+            server: None,
             outbox: None,
             outboxes: Vec::new(),
             address: None,
@@ -180,6 +185,7 @@ impl Engine {
             credentials: Credentials::of(options.credentials),
             deletions: Deletions::default(),
             tally: Tally::default(),
+            recorder: None,
             ending: None,
             closing: None,
             phase: Phase::Running,
@@ -189,17 +195,27 @@ impl Engine {
         Ok(engine)
     }
 
+    /// Has a record written from now on. The session is a new one, unless it takes up a saved one.
+    pub(crate) fn record(&mut self, mut recorder: Recorder, saved: Option<&SavedSession>) {
+        recorder.begin(self.asked_timeout, saved.map(SavedSession::as_bytes));
+        self.recorder = Some(recorder);
+    }
+
     /// Goes on with a new machine: of a new session if this one is over, and else of the same session.
     pub(crate) fn renew(&mut self) -> Result<(), Fault> {
         if self.phase == Phase::Panicked {
             return Err(Fault::Panicked);
         }
-        let renewed = self.machine_of(&self.saved_for_renewal()?)?;
+        let saved = self.saved_for_renewal()?;
+        let renewed = self.machine_of(&saved)?;
         // A machine that has halted answers nothing.
         let _ = self.end();
         self.hang_up();
         self.calls.end_all(&NoReply::ConnectionLoss.into());
         self.machine = renewed;
+        if let Some(recorder) = &mut self.recorder {
+            recorder.begin(self.asked_timeout, Some(saved.as_bytes()));
+        }
         self.note_deadline();
         self.places.begin_again();
         self.deletions.begin_again();
@@ -238,21 +254,33 @@ impl Engine {
         self.note_deadline();
     }
 
-    /// Other hosts, from the next attempt to connect on. Hosts with another chroot are handed back.
+    /// Other hosts. Hosts with another chroot are handed back.
     pub(crate) fn change_hosts(&mut self, hosts: Hosts) -> Result<(), Hosts> {
         if *hosts.root() != self.chroot {
             return Err(hosts);
         }
+        let kept = self.places.change(&self.hosts, &hosts);
+        let server = self.wanted.as_ref().map(|attempt| &attempt.host);
+        let server = server.or(self.server.as_ref());
+        let is_listed = server.map_or(true, |host| hosts.has(host));
         self.hosts = hosts;
-        self.places.begin_again();
         self.forget_attempts();
         self.note_hosts();
-        let (now, count) = (self.now(), self.hosts.len());
         if !self.is_over() {
             // If the machine halts, the next caller gets the fault.
-            let _ = self.step(now, |machine, now| machine.set_addresses(now, count));
+            let _ = self.tell_hosts(kept, is_listed);
         }
         Ok(())
+    }
+
+    fn tell_hosts(&mut self, kept: usize, is_listed: bool) -> Result<(), Fault> {
+        let (now, added) = (self.now(), self.hosts.len() - kept);
+        let actions = self.machine.set_addresses(now, kept, added, is_listed);
+        let taken = actions.and_then(|actions| self.dispatcher.dispatch(actions));
+        self.note_deadline();
+        // A session that moves leaves no server for a missing answer.
+        self.dispatcher.update.is_left = false;
+        self.settle(now, taken)
     }
 
     /// A session without hosts has nothing to look for.
@@ -493,7 +521,7 @@ impl Engine {
 /// Tasks and moments.
 impl Engine {
     /// The driver's next task, until this moment at most.
-    pub(crate) fn plan(&mut self, until: Moment) -> Plan {
+    pub(crate) fn plan(&self, until: Moment) -> Plan {
         if matches!(self.phase, Phase::Stopped | Phase::Panicked) {
             return Plan::Stop;
         }

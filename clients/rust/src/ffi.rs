@@ -77,7 +77,7 @@ extern "C" {
     fn dw_session_bytes(handle: *mut Raw, now_ms: u64, bytes: *const u8, length: usize) -> i32;
     fn dw_session_cut(handle: *mut Raw, now_ms: u64) -> i32;
     fn dw_session_moment(handle: *mut Raw, now_ms: u64) -> i32;
-    fn dw_session_addresses(handle: *mut Raw, now_ms: u64, count: usize) -> i32;
+    fn dw_session_addresses(handle: *mut Raw, now_ms: u64, kept: usize, added: usize, is_listed: bool) -> i32;
     fn dw_session_exists(handle: *mut Raw, now_ms: u64, ticket: u64, until_ms: u64, path: *const u8, path_length: usize, watch: bool) -> i32;
     fn dw_session_get_data(handle: *mut Raw, now_ms: u64, ticket: u64, until_ms: u64, path: *const u8, path_length: usize, watch: bool) -> i32;
     fn dw_session_get_children(handle: *mut Raw, now_ms: u64, ticket: u64, until_ms: u64, path: *const u8, path_length: usize, watch: bool) -> i32;
@@ -555,9 +555,16 @@ impl Handle {
         done(unsafe { dw_session_failed(self.pointer(), now.as_millis()) })
     }
 
-    pub(crate) fn addresses(&mut self, now: Moment, count: usize) -> Result<(), Fault> {
+    pub(crate) fn addresses(
+        &mut self,
+        now: Moment,
+        kept: usize,
+        added: usize,
+        is_listed: bool,
+    ) -> Result<(), Fault> {
+        let (handle, now) = (self.pointer(), now.as_millis());
         // SAFETY: as `Handle` says.
-        done(unsafe { dw_session_addresses(self.pointer(), now.as_millis(), count) })
+        done(unsafe { dw_session_addresses(handle, now, kept, added, is_listed) })
     }
 
     /// Follows a side of a path, without a limit.

@@ -137,6 +137,10 @@ impl Hosts {
     pub(crate) fn len(&self) -> usize {
         self.hosts.len()
     }
+
+    pub(crate) fn has(&self, host: &Host) -> bool {
+        self.hosts.contains(host)
+    }
 }
 
 impl FromStr for Hosts {
@@ -233,8 +237,9 @@ pub(crate) enum DialOrder {
     AsListed,
 }
 
-/// Which host is at which place. The machine names places in a random order, one after the other, and always in the same one. So where the
-/// hosts are to be dialled as the list has them, each place gets the next host when it is named first.
+/// Which host is at which place. The machine wants those first that were listed before; it names places in a random order, one after the
+/// other, and always in the same one. So where the hosts are to be dialled as the list has them, each place gets the next host when it is
+/// named first.
 #[derive(Debug)]
 pub(crate) struct Places {
     order: DialOrder,
@@ -247,15 +252,28 @@ impl Places {
         Places { order, named }
     }
 
-    /// The list is another one, or the machine is.
+    /// The machine is another one.
     pub(crate) fn begin_again(&mut self) {
         self.named.clear();
+    }
+
+    /// The list is another one. How many of its hosts were in the list before.
+    pub(crate) fn change(&mut self, before: &Hosts, hosts: &Hosts) -> usize {
+        let is_kept = |index: &usize| before.hosts.contains(&hosts.hosts[*index]);
+        let (mut places, added): (Vec<usize>, Vec<usize>) = (0..hosts.len()).partition(is_kept);
+        let kept = places.len();
+        places.extend(added);
+        self.named = match self.order {
+            DialOrder::Shuffled => places,
+            DialOrder::AsListed => Vec::new(),
+        };
+        kept
     }
 
     /// The host of this list at a place that the machine names.
     pub(crate) fn host(&mut self, hosts: &Hosts, place: usize) -> Option<Host> {
         let index = match self.order {
-            DialOrder::Shuffled => place,
+            DialOrder::Shuffled => self.named.get(place).copied().unwrap_or(place),
             DialOrder::AsListed => self.index_of(place),
         };
         hosts.hosts.get(index).cloned()
@@ -362,6 +380,22 @@ mod tests {
         assert_eq!(listed, ["a", "b", "c", "a", "b"]);
         let mut none = Places::new(DialOrder::AsListed);
         assert_eq!(none.host(&Hosts::default(), 0), None);
+    }
+
+    #[test]
+    fn hosts_that_were_listed_before_have_the_first_places() {
+        let before = "a:1,b:1".parse().unwrap();
+        let hosts = "d:1,b:1,b:2,a:1".parse().unwrap();
+        let rows = [
+            (DialOrder::Shuffled, ["b:1", "a:1", "d:1", "b:2"]),
+            (DialOrder::AsListed, ["d:1", "b:1", "b:2", "a:1"]),
+        ];
+        for (order, wanted) in rows {
+            let mut places = Places::new(order);
+            assert_eq!(places.change(&before, &hosts), 2);
+            let named = [0, 1, 2, 3].map(|place| places.host(&hosts, place).unwrap());
+            assert_eq!(named.map(|host| host.to_string()), wanted);
+        }
     }
 
     #[test]

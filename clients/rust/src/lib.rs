@@ -82,6 +82,7 @@ mod paths;
 mod pending;
 mod queue;
 mod raw;
+mod recording;
 mod registration;
 mod request;
 mod retry;

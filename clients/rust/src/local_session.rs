@@ -149,7 +149,7 @@ impl Caller for LocalSession {
     }
 
     fn pass(&mut self, time: Duration) -> Result<(), Fault> {
-        let clock = self.inner().look(Engine::clock);
+        let clock = self.inner().clock();
         let until = clock.now().saturating_add(time);
         while !self.inner().look(Engine::is_over) && clock.now() < until {
             self.driver.turn(until)?;
@@ -182,7 +182,7 @@ impl LocalSession {
     ///
     /// [`Fault::NoMemory`] and [`Fault::Halted`].
     pub fn next_event(&mut self, until: Option<Instant>) -> Result<Option<Event>, Fault> {
-        let clock = self.inner().with(|engine| engine.clock());
+        let clock = self.inner().clock();
         let until = until.map_or(NEVER, |until| clock.moment_of(until));
         let mut is_past = false;
         loop {
@@ -231,7 +231,7 @@ impl LocalSession {
         until: Option<Instant>,
     ) -> Result<Option<TreeSnapshot>, Error> {
         self.driver.catch_up_if_late()?;
-        let clock = self.inner().with(|engine| engine.clock());
+        let clock = self.inner().clock();
         let until = until.map_or(NEVER, |until| clock.moment_of(until));
         let mut is_past = false;
         loop {

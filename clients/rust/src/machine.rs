@@ -244,13 +244,25 @@ impl Machine {
         self.step(|handle| handle.bytes(now, bytes))
     }
 
-    /// The list of addresses is another one, of this many, and they are dialled in a new order. A connection that is there stays.
+    /// The list of addresses is another one: first those that were in the list before, as many as `kept`, and after them those that were
+    /// not, as many as `added`. `is_listed` says whether it has that of the connection or of the attempt, or else the one that was dialled
+    /// last; it is true before the first.
+    ///
+    /// They are dialled in a new order, and the session may move, as those of ZooKeeper's own clients do: always if `is_listed` is false;
+    /// else by the chance by which the list has grown, and never if it has not. One that moves is told
+    /// [`HangUp`](crate::Action::HangUp).
     ///
     /// # Errors
     ///
     /// [`Fault::Halted`] and [`Fault::UnknownNumber`].
-    pub fn set_addresses(&mut self, now: Moment, count: usize) -> Result<Actions<'_>, Fault> {
-        self.step(|handle| handle.addresses(now, count))
+    pub fn set_addresses(
+        &mut self,
+        now: Moment,
+        kept: usize,
+        added: usize,
+        is_listed: bool,
+    ) -> Result<Actions<'_>, Fault> {
+        self.step(|handle| handle.addresses(now, kept, added, is_listed))
     }
 
     /// Follows the data of a node, or the names of its children, also of a node that is not there yet: it is read with a watch, and read

@@ -10,6 +10,7 @@ use crate::hosts::{DialOrder, Hosts, HostsFault};
 use crate::local_session::LocalSession;
 use crate::machine::Limits;
 use crate::outbox::Writer;
+use crate::recording::Recorder;
 use crate::retry::Retry;
 use crate::sasl::{Begin, LogIn, LoggingIn};
 use crate::saved::SavedSession;
@@ -20,6 +21,7 @@ use std::convert::Infallible;
 use std::error;
 use std::fmt;
 use std::io;
+use std::path::PathBuf;
 use std::sync::Arc;
 use std::time::Duration;
 
@@ -47,6 +49,8 @@ pub enum OpenError {
     Fault(Fault),
     /// The system has not made a thread.
     Thread(io::Error),
+    /// The file of the record cannot be made.
+    Record(io::Error),
     /// No server has accepted the session in time, or the servers refuse it: the error of a call that would have been asked. It has the
     /// last reason of each address.
     NotConnected(Error),
@@ -58,6 +62,7 @@ impl fmt::Display for OpenError {
             OpenError::Hosts(fault) => fault.fmt(f),
             OpenError::Fault(fault) => fault.fmt(f),
             OpenError::Thread(fault) => write!(f, "no thread for the session: {fault}"),
+            OpenError::Record(fault) => write!(f, "the record: {fault}"),
             OpenError::NotConnected(error) => error.fmt(f),
         }
     }
@@ -118,6 +123,7 @@ pub struct SessionOptions {
     dial: Box<dyn Dial>,
     log_in: Option<Begin>,
     observer: Option<Observer>,
+    record: Option<PathBuf>,
     opens_within: Duration,
 }
 
@@ -139,6 +145,7 @@ impl SessionOptions {
             dial: Box::new(Tcp),
             log_in: None,
             observer: None,
+            record: None,
             opens_within: OPENS_WITHIN,
         }
     }
@@ -260,6 +267,24 @@ impl SessionOptions {
         self
     }
 
+    /// Writes what the session is handed, and what it sends, into this file, from its beginning: `zk_shell` plays it again, to show a fault.
+    /// No password is in it, nor a credential; paths and data are. It is whole up to the last step. If it cannot be written any further,
+    /// [`Observation::RecordEnded`] says so, and the session goes on.
+    ///
+    /// ```no_run
+    /// use dirwolleu::SessionOptions;
+    /// use std::time::Duration;
+    ///
+    /// # fn main() -> Result<(), Box<dyn std::error::Error>> {
+    /// let session = SessionOptions::new(Duration::from_secs(10)).record("session.record").open("127.0.0.1:2181")?;
+    /// # Ok(())
+    /// # }
+    /// ```
+    pub fn record(mut self, file: impl Into<PathBuf>) -> SessionOptions {
+        self.record = Some(file.into());
+        self
+    }
+
     /// How long [`open`](SessionOptions::open) waits at most for a server that accepts the session: 15 seconds, unless this says otherwise.
     pub fn opens_within(mut self, limit: Duration) -> SessionOptions {
         self.opens_within = limit;
@@ -314,8 +339,9 @@ impl SessionOptions {
         Ok(LocalSession::driven_by(driver, retry, limit, renews))
     }
 
-    fn driver(self, hosts: Hosts, writer: Writer) -> Result<Driver, Fault> {
-        let engine = Engine::new(EngineOptions {
+    fn driver(self, hosts: Hosts, writer: Writer) -> Result<Driver, OpenError> {
+        let saved = self.saved.clone();
+        let mut engine = Engine::new(EngineOptions {
             timeout: self.timeout,
             limits: self.limits,
             hosts,
@@ -325,6 +351,10 @@ impl SessionOptions {
             limit: self.limit,
             credentials: self.credentials,
         })?;
+        if let Some(file) = &self.record {
+            let recorder = Recorder::create(file).map_err(OpenError::Record)?;
+            engine.record(recorder, saved.as_ref());
+        }
         let shared = Shared::new(engine, writer, self.observer);
         let (dial, longest) = (self.dial, self.limits.longest_answer);
         let dial = match self.log_in {

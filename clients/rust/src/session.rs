@@ -346,7 +346,8 @@ impl Session {
         self.wait_while(until, |engine| holds(View::of(engine)));
     }
 
-    /// Other hosts, from the next attempt to connect on, in a new order. The connection that is there stays.
+    /// Other hosts. The session moves to another one, as after a cut, if its own is not among them, and by the chance by which there are
+    /// more than before: as those of ZooKeeper's own clients do. Else it stays.
     ///
     /// # Errors
     ///

@@ -3,7 +3,7 @@
 use crate::engine::{Engine, Plan};
 use crate::events::Event;
 use crate::fault::Fault;
-use crate::moment::Moment;
+use crate::moment::{Clock, Moment};
 use crate::notify::Notify;
 use crate::outbox::{Outbox, Writer, Written};
 use crate::request::Request;
@@ -32,6 +32,7 @@ struct Wakers {
 /// An engine that threads share.
 pub(crate) struct Shared {
     engine: Mutex<Engine>,
+    clock: Clock,
     changed: Notify,
     wakers: Mutex<Wakers>,
     observer: Option<Observer>,
@@ -52,12 +53,17 @@ impl Shared {
         }
         Arc::new_cyclic(|own| Shared {
             observer,
+            clock: engine.clock(),
             engine: Mutex::new(engine),
             changed: Notify::default(),
             wakers: Mutex::default(),
             writer,
             own: Weak::clone(own),
         })
+    }
+
+    pub(crate) fn clock(&self) -> Clock {
+        self.clock
     }
 
     fn lock(&self) -> MutexGuard<'_, Engine> {
@@ -102,8 +108,12 @@ impl Shared {
     /// Wakes all threads that wait and all futures that were polled.
     pub(crate) fn notify_all(&self) {
         self.changed.notify_all();
-        let wakers = mem::take(&mut self.wakers().waiting);
-        wakers.into_values().for_each(Waker::wake);
+        let mut wakers = self.wakers();
+        if !wakers.waiting.is_empty() {
+            let waiting = mem::take(&mut wakers.waiting);
+            drop(wakers); // without the lock: what is woken may poll
+            waiting.into_values().for_each(Waker::wake);
+        }
     }
 
     fn wakers(&self) -> MutexGuard<'_, Wakers> {
@@ -194,14 +204,12 @@ impl Shared {
 
     /// The driver's next task, after a rest if there is time for one.
     pub(crate) fn plan(&self, until: Moment) -> Plan {
-        let mut engine = self.lock();
-        let mut plan = engine.plan(until);
+        let engine = self.lock();
+        let plan = engine.plan(until);
         if let Plan::Rest(moment) = plan {
-            let wait = moment.saturating_duration_since(engine.clock().now());
-            engine = self.rest(engine, wait);
-            plan = Plan::Rest(moment);
+            let wait = moment.saturating_duration_since(self.clock.now());
+            drop(self.rest(engine, wait));
         }
-        self.hand_out(engine);
         plan
     }
 
@@ -281,17 +289,14 @@ impl ExpireCalls for Shared {
 pub(crate) fn ask<T>(shared: &Arc<Shared>, request: Request<T>) -> Ticket<T> {
     let Request { asked, read } = request;
     let slot = Slot::new(asked.node(), CallKind::of(&asked.call));
-    let (wait, clock) = shared.with(|engine| {
-        let wait = engine.ask(asked, Arc::clone(&slot));
-        (wait, engine.clock())
-    });
+    let wait = shared.with(|engine| engine.ask(asked, Arc::clone(&slot)));
     if wait.is_to_wake {
         shared.wake();
     }
     let session: Weak<Shared> = Arc::downgrade(shared);
     let limit = CallLimit {
         moment: wait.until,
-        clock,
+        clock: shared.clock(),
         session,
     };
     Ticket::new(slot, read, limit)

@@ -194,6 +194,11 @@ pub enum Observation {
     BytesIn(usize),
     /// This many bytes were handed to the connection.
     BytesOut(usize),
+    /// The record of the session cannot be written any further, and ends. The session goes on.
+    RecordEnded {
+        /// Why.
+        why: String,
+    },
 }
 
 /// What is told what is observed.
@@ -327,6 +332,7 @@ impl Stats {
             } => self.note_answer(*kind, *outcome, *took),
             Observation::BytesIn(count) => self.bytes_in += *count as u64,
             Observation::BytesOut(count) => self.bytes_out += *count as u64,
+            Observation::RecordEnded { .. } => {}
         }
     }
 

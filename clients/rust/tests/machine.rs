@@ -307,7 +307,7 @@ fn each_address_is_dialled_in_a_round() {
     assert_eq!(places[..3], places[3..]);
     places[..3].sort_unstable();
     assert_eq!(places[..3], [0, 1, 2]);
-    let _ = machine.set_addresses(after(360_000), 0).unwrap();
+    let _ = machine.set_addresses(after(360_000), 0, 0, true).unwrap();
     assert_eq!(machine.deadline(), None);
 }
 

@@ -2,11 +2,12 @@
 
 use dirwolleu::testing::Server;
 use dirwolleu::{
-    Acl, Code, Error, Lock, Mark, Mode, PathFault, Permissions, Session, SessionOptions, Sharing,
-    ANY_VERSION,
+    Acl, Code, Error, Lock, Mark, Mode, PathFault, Permissions, Request, Session, SessionOptions,
+    Sharing, ANY_VERSION,
 };
 use std::io::{ErrorKind, Read};
 use std::net::TcpStream;
+use std::process;
 use std::thread;
 use std::time::{Duration, Instant};
 
@@ -235,10 +236,36 @@ fn a_lock_goes_to_the_next_session() {
 
 #[test]
 fn a_port_that_is_taken_is_told() {
-    let server = Server::start().unwrap();
+    // below those that a system gives away, so that nobody gets it in between
+    let own = 20_000 + u16::try_from(process::id() % 10_000).unwrap();
+    let mut ports = (own..30_000).chain(20_000..own);
+    let server = ports.find_map(|port| Server::start_at(port).ok()).unwrap();
     let taken = Server::start_at(server.port()).unwrap_err();
     assert_eq!(taken.kind(), ErrorKind::AddrInUse);
     let port = server.port();
     drop(server);
     assert_eq!(Server::start_at(port).unwrap().port(), port);
+}
+
+#[test]
+fn a_session_moves_where_its_host_is_listed_no_more() {
+    let server = Server::start().unwrap();
+    let session = Session::open(server.hosts(), TIMEOUT).unwrap();
+    session.create("/a", b"0", Mode::Ephemeral).unwrap();
+    let (id, came) = (session.id().unwrap(), server.connections());
+    let same = server.hosts().parse().unwrap();
+    assert_eq!(session.change_hosts(same), Ok(()));
+    assert!(session.get("/a").is_ok());
+    assert_eq!(server.connections(), came);
+    for (moves, name) in (1..).zip(["localhost", "127.0.0.1", "localhost"]) {
+        let read = session.ask(Request::get("/a"));
+        let other = format!("{name}:{}", server.port()).parse().unwrap();
+        assert_eq!(session.change_hosts(other), Ok(()));
+        assert!(read.wait().is_ok());
+        assert!(session.get("/a").is_ok());
+        assert_eq!(
+            (session.id().unwrap(), server.connections()),
+            (id, came + moves)
+        );
+    }
 }

@@ -10,7 +10,10 @@ use Rattle.zk_turns.specs.Rule.{Stands}
 use Rattle.zk_client.specs.Clients.{view_of}
 use Rattle.zk_client.specs.SavedSessions.{PutAway, bytes_read}
 use Rattle.zk_client.specs.declared.saved_fault.SavedFault.{SavedFault}
+use Rattle.std.specs.declared.alloc.Global.{Global}
+use Rattle.zk_agent.specs.declared.action.Action.{Action}
 use Rattle.zk_agent.specs.declared.agent.Agent.{Agent}
+use Rattle.zk_agent.specs.declared.input.AgentInput.{AgentInput}
 use Rattle.zk_agent.specs.Agents.{IsLed}
 use Rattle.zk_agent.specs.Calls.{IsInTime, IsServed}
 use Rattle.zk_calls.specs.declared.line.Line.{Line}
@@ -19,7 +22,8 @@ use Rattle.ffi_device.specs.Refused.{RefusesTimeout}
 use Rattle.ffi_device.specs.Sessions.{put_start}
 use Rattle.ffi_device.specs.declared.flat.Flat.{Flat}
 use Rattle.ffi_device.specs.Happenings.{Happening}
-use Rattle.ffi_device.specs.Taking.{AreFollowed}
+use Rattle.ffi_device.specs.Chains.{Part, TookAll}
+use Rattle.ffi_device.specs.Taking.{AgentTook, AreFollowed}
 use Rattle.ffi_device.specs.Steps as step
 use Rattle.ffi_device.specs.Steps.{BeginsWith, Stepped, within}
 use Rattle.ffi_device.specs.declared.device.Device.{Device}
@@ -39,6 +43,16 @@ empty_holds_none session held empty is = absurd (let e : None ≡ Some session =
 
 pub in_held : (P : Device → Type 0) (session : Device) (held : Option Device) → Holds held P → held ≡ Some session → P session
 in_held P session held holds is = subst (λ h. IfSome h P) is holds.1
+
+-- the same of an agent by itself
+record IsSoundAgent (agent : Agent Global) : Type 0 where
+  led : IsLed (view_of agent.asker.follower.client)
+  followed : AreFollowed agent
+  served : All (IsServed (view_of agent.asker.follower.client)) agent.asker.line.entries.items
+  limits : All (IsInTime agent.latest) agent.asker.line.entries.items
+
+of_session : (session : Device) → IsSound session → IsSoundAgent session.agent
+of_session session sound = record { led = sound.led; followed = sound.followed; served = sound.served; limits = sound.limits }
 
 begun : (start : Start) (session : Device) → BeginsWith (view_at start []) session → IsSound session
 begun start session begins = record {
@@ -64,15 +78,28 @@ resumed limits timeout saved code before after (Ok put) reads does session is on
     made (RefusesTimeout timeout) (within limits (put_start timeout put)) code after (does.0 put reads) session is on
 resumed limits timeout saved code before after (Err fault) reads does session is on = empty_holds_none session after (does.1 fault reads) is
 
+-- what an agent took leaves it sound, and so does all that it takes after that
+part_sound : (now : ℕ) (given : AgentInput Global) (from to : Agent Global) (said : List (Action Global))
+    → IsLed (view_of from.asker.follower.client) → AgentTook now given from to said → IsSoundAgent to
+part_sound now given from to said led took = record {
+  led = took.comes.led led;
+  followed = took.followed;
+  served = took.served;
+  limits = took.limits;
+}
+
+all_sound_on : (now : ℕ) (parts : List Part) (from to : Agent Global) → IsSoundAgent from → TookAll now from parts to → IsSoundAgent to
+all_sound_on now [] from to sound same = subst IsSoundAgent same sound
+all_sound_on now (part ∷ parts) from to sound took =
+    all_sound_on now parts took.0 to (part_sound now part.given from took.0 part.said sound.led took.1) took.2
+
 stepped : (now : ℕ) (what : Happening) (old session : Device) → Sound (Some old) → Stepped now what old session → IsSound session
 stepped now what old session sound does =
-    let took = does.took.took in
-    record {
-      led = took.comes.led (sound old refl does.took.went_on).led;
-      followed = took.followed;
-      served = took.served;
-      limits = took.limits;
-    }
+    let took = does.took in
+    let was = sound old refl took.went_on in
+    let parts : List Part = record { given = does.given; said = took.said } ∷ took.own in
+    let is = all_sound_on now parts old.agent session.agent (of_session old was) took.took in
+    record { led = is.led; followed = is.followed; served = is.served; limits = is.limits }
 
 over_goes_on : {P : Type 0} (is_over : Bool) → is_over ≡ true → is_over ≡ false → P
 over_goes_on is_over over on = absurd (true≢false (sym over ∙ on))

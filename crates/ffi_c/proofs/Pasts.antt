@@ -3,7 +3,7 @@
 use Rattle.std.proofs.Common.{◌≡◌, ◌++◌, ◌+◌, inl, inr, ℕ, zero, suc, ℤ, pos, negsuc, Bool, true, false, cond, List, [], ◌∷◌, Option}
 use Rattle.std.proofs.Common.{Some, None, map, refl, sym, ap, subst, ◌∙◌, append_assoc}
 use native.Mathlib.Omega.{arith}
-use Rattle.std.proofs.lemmas.List.{append-nil, reverse-append}
+use Rattle.std.proofs.lemmas.List.{append-nil, map-append, reverse-append}
 use Rattle.std.proofs.lemmas.List.Elements.{filter-append}
 use Rattle.std.specs.Prelude.{◌==◌, Result, Ok, Err, fold, reverse, slice_index_or, unsigned_abs}
 use Rattle.std.specs.List.{flat_map, list_any, AllByRecursion, FoldsTo}
@@ -31,6 +31,7 @@ use Rattle.zk_calls.specs.declared.entry.Ending.{Ending}
 use Rattle.zk_calls.specs.declared.entry.Ending.TheVariants as ending
 use Rattle.zk_calls.specs.Lines.{answered, ended, ended_of, settles}
 use Rattle.zk_calls.specs.declared.line.Line.{Line}
+use Rattle.zk_agent.specs.declared.action.Action.{Action}
 use Rattle.zk_agent.specs.declared.agent.Agent.{Agent}
 use Rattle.zk_agent.specs.declared.input.AgentInput.{AgentInput}
 use Rattle.zk_agent.specs.declared.input.AgentInput.TheVariants as happens
@@ -43,19 +44,22 @@ use Rattle.zk_agent.specs.Calls.{endings, how_many, tells_all}
 use Rattle.zk_agent.specs.Calls as calls
 use Rattle.zk_agent.specs.Replies.{is_lost}
 use Rattle.zk_agent.specs.Telling.{Told, Says, HangsUp, Begins, Introduces, TellsTree, closed_told, due_told, ended_told, judged_told}
-use Rattle.zk_agent.specs.Telling.{news_told}
+use Rattle.zk_agent.specs.Telling.{action_view, news_told, told_by}
 use Rattle.ffi_device.specs.Refused.{RefusesTimeout}
 use Rattle.ffi_device.specs.Sessions.{put_start}
 use Rattle.ffi_device.specs.declared.flat.Flat.{Flat}
+use Rattle.ffi_device.specs.Chains.{Part, TookAll}
 use Rattle.ffi_device.specs.Happenings.{Happening, happening}
+use Rattle.ffi_device.specs.Taking.{AgentTook}
 use Rattle.ffi_device.specs.Steps.{BeginsWith, Stepped, Stopped, within}
 use Rattle.ffi_device.specs.declared.device.Device.{Device}
 use Rattle.ffi_c.specs.Held.{ForgetsStale, Holds, Makes, Tells, TellsAll}
 use Rattle.ffi_c.specs.Lives.{Use, Opens, Resumes, Steps, Reads, ReadsAll, Forgets, Looks, Frees, Does as Uses_so}
 use Rattle.ffi_c.specs.Lives.{Used, held_after, IsLife, RefusesHappening}
-use Rattle.ffi_c.specs.Pasts.{IsRead, AreHeard, AreLeft, Chapter, with_turns, Moves, Advances, Breaks}
+use Rattle.ffi_c.specs.Pasts.{IsRead, AreHeard, AreLeft, Chapter, with_turns, Moves, Takes, TakesAll, Advances, Breaks}
 use Rattle.ffi_c.specs.Pasts.{CameBy, Came, reported, reported_by, told_reports, asked_by, settled_by, how_many_asked}
 use Rattle.ffi_c.specs.Pasts.{how_many_settled, CoherentForLife}
+use Rattle.ffi_c.proofs.Chains.{calls_told, inputs_own, reported_but}
 use Rattle.ffi_c.proofs.Lives.{empty_holds_none, fresh, in_held}
 
 -- ---- lists
@@ -349,7 +353,7 @@ module _ {A : Type 0} (timeout : ℤ) (base : List Output) where
     ([], refl, refl),
     stays old new _ does refl refl (told_more base old.told (HangsUp ∷ []) (λ before. refl)) chapter sits,
   )
-  by_move (Addressed count) old new does chapter sits =
+  by_move (Addressed kept added is_listed) old new does chapter sits =
       (with_more [] chapter, ([], refl, refl), stays old new _ does.1 refl refl refl chapter sits)
   by_move (Decides now due) old new does chapter sits = (
     with_more [] chapter,
@@ -376,6 +380,41 @@ module _ {A : Type 0} (timeout : ℤ) (base : List Output) where
       let one = by_move move old does.0 does.1 chapter sits in
       let rest = through moves does.0 new does.2 one.0 one.2 in
       (rest.0, (one.0, one.1, rest.1), rest.2)
+
+-- what an agent takes, one input after the other
+part_goes : (moment : ℕ) (given : AgentInput Global) (from to : Agent Global) (said : List (Action Global))
+    → AgentTook moment given from to said → (base : List Output) (chapter : Chapter) → Sits from.timeout_ms base (trail_of from []) chapter
+    → (next : Chapter) × Takes moment given from to chapter next × Sits from.timeout_ms base (trail_of to said) next
+part_goes moment given from to said took base chapter sits =
+    let comes = took.comes in
+    let led = through from.timeout_ms base comes.moves (trail_of from []) (trail_of to said) comes.does chapter sits in (
+      led.0,
+      record { moves = comes.moves; outside = comes.comes; at = comes.at; leads = led.1; latest = took.latest },
+      led.2,
+    )
+
+all_go : (moment : ℕ) (parts : List Part) (from to : Agent Global) → TookAll moment from parts to
+    → (base : List Output) (chapter : Chapter) → Sits from.timeout_ms base (trail_of from []) chapter
+    → (next : Chapter) × TakesAll moment (from, chapter) (map (λ part. part.given) parts) (to, next)
+    × Stands next.start next.items (view_of to.asker.follower.client)
+    × (fold reported base (told_by (flat_map (λ part. part.said) parts)) ≡ reports_in (outputs_of next.items))
+all_go moment [] from to same base chapter sits = (
+  chapter,
+  ap (λ (agent : Agent Global). (agent, chapter)) same,
+  subst (λ (agent : Agent Global). Stands chapter.start chapter.items (view_of agent.asker.follower.client)) same sits.stands,
+  sits.told,
+)
+all_go moment (part ∷ parts) from to took base chapter sits =
+    let one = part_goes moment part.given from took.0 part.said took.1 base chapter sits in
+    let told : List Told = told_by part.said in
+    let rest = all_go moment parts took.0 to took.2 (fold reported base told) one.0
+    (record { stands = one.2.stands; asks = refl; told = one.2.told }) in (
+      rest.0,
+      ((took.0, one.0), one.1, rest.1),
+      rest.2,
+      ap (fold reported base) (map-append action_view part.said (flat_map (λ part. part.said) parts))
+          ∙ fold_more reported base told (told_by (flat_map (λ part. part.said) parts)) ∙ rest.3,
+    )
 
 -- ---- where memory runs out
 
@@ -467,7 +506,7 @@ asked_so ticket moment happens.Failed n = omega arith
 asked_so ticket moment (happens.Bytes bytes) n = omega arith
 asked_so ticket moment happens.Cut n = omega arith
 asked_so ticket moment happens.Moment n = omega arith
-asked_so ticket moment (happens.Addresses count) n = omega arith
+asked_so ticket moment (happens.Addresses kept added is_listed) n = omega arith
 asked_so ticket moment (happens.Credential credential) n = omega arith
 asked_so ticket moment (happens.Follow its side path) n = omega arith
 asked_so ticket moment (happens.Unfollow its) n = omega arith
@@ -496,10 +535,10 @@ module _ (Earlier : Chapter → Type 0) (reports : List Output) (settled asked :
   stepped : (moment : ℕ) (what : Happening) (old now : Device) → Was old → Stepped moment what old now
       → IsOne (Steps moment what (pos zero)) (Some old) (Some now) now
   stepped moment what old now was does =
-      let took = does.took.took in
-      let comes = took.comes in
-      let led = through old.agent.timeout_ms reports comes.moves (trail_of old.agent []) (trail_of now.agent now.said.items) comes.does
-      was.chapter (record { stands = was.stands; asks = refl; told = was.told does.took.went_on }) in
+      let took = does.took in
+      let parts : List Part = record { given = does.given; said = took.said } ∷ took.own in
+      let led = all_go moment parts old.agent now.agent took.took reports was.chapter
+      (record { stands = was.stands; asks = refl; told = was.told took.went_on }) in
       record {
         chapter = led.0;
         came = (
@@ -513,17 +552,17 @@ module _ (Earlier : Chapter → Type 0) (reports : List Output) (settled asked :
             record {
               given = does.given;
               is = does.is;
-              moves = comes.moves;
-              outside = comes.comes;
-              at = comes.at;
-              leads = led.1;
+              own = map (λ part. part.given) took.own;
+              takes = led.1;
+              are_own = inputs_own took.own took.are_own;
+              alone = ap (map (λ (part : Part). part.given)) took.alone.0;
             },
           ),
         );
-        stands = led.2.stands;
-        told = λ on. led.2.told;
-        calls = λ on ticket. balances (how_many ticket now.agent.asker.line.entries.items) _ _ _ _ _ (took.calls ticket)
-            (was.calls does.took.went_on ticket)
+        stands = led.2;
+        told = λ on. reported_but (flat_map (λ part. part.said) parts) now.said.items took.told reports ∙ led.3;
+        calls = λ on ticket. balances (how_many ticket now.agent.asker.line.entries.items) _ _ _ _ _
+            (calls_told moment ticket does.given old now took (inr took.alone)) (was.calls took.went_on ticket)
             ∙ sym (asked_so ticket moment does.given (asked ticket))
             ∙ ap (λ w. asked_by ticket (Steps moment w (pos zero)) (asked ticket)) does.is;
       }

@@ -2,6 +2,7 @@
 -- one does raises the number. So where the number is the same nothing good has changed.
 use Rattle.std.proofs.Common.{◌≡◌, ◌≤◌, ◌<◌, ◌-◌, ◌^◌, ◌||◌, ℕ, zero, suc, ℤ, pos, negsuc, Bool, true, false, cond, List, [], ◌∷◌, ◌++◌}
 use Rattle.std.proofs.Common.{Option, Some, None, nat_lt, length, map, refl, sym, ap, subst, ◌∙◌, arith}
+use Rattle.std.proofs.lemmas.List.{map-append}
 use Rattle.std.proofs.lemmas.List.Folds.{list_any-append}
 use Rattle.std.specs.Prelude.{nat_le}
 use Rattle.std.specs.List.{filter, flat_map, list_any, AllByRecursion, FoldsTo}
@@ -34,16 +35,20 @@ use Rattle.zk_dialler.specs.declared.dialler.Phase.TheVariants.{Dialling}
 use Rattle.zk_follow.specs.Following.{news_in, outputs_in}
 use Rattle.zk_calls.specs.declared.entry.Entry.{Entry}
 use Rattle.zk_calls.specs.declared.entry.Ending.TheVariants as ending
+use Rattle.zk_agent.specs.declared.action.Action.{Action}
 use Rattle.zk_agent.specs.declared.agent.Agent.{Agent}
 use Rattle.zk_agent.specs.declared.input.AgentInput.{AgentInput}
 use Rattle.zk_agent.specs.declared.input.AgentInput.TheVariants as happens
 use Rattle.zk_agent.specs.Agents.{Trail, Move, Hears, Hands, Renews, Follows, Unfollows, Asks, GivesUp, Tires, Opened, Ended, HungUp}
 use Rattle.zk_agent.specs.Agents.{Closes, Addressed, Decides, Tends, Presents, Does, HearsSo, IsLed, LeavesWhere, LetsGoWhere, given_of}
-use Rattle.zk_agent.specs.Agents.{is_given, moves_of, opened_at, trail_of}
+use Rattle.zk_agent.specs.Agents.{is_given, leaves_with, left_at, moves_of, opened_at, trail_of}
 use Rattle.zk_agent.specs.Calls.{endings, handed, hears, tells, tells_all}
-use Rattle.zk_agent.specs.Telling.{Told, Says, HangsUp, Begins, Introduces, TellsTree, due_told, judged_told, news_told, told_by}
+use Rattle.zk_agent.specs.Telling.{Told, Says, HangsUp, Begins, Introduces, TellsTree, action_view, due_told, judged_told, news_told}
+use Rattle.zk_agent.specs.Telling.{told_by}
+use Rattle.ffi_device.specs.Chains.{Part, TookAll}
 use Rattle.ffi_device.specs.Happenings.{Happening as What, happening, is_bytes}
 use Rattle.ffi_device.specs.Revisions.{is_another}
+use Rattle.ffi_device.specs.Taking.{AgentTook}
 use Rattle.ffi_device.specs.Steps as step
 use Rattle.ffi_device.specs.Steps.{Stepped}
 use Rattle.ffi_device.specs.declared.device.Device.{Device}
@@ -52,6 +57,7 @@ use Rattle.ffi_c.specs.Held.{ForgetsStale, Tells, TellsAll}
 use Rattle.ffi_c.specs.Lives.{Use, Opens as Opens_one, Resumes, Steps, Reads, ReadsAll, Forgets, Looks, Frees, Does as Uses_so, Used}
 use Rattle.ffi_c.specs.Lives.{held_after, IsLife, GoesOn, AllGoOn, RefusesHappening, SameForLife}
 use Rattle.ffi_c.specs.Pasts.{IsRead, with_turns}
+use Rattle.ffi_c.proofs.Chains.{all_no_bytes, another_but}
 use Rattle.ffi_c.proofs.Lives.{empty_holds_none, fresh, in_held}
 use Rattle.ffi_c.proofs.Pasts.{add_turns, forget_stands, heard_said, heard_turns, reads_are, stands_in}
 
@@ -346,7 +352,7 @@ moved (GivesUp now) old new does own led = stays old new _ does refl (λ e. (par
 moved (Opened now) old new does own led = stays old new _ does.1 refl (λ e. e) led
 moved (Ended now) old new does own led = stays old new _ does.1 refl (λ e. e) led
 moved HungUp old new does own led = stays old new _ does refl (λ e. (parted old.told (HangsUp ∷ []) e).0) led
-moved (Addressed count) old new does own led = stays old new _ does.1 refl (λ e. e) led
+moved (Addressed kept added is_listed) old new does own led = stays old new _ does.1 refl (λ e. e) led
 moved (Decides now due) old new does own led = stays old new _ does.last refl (λ e. (parted old.told (due_told due) e).0) led
 moved Closes old new does own led = stays old new _ does.last refl (λ e. (parted old.told _ e).0) led
 moved (Tends one) old new does own led = stays old new _ does refl (λ e. (parted old.told (TellsTree one ∷ []) e).0) led
@@ -367,25 +373,30 @@ opened_own : (phase : Phase) (now : ℕ) → AllByRecursion IsNoHearing (opened_
 opened_own (Dialling began until) now = (tt, (tt, tt))
 opened_own _ now = (tt, (tt, (tt, tt)))
 
-given_own : (phase : Phase) (now : ℕ) (given : AgentInput Global) → is_bytes (happening given) ≡ false
-    → AllByRecursion IsNoHearing (given_of phase now given)
-given_own phase now happens.Opened e = opened_own phase now
-given_own phase now happens.Failed e = (tt, (tt, tt))
-given_own phase now happens.Cut e = (tt, (tt, tt))
-given_own phase now (happens.Bytes bytes) e = absurd cc
-given_own phase now happens.Moment e = (tt, tt)
-given_own phase now (happens.Addresses count) e = (tt, (tt, tt))
-given_own phase now (happens.Call ticket call until) e = (tt, (tt, tt))
-given_own phase now (happens.Credential credential) e = (tt, tt)
-given_own phase now (happens.Follow ticket side path) e = (tt, (tt, tt))
-given_own phase now (happens.Unfollow ticket) e = (tt, (tt, tt))
-given_own phase now (happens.FollowTree ticket root most) e = (tt, tt)
-given_own phase now (happens.UnfollowTree ticket) e = (tt, tt)
+left_own : (leaves : Bool) (now : ℕ) → AllByRecursion IsNoHearing (left_at leaves now)
+left_own true now = (tt, (tt, (tt, tt)))
+left_own false now = (tt, tt)
+
+given_own : (dialler : Dialler Global) (now : ℕ) (given : AgentInput Global) → is_bytes (happening given) ≡ false
+    → AllByRecursion IsNoHearing (given_of dialler now given)
+given_own dialler now happens.Opened e = opened_own dialler.phase now
+given_own dialler now happens.Failed e = (tt, (tt, tt))
+given_own dialler now happens.Cut e = (tt, (tt, tt))
+given_own dialler now (happens.Bytes bytes) e = absurd cc
+given_own dialler now happens.Moment e = (tt, tt)
+given_own dialler now (happens.Addresses kept added is_listed) e =
+    (tt, left_own (leaves_with dialler kept added is_listed) now)
+given_own dialler now (happens.Call ticket call until) e = (tt, (tt, tt))
+given_own dialler now (happens.Credential credential) e = (tt, tt)
+given_own dialler now (happens.Follow ticket side path) e = (tt, (tt, tt))
+given_own dialler now (happens.Unfollow ticket) e = (tt, (tt, tt))
+given_own dialler now (happens.FollowTree ticket root most) e = (tt, tt)
+given_own dialler now (happens.UnfollowTree ticket) e = (tt, tt)
 
 step_own : (is_open : Bool) (now : ℕ) (given : AgentInput Global) (agent : Agent Global) → is_bytes (happening given) ≡ false
     → AllByRecursion IsNoHearing (moves_of is_open now given agent)
 step_own is_open now given agent e =
-    all_both IsNoHearing (given_of agent.dialler.phase now given) _ (given_own agent.dialler.phase now given e) (tt, tt)
+    all_both IsNoHearing (given_of agent.dialler now given) _ (given_own agent.dialler now given e) (tt, tt)
 
 -- those that come from outside are the only ones that could be bytes
 outside_own : (all : List Move) → AllByRecursion IsNoHearing (filter is_given all) → AllByRecursion IsNoHearing all
@@ -404,8 +415,35 @@ outside_own (Asks ticket asked until ∷ all) own = (tt, outside_own all own.1)
 outside_own (Opened now ∷ all) own = (tt, outside_own all own.1)
 outside_own (Ended now ∷ all) own = (tt, outside_own all own.1)
 outside_own (HungUp ∷ all) own = (tt, outside_own all own.1)
-outside_own (Addressed count ∷ all) own = (tt, outside_own all own.1)
+outside_own (Addressed kept added is_listed ∷ all) own = (tt, outside_own all own.1)
 outside_own (Presents judged frames ∷ all) own = (tt, outside_own all own.1)
+
+-- ---- inputs that are no bytes
+
+abbrev IsNoBytesIn : Part → Type 0
+IsNoBytesIn part = is_bytes (happening part.given) ≡ false
+
+part_calm : (now : ℕ) (part : Part) (from to : Agent Global)
+    → IsNoBytesIn part → IsLed (view_of from.asker.follower.client) → AgentTook now part.given from to part.said
+    → is_told (told_by part.said) ≡ false → IsUnchanged (view_of from.asker.follower.client) (view_of to.asker.follower.client)
+part_calm now part from to none led took quiet =
+    let comes = took.comes in
+    let own = subst (AllByRecursion IsNoHearing) (sym comes.comes) (step_own _ _ part.given from none) in
+    ((moves comes.moves (trail_of from []) (trail_of to part.said) comes.does (outside_own comes.moves own) led).calm quiet).1
+
+all_calm : (now : ℕ) (parts : List Part) (from to : Agent Global)
+    → AllByRecursion IsNoBytesIn parts → IsLed (view_of from.asker.follower.client) → TookAll now from parts to
+    → is_told (told_by (flat_map (λ part. part.said) parts)) ≡ false
+    → IsUnchanged (view_of from.asker.follower.client) (view_of to.asker.follower.client)
+all_calm now [] from to none led same quiet =
+    subst (λ (agent : Agent Global). IsUnchanged (view_of from.asker.follower.client) (view_of agent.asker.follower.client)) same
+    (itself (view_of from.asker.follower.client))
+all_calm now (part ∷ parts) from to none led took quiet =
+    let rest : List (Action Global) = flat_map (λ part. part.said) parts in
+    let both = parted (told_by part.said) (told_by rest) (sym (ap is_told (map-append action_view part.said rest)) ∙ quiet) in
+    through (view_of from.asker.follower.client) (view_of took.0.asker.follower.client) (view_of to.asker.follower.client)
+    (part_calm now part from took.0 none.0 led took.1 both.0)
+    (all_calm now parts took.0 to none.1 (took.1.comes.led led) took.2 both.1)
 
 -- ---- one use
 
@@ -439,17 +477,15 @@ module _ (n : ℕ) (lt : n < 2 ^ 64 - 1) where
       → IsLed (shown old) → n ≤ old.revision.number → Stepped now what old session → Keeps old session
   stepped_keeps now what old session led from does =
       let took = does.took in
-      let comes = took.took.comes in
       let told = told_by session.said.items in
+      let parts : List Part = record { given = does.given; said = took.said } ∷ took.own in
       let came = is_bytes (happening does.given) in record {
         least = subst (λ (m : ℕ). n ≤ m) (sym took.number) (least_by (came || is_told told) old.revision.number from);
         same = λ e.
             let quiet = quiet_by (came || is_told told) old.revision.number from (sym took.number ∙ e) in
-            let parts = or_parts came (is_told told) quiet.0 in
-            let own = subst (AllByRecursion IsNoHearing) (sym comes.comes) (step_own _ _ does.given old.agent parts.0) in
-            let calm = moves comes.moves (trail_of old.agent []) (trail_of session.agent session.said.items) comes.does
-            (outside_own comes.moves own) led in
-            (quiet.1, (calm.calm parts.1).1);
+            let rest = or_parts came (is_told told) quiet.0 in
+            let all = sym (another_but (flat_map (λ part. part.said) parts) session.said.items took.told) ∙ rest.1 in
+            (quiet.1, all_calm now parts old.agent session.agent (rest.0, all_no_bytes took.own took.are_own) led took.took all);
       }
 
   steps_keep : (Refuses : ℤ → Type 0) (now : ℕ) (what : What) (code : ℤ) (old session : Device)

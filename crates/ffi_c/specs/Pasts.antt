@@ -19,6 +19,7 @@ use Rattle.zk_client.specs.Runs as run
 use Rattle.zk_client.specs.SavedSessions.{PutAway, bytes_read}
 use Rattle.zk_dialler.specs.Dialling.{is_open}
 use Rattle.zk_follow.specs.Following.{outputs_in, read_of}
+use Rattle.zk_agent.specs.declared.agent.Agent.{Agent}
 use Rattle.zk_agent.specs.declared.input.AgentInput.{AgentInput}
 use Rattle.zk_agent.specs.Agents.{Advance, ByRenewal, ByTurn, Hands, Hears, IsAt, Move, Renews, Tires, how_many_ended, is_given, moves_of}
 use Rattle.zk_agent.specs.Calls.{how_many}
@@ -27,6 +28,7 @@ use Rattle.zk_agent.specs.Telling.{Told, Says, Begins, told_by}
 use Rattle.ffi_device.specs.Sessions.{put_start}
 use Rattle.ffi_device.specs.Happenings as happens
 use Rattle.ffi_device.specs.Happenings.{Happening, happening}
+use Rattle.ffi_device.specs.Chains.{IsOwn}
 use Rattle.ffi_device.specs.Steps.{within}
 use Rattle.ffi_device.specs.declared.device.Device.{Device}
 use Rattle.ffi_c.specs.Lives.{Forgets, Frees, IsLife, Opens, Resumes, Steps, Use, Used, held_after}
@@ -82,15 +84,31 @@ abbrev pub Moves : (timeout : ℤ) → Chapter → Move → Chapter → Type 0
 Moves timeout old Renews new = BeginsAnew timeout old new
 Moves timeout old move new = (made : List Turn) × AreOf move made × (new ≡ record old { items = with_turns made old.items })
 
--- A step. Of its moves those that come from outside are those of what was handed in, and no other: so the bytes that the client heard, and
--- when its connections began, are what the caller handed in.
+-- The agent takes one input. Of its moves those that come from outside are those of this input, and no other.
+pub record Takes (moment : ℕ) (given : AgentInput Global) (before after : Agent Global) (old new : Chapter) : Type 0 where
+  pub moves : List Move
+  pub outside : filter is_given moves ≡ moves_of (is_open after.dialler.phase) (max before.latest moment) given before
+  pub at : AllByRecursion (IsAt (max before.latest moment)) moves
+  pub leads : FoldsTo (Moves before.timeout_ms) old moves new
+  pub latest : after.latest ≡ max before.latest moment
+
+-- It takes inputs at one moment, one after the other.
+abbrev pub TakesAll : (moment : ℕ) → (before : Agent Global × Chapter) → List (AgentInput Global) → (after : Agent Global × Chapter)
+    → Type 0
+TakesAll moment before inputs after =
+    FoldsTo (λ (from : Agent Global × Chapter) (given : AgentInput Global) to. Takes moment given from.0 to.0 from.1 to.1)
+    before inputs after
+
+-- A step: its agent takes what was handed in, and then nothing but calls of the device's own, none of which brings bytes or begins a
+-- connection. So the bytes that the client heard, and when its connections began, are what the caller handed in. No device has asked any
+-- such call yet.
 pub record Goes (moment : ℕ) (what : Happening) (before after : Device) (old new : Chapter) : Type 0 where
   pub given : AgentInput Global
   pub is : happening given ≡ what
-  pub moves : List Move
-  pub outside : filter is_given moves ≡ moves_of (is_open after.agent.dialler.phase) (max before.agent.latest moment) given before.agent
-  pub at : AllByRecursion (IsAt (max before.agent.latest moment)) moves
-  pub leads : FoldsTo (Moves before.agent.timeout_ms) old moves new
+  pub own : List (AgentInput Global)
+  pub takes : TakesAll moment (before.agent, old) (given ∷ own) (after.agent, new)
+  pub are_own : AllByRecursion (λ its. IsOwn (happening its)) own
+  pub alone : own ≡ []
 
 -- A step within which memory ran out. The client went on by turns and renewals, and then halted, or stayed as it was.
 abbrev pub Advances : (timeout : ℤ) → Chapter → Advance → Chapter → Type 0

@@ -9,7 +9,8 @@ ghost use Rattle.zk_client.specs.declared.saved_fault.SavedFault.{SavedFault};
 ghost use Rattle.zk_client.specs.declared.saved_fault.SavedFault.TheVariants as saved_faults;
 ghost use Rattle.ffi_device.specs.Refused.{RefusesTimeout};
 ghost use Rattle.ffi_device.specs.Sessions.{put_start};
-ghost use Rattle.ffi_device.specs.Steps.{within};
+ghost use Rattle.ffi_device.specs.Steps.{Dials, within};
+ghost use Rattle.ffi_device.specs.declared.device.Device.{Device};
 ghost use Rattle.ffi_c.specs.Held.{Makes, MakesWithin};
 
 use crate::handle::DwSession;
@@ -39,7 +40,8 @@ pub extern "C" fn dw_session_open(
     addresses: usize,
     seed: u64,
 ) -> i32
-    ensures { Makes (RefusesTimeout timeout_ms) (new_start (unsigned_abs timeout_ms)) result handle.new.slot.held }
+    ensures makes { Makes (RefusesTimeout timeout_ms) (new_start (unsigned_abs timeout_ms)) result handle.new.slot.held }
+    ensures dials { (d : Device) → handle.new.slot.held ≡ Some d → Dials addresses seed d.agent.dialler }
 {
     *handle = DwSession::closed(alloc);
     match Device::open(alloc, timeout_ms, addresses, seed, FrameLimits::standard()) {
@@ -60,6 +62,7 @@ pub extern "C" fn dw_session_resume(
 ) -> i32
     ensures makes { (put : PutAway) → bytes_read saved.now ≡ Ok put
         → Makes (RefusesTimeout timeout_ms) (put_start timeout_ms put) result handle.new.slot.held }
+    ensures dials { (d : Device) → handle.new.slot.held ≡ Some d → Dials addresses seed d.agent.dialler }
     ensures broken { (fault : SavedFault) → bytes_read saved.now ≡ Err fault → (result ≢ pos 0) × (handle.new.slot.held ≡ None) }
     ensures unread { (fault : SavedFault) → bytes_read saved.now ≡ Err fault → fault ≢ saved_faults.Memory
         → pos 0 <ℤ timeout_ms → result ≡ negsuc 7 }
@@ -85,6 +88,7 @@ pub extern "C" fn dw_session_open_with_limits(
 ) -> i32
     ensures makes { MakesWithin incoming outgoing (RefusesTimeout timeout_ms) (new_start (unsigned_abs timeout_ms)) result
         handle.new.slot.held }
+    ensures dials { (d : Device) → handle.new.slot.held ≡ Some d → Dials addresses seed d.agent.dialler }
     ensures refused { ¬ MayLimit incoming outgoing → (result ≡ negsuc 13) × (handle.new.slot.held ≡ None) }
 {
     *handle = DwSession::closed(alloc);
@@ -111,6 +115,7 @@ pub extern "C" fn dw_session_resume_with_limits(
 ) -> i32
     ensures makes { (put : PutAway) → bytes_read saved.now ≡ Ok put
         → MakesWithin incoming outgoing (RefusesTimeout timeout_ms) (put_start timeout_ms put) result handle.new.slot.held }
+    ensures dials { (d : Device) → handle.new.slot.held ≡ Some d → Dials addresses seed d.agent.dialler }
     ensures broken { (fault : SavedFault) → bytes_read saved.now ≡ Err fault → (result ≢ pos 0) × (handle.new.slot.held ≡ None) }
     ensures unread { (fault : SavedFault) → MayLimit incoming outgoing → bytes_read saved.now ≡ Err fault → fault ≢ saved_faults.Memory
         → pos 0 <ℤ timeout_ms → result ≡ negsuc 7 }

@@ -69,17 +69,24 @@ pub extern "C" fn dw_session_moment(alloc: Global, handle: &mut DwSession, now_m
     drive(alloc, handle, |session| session.tick(now_ms))
 }
 
-/// The list of addresses is another one, of this many.
+/// The list of addresses is another one: its first ones, as many as `kept`, were in the list before, and as many as `added`, after them,
+/// were not. `is_listed` says whether it has that of the connection or of the attempt, or else the one that was dialled last.
 #[unsafe(no_mangle)]
 pub extern "C" fn dw_session_addresses(
     alloc: Global,
     handle: &mut DwSession,
     now_ms: u64,
-    count: usize,
+    kept: usize,
+    added: usize,
+    is_listed: bool,
 ) -> i32
     ensures closed { handle.old.slot.held ≡ None → IsClosed result handle.new.slot.held }
     ensures steps { (d : Device) → handle.old.slot.held ≡ Some d
-        → Holds handle.new.slot.held (Steps RefusesNothing now_ms (Addressed count) d result) }
+        → Holds handle.new.slot.held (Steps RefusesNothing now_ms (Addressed kept added is_listed) d result) }
 {
-    drive(alloc, handle, |session| session.addresses_at(now_ms, count))
+    drive(
+        alloc,
+        handle,
+        |session| session.addresses_at(now_ms, kept, added, is_listed),
+    )
 }

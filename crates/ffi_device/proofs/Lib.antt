@@ -1,6 +1,7 @@
 -- Lemmas on a device: texts that follow one another are told apart and read back, a refusal leaves it as it was, a reply and each action
--- are told whole, and it begins as its client does.
+-- are told whole, it begins as its client does, and a step is its agent's.
 pub mod Beginning
+pub mod Chains
 pub mod Parents
 pub mod ReadTexts
 pub mod Refusing

@@ -11,7 +11,7 @@ use Rattle.zk_agent.specs.declared.input.AgentInput.TheVariants as input
 pub data Happening : Type 0 where
   Opened Failed Cut Moment : Happening
   Bytes : List ℕ → Happening
-  Addressed : (count : ℕ) → Happening
+  Addressed : (kept added : ℕ) → (is_listed : Bool) → Happening
   Calls : (ticket : ℕ) → Call → (until : Option ℕ) → Happening
   Introduces : (frame : List ℕ) → Happening
   Follows : (ticket : ℕ) → Side → Text → Happening
@@ -25,7 +25,7 @@ happening input.Failed = Failed
 happening (input.Bytes bytes) = Bytes bytes.items
 happening input.Cut = Cut
 happening input.Moment = Moment
-happening (input.Addresses count) = Addressed count
+happening (input.Addresses kept added is_listed) = Addressed kept added is_listed
 happening (input.Call ticket call until) = Calls ticket (call_view call) until
 happening (input.Credential credential) = Introduces credential.frame.items
 happening (input.Follow ticket side path) = Follows ticket side path

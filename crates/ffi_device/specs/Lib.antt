@@ -2,6 +2,7 @@
 -- when the revision of its session rises.
 pub mod Actions
 pub mod AtOnce
+pub mod Chains
 pub mod Codes
 pub mod Credentials
 pub mod Flats

@@ -1,6 +1,7 @@
 -- What becomes of an agent's device, by the number that is told.
-use Rattle.std.specs.Prelude.{◌≡◌, ◌^◌, ℕ, zero, ℤ, pos, negsuc, false, true, List, [], Option, Some, None, Result}
+use Rattle.std.specs.Prelude.{◌≡◌, ◌^◌, ℕ, zero, ℤ, pos, negsuc, false, true, List, [], ◌∷◌, ◌++◌, Option, Some, None, Result}
 use Rattle.std.specs.Prelude.{MatchResult}
+use Rattle.std.specs.List.{flat_map, AllByRecursion}
 use Rattle.std.specs.List.Sorted.{IsPermutation}
 use Rattle.std.specs.declared.alloc.Global.{Global}
 use Rattle.zk_conversation.specs.Calls.{Raw}
@@ -14,6 +15,7 @@ use Rattle.zk_dialler.specs.Orders.{numbers, shuffled}
 use Rattle.zk_dialler.specs.Chances.{state_after}
 use Rattle.zk_dialler.specs.declared.dialler.Dialler.{Dialler}
 use Rattle.zk_dialler.specs.declared.dialler.Phase.TheVariants.{Waiting}
+use Rattle.zk_agent.specs.declared.action.Action.{Action}
 use Rattle.zk_agent.specs.declared.input.AgentInput.{AgentInput}
 use Rattle.zk_agent.specs.Agents.{IsBroken, IsLed}
 use Rattle.zk_agent.specs.Credentials.{no_papers, papers_of}
@@ -26,18 +28,24 @@ pub use Rattle.ffi_device.specs.Happenings.{Happening, Opened, Failed, Cut, Mome
 pub use Rattle.ffi_device.specs.Happenings.{Unfollows, FollowsTree, UnfollowsTree}
 pub use Rattle.ffi_device.specs.Happenings.{happening, is_bytes, limit_of}
 pub use Rattle.ffi_device.specs.Taking.{AgentTook, AreFollowed}
+use Rattle.ffi_device.specs.Chains.{IsOwn, Part, TellsAllBut, TookAll}
 use Rattle.ffi_device.specs.Revisions.{revised}
 use Rattle.ffi_device.specs.declared.device.Device.{Device}
 
 -- ---- steps
 
--- The agent took an input that was noticed at a moment, by all that a step of it promises. What it said is there, in its order, and none of
--- it was read.
+-- The agent took an input that was noticed at a moment, and then, at the same moment, calls of the device's own, each by all that a step of
+-- it promises. What was said is told in its order, except answers to such calls, and none of it was read. No device has asked any yet.
 pub record Took (now : ℕ) (given : AgentInput Global) (before after : Device) : Type 0 where
   pub went_on : before.is_over ≡ false
   pub goes_on : after.is_over ≡ false
   pub unread : after.read ≡ 0
-  pub took : AgentTook now given before.agent after.agent after.said.items
+  pub said : List (Action Global)
+  pub own : List Part
+  pub took : TookAll now before.agent (record { given = given; said = said } ∷ own) after.agent
+  pub are_own : AllByRecursion (λ part. IsOwn (happening part.given)) own
+  pub told : TellsAllBut (said ++ flat_map (λ part. part.said) own) after.said.items
+  pub alone : (own ≡ []) × (after.said.items ≡ said)
   pub number : after.revision.number ≡ revised (is_bytes (happening given)) (told_by after.said.items) before.revision.number
 
 -- The same of an input that is this.
@@ -54,7 +62,7 @@ pub record Stopped (before after : Device) : Type 0 where
   pub number : after.revision.number ≡ raised before.revision.number
   pub broke : IsBroken before.agent after.agent
 
--- What happened, at a moment: 0 where it was one step of the agent, -1 where the agent goes on no further, and any other number where
+-- What happened, at a moment: 0 where it was a step of the device, -1 where the agent goes on no further, and any other number where
 -- nothing happened, for a reason that it has.
 abbrev pub Steps : (Refuses : ℤ → Type 0) → (now : ℕ) → Happening → (before : Device) → (code : ℤ) → (after : Device) → Type 0
 Steps Refuses now what before (pos zero) after = Stepped now what before after

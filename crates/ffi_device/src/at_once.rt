@@ -1,6 +1,6 @@
 //! All that waits to be told, at once.
 
-ghost use Rattle.std.specs.Prelude.{◌≡◌, ◌++◌, IfOk, OnErr, OnOk, Some, drop, map};
+ghost use Rattle.std.specs.Prelude.{◌≡◌, ◌++◌, [], IfOk, OnErr, OnOk, Some, drop, map};
 ghost use Rattle.std.specs.List.{flat_map, AllByRecursion};
 ghost use Rattle.ffi_device.specs.Outputs.{names_in, words_of};
 ghost use Rattle.ffi_device.specs.AtOnce.{action_output, joined, output_bytes, spelled, waiting};
@@ -12,8 +12,58 @@ use crate::device::Device;
 use crate::flat::Flat;
 use crate::outputs::outcome_names;
 use std::alloc::{AllocError, Global};
+use std::mem;
 use zk_agent::Action;
 use zk_jute::{BytesRef, PutError, Record, Then};
+
+/// How many bytes an output has besides its own, if these are counted: its numbers, its Stat and the length of its bytes.
+const FIXED: usize = 122;
+
+// Outputs as bytes. If the frame of a credential is among them, the block that has it is overwritten before it is given back, also when the
+// text moves to a larger one.
+struct Text {
+    bytes: Vec<u8>,
+    is_secret: bool,
+}
+
+impl Drop for Text {
+    fn drop(mut self) {
+        if self.is_secret {
+            self.bytes.fill(0);
+        }
+        let Self {
+            bytes: _,
+            is_secret: _,
+        } = self;
+    }
+}
+
+impl Text {
+    // No bytes yet.
+    fn new(alloc: Global) -> Text
+        ensures { result.bytes.items ≡ [] }
+    {
+        Text {
+            bytes: Vec::new(alloc),
+            is_secret: false,
+        }
+    }
+
+    // Has room for this many bytes more. What is there moves to a larger block by a copy, so that the first one can be overwritten.
+    fn make_room(&mut self, alloc: Global, more: usize) -> Result<(), AllocError>
+        ensures { self.new.bytes.items ≡ self.old.bytes.items }
+    {
+        let length = self.bytes.len();
+        if more <= self.bytes.capacity().saturating_sub(length) {
+            return Ok(());
+        }
+        let mut bytes = Vec::with_capacity(alloc, length.saturating_add(more.max(length)))?;
+        bytes.extend_from_slice(self.bytes.as_slice())?;
+        let is_secret = self.is_secret;
+        let _left = mem::replace(self, Text { bytes, is_secret });
+        Ok(())
+    }
+}
 
 // Writes an output, of which these are longs, at the end of the text.
 #[tactic(auto, unfolding(crate::specs::AtOnce::spelled, crate::specs::AtOnce::IsSpelled))]
@@ -43,14 +93,15 @@ fn write_fields(
 }
 
 // Writes an output at the end of the text. An error says that memory ran out: what came in a frame is never too long.
-fn write_output(flat: &Flat, bytes: &[u8], text: &mut Vec<u8>) -> Result<(), AllocError>
-    ensures ok { OnOk result (text.new.items ≡ text.old.items ++ output_bytes (flat.now, bytes.now)) }
+fn write_output(alloc: Global, flat: &Flat, bytes: &[u8], text: &mut Text) -> Result<(), AllocError>
+    ensures ok { OnOk result (text.new.bytes.items ≡ text.old.bytes.items ++ output_bytes (flat.now, bytes.now)) }
     ensures fits { OnOk result (FitsOutput (flat.now, bytes.now)) }
 {
+    text.make_room(alloc, bytes.len().saturating_add(FIXED))?;
     let ticket = flat.ticket.cast_signed();
     let size = (flat.length as u64).cast_signed();
     let names = (flat.names as u64).cast_signed();
-    match write_fields(flat, ticket, size, names, bytes, text) {
+    match write_fields(flat, ticket, size, names, bytes, &mut text.bytes) {
         Ok(()) => Ok(()),
         Err(_) => Err(AllocError),
     }
@@ -68,31 +119,28 @@ fn rest_of(alloc: Global, action: &Action<Global>) -> Result<Vec<u8>, AllocError
 }
 
 // Writes an action at the end of the text. A frame and data are not copied once more.
-fn write_action(
-    alloc: Global,
-    action: &Action<Global>,
-    text: &mut Vec<u8>,
-) -> Result<(), AllocError>
-    ensures ok { OnOk result (text.new.items ≡ text.old.items ++ output_bytes (action_output action.now)) }
+fn write_action(alloc: Global, action: &Action<Global>, text: &mut Text) -> Result<(), AllocError>
+    ensures ok { OnOk result (text.new.bytes.items ≡ text.old.bytes.items ++ output_bytes (action_output action.now)) }
     ensures fits { OnOk result (FitsOutput (action_output action.now)) }
 {
+    text.is_secret = text.is_secret || matches!(action, Action::Introduce(_));
     let flat = action_flat(action);
     let mut rest = rest_of(alloc, action)?;
     if rest.is_empty() {
-        return write_output(&flat, action_text(action), text);
+        return write_output(alloc, &flat, action_text(action), text);
     }
     let mut bytes = Vec::from_slice(alloc, action_text(action))?;
     bytes.append(&mut rest)?;
-    write_output(&flat, bytes.as_slice(), text)
+    write_output(alloc, &flat, bytes.as_slice(), text)
 }
 
 // Writes these actions at the end of the text.
 fn write_actions(
     alloc: Global,
     actions: &[Action<Global>],
-    text: &mut Vec<u8>,
+    text: &mut Text,
 ) -> Result<(), AllocError>
-    ensures ok { OnOk result (text.new.items ≡ text.old.items ++ flat_map output_bytes (map action_output actions.now)) }
+    ensures ok { OnOk result (text.new.bytes.items ≡ text.old.bytes.items ++ flat_map output_bytes (map action_output actions.now)) }
     ensures fits { OnOk result (AllByRecursion FitsOutput (map action_output actions.now)) }
 {
     for action in actions {
@@ -111,10 +159,10 @@ impl Device {
     }
 
     // All that waits to be told.
-    fn outputs_text(&self, alloc: Global) -> Result<Vec<u8>, AllocError>
-        ensures { IfOk result (λ text. AreOutputs (waiting self.now.said.items self.now.read) text.items) }
+    fn outputs_text(&self, alloc: Global) -> Result<Text, AllocError>
+        ensures { IfOk result (λ text. AreOutputs (waiting self.now.said.items self.now.read) text.bytes.items) }
     {
-        let mut text = Vec::new(alloc);
+        let mut text = Text::new(alloc);
         write_actions(alloc, self.unread_actions(), &mut text)?;
         Ok(text)
     }
@@ -126,11 +174,11 @@ impl Device {
         ensures same { OnErr result ((room.new ≡ room.old) × (self.new ≡ self.old)) }
     {
         let text = self.outputs_text(alloc)?;
-        let wanted = text.len();
+        let wanted = text.bytes.len();
         if room.len() < wanted {
             return Ok(wanted);
         }
-        copy_into(text.as_slice(), room);
+        copy_into(text.bytes.as_slice(), room);
         self.read = self.said.len();
         Ok(wanted)
     }

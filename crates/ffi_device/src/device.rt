@@ -204,10 +204,22 @@ impl Device {
         self.agent.deadline()
     }
 
-    /// The list of addresses is another one, of this many.
-    pub fn addresses_at(&mut self, now: u64, count: usize) -> Result<(), DeviceRefusal>
-        ensures { Steps RefusesNothing now (Addressed count) self.old (code_of result) self.new }
+    /// The list of addresses is another one: its first ones, as many as `kept`, were in the list before, and as many as `added`, after
+    /// them, were not. `is_listed` says whether it has that of the connection or of the attempt, or else the one that was dialled last.
+    pub fn addresses_at(
+        &mut self,
+        now: u64,
+        kept: usize,
+        added: usize,
+        is_listed: bool,
+    ) -> Result<(), DeviceRefusal>
+        ensures { Steps RefusesNothing now (Addressed kept added is_listed) self.old (code_of result) self.new }
     {
-        self.step_at(now, AgentInput::Addresses(count))
+        let input = AgentInput::Addresses {
+            kept,
+            added,
+            is_listed,
+        };
+        self.step_at(now, input)
     }
 }

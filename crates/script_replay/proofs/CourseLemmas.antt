@@ -11,7 +11,8 @@ use Rattle.zk_turns.proofs.Stepped.{one_turn as turn_stands}
 use Rattle.script_words.specs.Pieces.{words_of}
 use Rattle.script_words.specs.declared.stop.LineStop.{LineStop}
 use Rattle.script_replay.specs.ClientLines.{ClientValue, CutLine, NowLine, CallLine, PeekLine, LastLine, ForgetLine, SavedLine}
-use Rattle.script_replay.specs.ReplayLines.{DriveValue, OpenedLine, BytesLine, ClientValueLine, ReplayValue, Begins, Drives, says_at}
+use Rattle.script_replay.specs.ReplayLines.{DriveValue, OpenedLine, BytesLine, SentLine, ClientValueLine}
+use Rattle.script_replay.specs.ReplayLines.{ReplayValue, Begins, Drives, says_at}
 use Rattle.script_replay.specs.Shown.{TellsAll, TellsKept, kept_line, last_line, saved_line}
 use Rattle.script_replay.specs.Played.{start_of, TakesTurn, DoesClient, DoesDrive, Does, HaltsLine, TakesLine}
 use Rattle.script_replay.specs.Replays.{Moves, Position, rules}
@@ -94,6 +95,7 @@ drive : (value : DriveValue) (course : Course) (old new : View) (text : List ℕ
     → (next : Course) × AddsDrive value course next text × Stands next.start next.items new
 drive OpenedLine course old new text s does = turn Opened course old new text s does
 drive (BytesLine bytes) course old new text s does = turn (Bytes bytes) course old new text s does
+drive SentLine course old new text s does = (course, (refl, does.1), still course old new s does.0)
 drive (ClientValueLine value) course old new text s does = client value course old new text s does
 
 -- there is a course where there is a client

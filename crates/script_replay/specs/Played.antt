@@ -11,8 +11,8 @@ use Rattle.script_words.specs.Pieces.{words_of}
 use Rattle.script_words.specs.Said.{TakesSaid}
 use Rattle.script_words.specs.declared.script_fault.ScriptFault.{ScriptFault}
 use Rattle.script_replay.specs.ClientLines.{ClientValue, CutLine, NowLine, CallLine, PeekLine, LastLine, ForgetLine, SavedLine}
-use Rattle.script_replay.specs.ReplayLines.{BeginValue, TimeoutLine, ResumeLine, DriveValue, OpenedLine, BytesLine, ClientValueLine}
-use Rattle.script_replay.specs.ReplayLines.{ReplayValue, Begins, Drives, says_at}
+use Rattle.script_replay.specs.ReplayLines.{BeginValue, TimeoutLine, ResumeLine, DriveValue, OpenedLine, BytesLine, SentLine}
+use Rattle.script_replay.specs.ReplayLines.{ClientValueLine, ReplayValue, Begins, Drives, says_at}
 use Rattle.script_replay.specs.Shown.{TellsAll, TellsKept, kept_line, last_line, saved_line}
 
 -- what a client begins with
@@ -44,11 +44,13 @@ DoesBy Turns seen forgets ForgetLine old new text = (new ≡ forgets old) × (te
 abbrev pub DoesClient : ClientValue → View → View → List ℕ → Type 0
 DoesClient value old new text = DoesBy TakesTurn (λ view. view) (λ view. record view { cache = forgotten view.cache }) value old new text
 
--- What a line after the first does: a connection begins or bytes come, which is a turn, or what lines do at any other end.
+-- What a line after the first does: a connection begins or bytes come, which is a turn, nothing where a record says what was sent, or what
+-- lines do at any other end.
 abbrev pub DrivesBy : {S : Type 0} → (Input → S → S → List ℕ → Type 0) → (ClientValue → S → S → List ℕ → Type 0)
     → DriveValue → S → S → List ℕ → Type 0
 DrivesBy Turns Does OpenedLine old new text = Turns Opened old new text
 DrivesBy Turns Does (BytesLine bytes) old new text = Turns (Bytes bytes) old new text
+DrivesBy Turns Does SentLine old new text = (new ≡ old) × (text ≡ [])
 DrivesBy Turns Does (ClientValueLine value) old new text = Does value old new text
 
 abbrev pub DoesDrive : DriveValue → View → View → List ℕ → Type 0
@@ -92,6 +94,7 @@ HaltsClient value old new = ⊥
 abbrev pub HaltsDrive : DriveValue → View → View → Type 0
 HaltsDrive OpenedLine old new = HaltsAt Opened old new
 HaltsDrive (BytesLine bytes) old new = HaltsAt (Bytes bytes) old new
+HaltsDrive SentLine old new = ⊥
 HaltsDrive (ClientValueLine value) old new = HaltsClient value old new
 
 -- So do the words of a line.

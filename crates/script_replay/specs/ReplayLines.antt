@@ -60,12 +60,15 @@ CanBegin (ResumeLine timeout session password last) = (pos 0 <ℤ timeout) × (p
 
 abbrev pub drive_keyword_of : Text → Option DriveKeyword
 drive_keyword_of word =
-    keyword_or_client ((codes "opened", drive_keyword.Opened) ∷ (codes "bytes", drive_keyword.Bytes) ∷ []) drive_keyword.Client word
+    keyword_or_client
+    ((codes "opened", drive_keyword.Opened) ∷ (codes "bytes", drive_keyword.Bytes) ∷ (codes ">", drive_keyword.Sent) ∷ [])
+    drive_keyword.Client word
 
--- A connection begins, bytes come, or what is not about the server's side.
+-- A connection begins, bytes come, a record says what was sent, or what is not about the server's side.
 pub data DriveValue : Type 0 where
   OpenedLine : DriveValue
   BytesLine : List ℕ → DriveValue
+  SentLine : DriveValue
   ClientValueLine : ClientValue → DriveValue
 
 abbrev pub piece_at : List Text → Result DriveValue ScriptFault
@@ -77,6 +80,7 @@ printed_piece_at words = if list_all is_printed words then piece_at words else E
 abbrev pub drive_line_at : DriveKeyword → List Text → Result DriveValue ScriptFault
 drive_line_at drive_keyword.Opened words = alone OpenedLine words
 drive_line_at drive_keyword.Bytes words = printed_piece_at words
+drive_line_at drive_keyword.Sent words = Ok SentLine
 drive_line_at (drive_keyword.Client word) words = client_line_at word words >>= λ value. Ok (ClientValueLine value)
 
 -- A line

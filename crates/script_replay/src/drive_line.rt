@@ -16,6 +16,7 @@ use std::alloc::Allocator;
 pub enum DriveKeyword {
     Opened,
     Bytes,
+    Sent,
     Client(ClientKeyword),
 }
 
@@ -28,6 +29,8 @@ impl DriveKeyword {
             Some(DriveKeyword::Opened)
         } else if is_named(word, "bytes") {
             Some(DriveKeyword::Bytes)
+        } else if is_named(word, ">") {
+            Some(DriveKeyword::Sent)
         } else {
             match ClientKeyword::named(word) {
                 Some(word) => Some(DriveKeyword::Client(word)),
@@ -44,6 +47,8 @@ pub enum DriveLine<A: Allocator> {
     Opened,
     /// Bytes come.
     Bytes(Vec<u8, A>),
+    /// What a record says was sent: the client sends it by itself.
+    Sent,
     /// What is the same whatever is at the other end.
     Client(ClientLine<A>),
 }
@@ -79,6 +84,7 @@ pub fn parse_drive_line<A: Allocator + Copy>(
     match keyword {
         DriveKeyword::Opened => alone(DriveLine::Opened, words),
         DriveKeyword::Bytes => parse_printed_piece(alloc, words),
+        DriveKeyword::Sent => Ok(DriveLine::Sent),
         DriveKeyword::Client(word) => {
             let line = parse_client_line(alloc, word, words)?;
             Ok(DriveLine::Client(line))

@@ -122,6 +122,7 @@ pub(crate) fn replayed<A: Allocator + Copy>(
     match line {
         DriveLine::Opened => stepped(alloc, client, Input::Opened),
         DriveLine::Bytes(bytes) => stepped(alloc, client, Input::Bytes(bytes)),
+        DriveLine::Sent => Ok(String::new(alloc)),
         DriveLine::Client(line) => driven(alloc, client, line),
     }
 }

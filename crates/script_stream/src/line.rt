@@ -3,7 +3,7 @@
 ghost use Rattle.std.specs.Prelude.{◌≡◌, map};
 ghost use Rattle.std.specs.Option.{option_map};
 ghost use Rattle.script_words.specs.Reads.{Reads};
-ghost use Rattle.script_stream.specs.Lines.{bytes_at, came_at, over_at, said};
+ghost use Rattle.script_stream.specs.Lines.{bytes_at, came_at, over_at, record_of, said};
 ghost use Rattle.script_stream.specs.inner.Lines.{says_of};
 
 use crate::way::Way;
@@ -16,6 +16,10 @@ use std::alloc::Allocator;
 pub enum CaptureLine<A: Allocator> {
     /// These bytes came.
     Came(Way, Vec<u8, A>),
+    /// A connection begins.
+    Opened,
+    /// A line of a record that has no bytes.
+    Passed,
     /// Nothing comes any more.
     Over,
 }
@@ -46,6 +50,24 @@ fn parse_came<A: Allocator + Copy>(
     Ok(CaptureLine::Came(way, bytes))
 }
 
+/// What a line of a record says that has no bytes.
+fn record_line<A: Allocator>(word: &[u8]) -> Option<CaptureLine<A>>
+    ensures { option_map says_of result ≡ record_of word.now }
+{
+    if is_named(word, "opened") {
+        Some(CaptureLine::Opened)
+    } else if is_named(word, "cut")
+        || is_named(word, "now")
+        || is_named(word, "call")
+        || is_named(word, "timeout")
+        || is_named(word, "resume")
+    {
+        Some(CaptureLine::Passed)
+    } else {
+        None
+    }
+}
+
 /// What the words of a line say that names no direction.
 fn parse_over<A: Allocator + Copy>(
     first: &[u8],
@@ -54,7 +76,7 @@ fn parse_over<A: Allocator + Copy>(
     ensures { Reads says_of result (over_at first.now (map (λ w. w.now) words.now)) }
 {
     if !is_named(first, "end") {
-        return Err(ScriptFault::Unknown);
+        return record_line(first).ok_or(ScriptFault::Unknown);
     }
     match words {
         [] => Ok(CaptureLine::Over),

@@ -3,7 +3,7 @@
 ghost use Rattle.std.specs.Prelude.{◌≡◌, ◌≢◌, ◌+◌, ◌++◌, None, Err, length, IfErr, IfOk, OnOk, string_bytes};
 ghost use Rattle.script_words.specs.Pieces.{words_of};
 ghost use Rattle.script_stream.specs.Frames.{frame_line};
-ghost use Rattle.script_stream.specs.Lines.{Does, TakesLine, rules, said};
+ghost use Rattle.script_stream.specs.Lines.{Does, TakesLine, left_of, rules, said};
 ghost use Rattle.script_stream.specs.inner.Lines.{says_of};
 ghost use Rattle.script_stream.specs.Streams.{Hears, Position, TellsAll, asked_after, fault_line, first_course, first_position};
 ghost use Rattle.script_stream.specs.inner.Streams.{course_of};
@@ -191,8 +191,7 @@ impl<A: Allocator + Copy> CaptureStream<A> {
 
     /// What is told where nothing comes any more.
     fn left(&self, alloc: A) -> Result<String<A>, AllocError>
-        ensures { IfOk result (λ text. string_bytes text ≡ left_line Way.Client self.now.client.place self.now.client.came
-            ++ left_line Way.Server self.now.server.place self.now.server.came) }
+        ensures { IfOk result (λ text. string_bytes text ≡ left_of (position_of self.now)) }
     {
         let mut text = String::new(alloc);
         push_left(
@@ -231,6 +230,12 @@ impl<A: Allocator + Copy> CaptureStream<A> {
                 &mut self.asked,
                 bytes.as_slice(),
             ),
+            CaptureLine::Opened => {
+                let text = self.left(alloc)?;
+                *self = CaptureStream::new(alloc);
+                Ok(text)
+            }
+            CaptureLine::Passed => Ok(String::new(alloc)),
             CaptureLine::Over => self.left(alloc),
         }
     }

@@ -19,7 +19,7 @@ impl Way {
     {
         if is_named(word, ">") {
             Some(Way::Client)
-        } else if is_named(word, "<") {
+        } else if is_named(word, "<") || is_named(word, "bytes") {
             Some(Way::Server)
         } else {
             None

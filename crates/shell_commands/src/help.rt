@@ -215,6 +215,7 @@ pub const SHOW: &str =
 each frame of it. Each line of the capture has the bytes of a piece of it, in their order:
   > HEX                         What the client sent
   < HEX                         What the server sent
+The record of a client is a capture of each of its connections. Its lines without bytes are passed over.
 Empty lines and those that begin with # are skipped. A capture of one direction will do, and pieces may
 be cut anywhere. It has to begin where the connection begins. From a file that tcpdump wrote, for its
 first connection (tcp.stream eq 0):
@@ -276,6 +277,7 @@ Lines:
   resume MS SESSION PASSWORD ZXID So does this: it takes up a session, as saved printed it
   opened                          A connection is open
   bytes HEX                       These bytes came
+  > HEX                           The client has sent this, says a record: passed over
   cut                             The connection is lost
 
 All others are those of live, and so is what is printed: `zk_shell live --help` lists them. Besides,

@@ -24,7 +24,7 @@ pub does_run : {A : Type 0} {far : FarEnd} (move : Move A) (old new : Stand A fa
 does_run (Takes turn text) old new turns = turns.runs
 does_run (Closes until) old new does = does.1
 
-moves_run : {A : Type 0} {far : FarEnd} (moves : List (Move A)) (old new : Stand A far) → FoldsTo Does old moves new → RunsOn old new
+pub moves_run : {A : Type 0} {far : FarEnd} (moves : List (Move A)) (old new : Stand A far) → FoldsTo Does old moves new → RunsOn old new
 moves_run [] old new same = still old new same
 moves_run (move ∷ moves) old new does = on old does.0 new (does_run move old does.0 does.1) (moves_run moves does.0 new does.2)
 

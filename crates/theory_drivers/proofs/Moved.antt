@@ -200,7 +200,7 @@ module _ {A : Type 0} (channel : ChannelView) (held : List ℕ) (shown : Shown) 
       same_here old new (ap (λ (t : Trail A). t.view) does.1) (ap (left_by channel) does.1) k
   move_here HungUp old new does plain later k =
       hung_here old new (ap (λ (t : Trail A). t.view) does) (ap (λ (t : Trail A). t.told) does) k
-  move_here (Addressed count) old new does plain later k =
+  move_here (Addressed kept added is_listed) old new does plain later k =
       same_here old new (ap (λ (t : Trail A). t.view) does.1) (ap (left_by channel) does.1) k
   move_here (Decides now due) old new does plain later k =
       due_here due old new (ap (λ (t : Trail A). t.view) does.last) (ap (λ (t : Trail A). t.told) does.last) k
@@ -308,7 +308,7 @@ module _ {A : Type 0} (channel : ChannelView) (held : List ℕ) (shown : Shown) 
       same_idle old new (ap (λ (t : Trail A). t.view) does.1) (ap (left_by channel) does.1) idle
   move_idle HungUp old new does plain k idle =
       hung_idle old new (ap (λ (t : Trail A). t.view) does) (ap (λ (t : Trail A). t.told) does) idle
-  move_idle (Addressed count) old new does plain k idle =
+  move_idle (Addressed kept added is_listed) old new does plain k idle =
       same_idle old new (ap (λ (t : Trail A). t.view) does.1) (ap (left_by channel) does.1) idle
   move_idle (Decides now due) old new does plain k idle =
       due_idle due old new (ap (λ (t : Trail A). t.view) does.last) (ap (λ (t : Trail A). t.told) does.last) idle
@@ -387,7 +387,8 @@ module _ {A : Type 0} (channel : ChannelView) (held : List ℕ) (shown : Shown) 
   move_tied (Ended now) old new does free k tied = absurd free
   move_tied HungUp old new does free k tied =
       same_tied old new (ap (λ (t : Trail A). t.view) does) (ap (λ (t : Trail A). t.dialler.phase) does) tied
-  move_tied (Addressed count) old new does free k tied = same_tied old new (ap (λ (t : Trail A). t.view) does.1) does.0.phase tied
+  move_tied (Addressed kept added is_listed) old new does free k tied =
+      same_tied old new (ap (λ (t : Trail A). t.view) does.1) does.0.phase tied
   move_tied (Decides now due) old new does free k tied =
       due_tied due old.view.saved.session.timeout now old new does.dials (ap (λ (t : Trail A). t.view) does.last) tied
   move_tied Closes old new does free k tied =
@@ -416,7 +417,7 @@ stays_by {A} (Tires now) old new does =
 stays_by {A} (Opened now) old new does = ap (λ (t : Trail A). t.timeout) does.1
 stays_by {A} (Ended now) old new does = ap (λ (t : Trail A). t.timeout) does.1
 stays_by {A} HungUp old new does = ap (λ (t : Trail A). t.timeout) does
-stays_by {A} (Addressed count) old new does = ap (λ (t : Trail A). t.timeout) does.1
+stays_by {A} (Addressed kept added is_listed) old new does = ap (λ (t : Trail A). t.timeout) does.1
 stays_by {A} (Decides now due) old new does = ap (λ (t : Trail A). t.timeout) does.last
 stays_by {A} Closes old new does = ap (λ (t : Trail A). t.timeout) does.last
 stays_by {A} (Tends one) old new does = ap (λ (t : Trail A). t.timeout) does
@@ -442,7 +443,7 @@ met_through (Tires now ∷ moves) = met_through moves
 met_through (Opened now ∷ moves) = ap (λ l. Opened now ∷ l) (met_through moves)
 met_through (Ended now ∷ moves) = ap (λ l. Ended now ∷ l) (met_through moves)
 met_through (HungUp ∷ moves) = ap (λ l. HungUp ∷ l) (met_through moves)
-met_through (Addressed count ∷ moves) = ap (λ l. Addressed count ∷ l) (met_through moves)
+met_through (Addressed kept added is_listed ∷ moves) = ap (λ l. Addressed kept added is_listed ∷ l) (met_through moves)
 met_through (Decides now due ∷ moves) = met_through moves
 met_through (Closes ∷ moves) = met_through moves
 met_through (Tends one ∷ moves) = met_through moves
@@ -638,6 +639,36 @@ module _ {A : Type 0} (channel : ChannelView) (shown : Shown) where
       let s = first_given (Hears now (turns.Bytes held)) [] old new given in
       own_ready channel [] shown s.after new s.rest
       (bytes_ready channel held shown now s.before s.after s.does (own_ready channel held shown old s.before s.own p))
+
+  -- a session moves: what it had is hung up, and the client hears that it is over
+  moved_ready : (now : ℕ) (old new : Trail A) (does : Does old (Hears now turns.Cut) new)
+      → Loose channel [] shown old → Ready channel [] shown new
+  moved_ready now old new does p = record {
+    here = leaves_here channel [] shown does.hears.heard.is_lost now does.between new does.leaves between;
+    tied = leaves_tied channel [] shown does.hears.heard.is_lost now does.between new does.leaves between
+        (λ kept. down_tied channel [] shown does.between (hears_cut channel now old does.between does.hears [] shown p.here));
+    later = later_on channel [] shown (Hears now turns.Cut) old new does p.later;
+  }
+    where
+      between : At channel [] shown does.between
+      between = hears_at channel now turns.Cut old does.between does.hears [] [] shown p.here tt refl
+
+  pub moved_noted : (now kept added : ℕ) (is_listed : Bool) (old new : Trail A)
+      → Given (Addressed kept added is_listed ∷ HungUp ∷ Ended now ∷ Hears now turns.Cut ∷ []) old new
+      → Ready channel [] shown old → Ready channel [] shown new
+  moved_noted now kept added is_listed old new given p =
+      let r = first_given (Addressed kept added is_listed) (HungUp ∷ Ended now ∷ Hears now turns.Cut ∷ []) old new given in
+      let s = first_given HungUp (Ended now ∷ Hears now turns.Cut ∷ []) r.after new r.rest in
+      let t = first_given (Ended now) (Hears now turns.Cut ∷ []) s.after new s.rest in
+      let u = first_given (Hears now turns.Cut) [] t.after new t.rest in
+      own_ready channel [] shown u.after new u.rest (moved_ready now u.before u.after u.does
+      (own_loose channel [] shown t.after u.before u.own
+      (loose_step channel [] shown (Ended now) t.before t.after t.does tt
+      (own_loose channel [] shown s.after t.before t.own
+      (loose_step channel [] shown HungUp s.before s.after s.does tt
+      (own_loose channel [] shown r.after s.before s.own
+      (loose_step channel [] shown (Addressed kept added is_listed) r.before r.after r.does tt
+      (own_loose channel [] shown old r.before r.own (record { here = p.here; later = p.later })))))))))
 
   -- a connection is over, or could not be made: it is closed here
   module _ (shut : channel.is_open ≡ false) where

@@ -24,7 +24,8 @@ use Rattle.zk_conclusions.specs.Seen.{IsServedFrom}
 use Rattle.zk_agent.specs.declared.agent.Agent.{Agent}
 use Rattle.zk_agent.specs.declared.input.AgentInput.{AgentInput}
 use Rattle.zk_agent.specs.declared.input.AgentInput.TheVariants as happens
-use Rattle.zk_agent.specs.Agents.{bytes_at, given_of, moves_of, opened_at, trail_of, Ended, Hears, HungUp, Move, Opened, Presents, Trail}
+use Rattle.zk_agent.specs.Agents.{bytes_at, given_of, leaves_with, left_at, moves_of, opened_at, trail_of, Addressed, Ended, Hears, HungUp}
+use Rattle.zk_agent.specs.Agents.{Move, Opened, Presents, Trail}
 use Rattle.zk_driver.specs.Driving.{closed, opened, ChannelView, Course, Looked, Noted, Takes, Written}
 use Rattle.zk_link.specs.FarEnds.{FarEnd, Reaches}
 use Rattle.zk_driver.specs.Flowing.{Asked, Carries, Deed, Flow, Made, Passes}
@@ -33,7 +34,8 @@ use Rattle.theory_drivers.specs.Worlds.{Befalls, ByDriver, ByStream, Meanwhile, 
 use Rattle.theory_drivers.specs.ServedDrivers.{Begins, MeetsServers}
 use Rattle.theory_drivers.proofs.Turned.{kept_down, let_go, Kept}
 use Rattle.theory_drivers.proofs.Heard.{left_by}
-use Rattle.theory_drivers.proofs.Moved.{all_apart, all_ready, bytes_noted, late_noted, opened_noted, over_noted, Apart, Given, IsFree}
+use Rattle.theory_drivers.proofs.Moved.{all_apart, all_ready, bytes_noted, late_noted, moved_noted, opened_noted, over_noted, Apart, Given}
+use Rattle.theory_drivers.proofs.Moved.{IsFree}
 use Rattle.theory_drivers.proofs.Moved.{is_met, met_through, IsLater}
 use Rattle.theory_drivers.proofs.Moved.{Loose, Ready}
 use Rattle.theory_drivers.proofs.Acted.{acts_keep, apart_kept}
@@ -99,15 +101,22 @@ met_opened Waiting now judged frames = refl
 met_opened (Dialling began until) now judged frames = refl
 met_opened Open now judged frames = refl
 
+met_left : (kept added : ℕ) (is_listed leaves : Bool) (now : ℕ) (judged : List (ℕ × ℤ)) (frames : List (List ℕ))
+    → filter is_met (Addressed kept added is_listed ∷ (left_at leaves now ++ Presents judged frames ∷ []))
+    ≡ Addressed kept added is_listed ∷ left_at leaves now
+met_left kept added is_listed true now judged frames = refl
+met_left kept added is_listed false now judged frames = refl
+
 -- what an input makes, without what is told of credentials
 made_met : {A : Type 0} (there : Bool) (now : ℕ) (input : AgentInput A) (agent : Agent A)
-    → filter is_met (moves_of there now input agent) ≡ given_of agent.dialler.phase now input
+    → filter is_met (moves_of there now input agent) ≡ given_of agent.dialler now input
 made_met there now happens.Opened agent = met_opened agent.dialler.phase now _ _
 made_met there now happens.Failed agent = refl
 made_met there now (happens.Bytes bytes) agent = met_bytes (is_open agent.dialler.phase) now bytes.items _ refl
 made_met there now happens.Cut agent = refl
 made_met there now happens.Moment agent = refl
-made_met there now (happens.Addresses count) agent = refl
+made_met there now (happens.Addresses kept added is_listed) agent =
+    met_left kept added is_listed (leaves_with agent.dialler kept added is_listed) now _ _
 made_met there now (happens.Call ticket call until) agent = refl
 made_met there now (happens.Credential credential) agent = refl
 made_met there now (happens.Follow ticket side path) agent = refl
@@ -127,7 +136,7 @@ module _ {A : Type 0} {far : FarEnd} (old new : Flow A far) (now : ℕ) (input :
   abbrev moment : ℕ
   moment = max old.course.agent.latest now
 
-  came : (given : List Move) → given_of old.course.agent.dialler.phase moment input ≡ given → Given given first last
+  came : (given : List Move) → given_of old.course.agent.dialler moment input ≡ given → Given given first last
   came given is = record {
     moves = takes.comes.moves;
     does = takes.comes.does;
@@ -195,18 +204,27 @@ module _ {A : Type 0} {far : FarEnd} (old new : Flow A far) (now : ℕ) (input :
             by false is = refl
 
     -- what is no connection's end or beginning, and no bytes
-    plain_bound : (given : List Move) → given_of old.course.agent.dialler.phase moment input ≡ given → AllByRecursion IsFree given
+    plain_bound : (given : List Move) → given_of old.course.agent.dialler moment input ≡ given → AllByRecursion IsFree given
         → between ≡ old.course.channel → old.held ≡ [] → Bound new before
     plain_bound given is free same empty =
         done before (all_ready between [] before given first last free (came given is) (ready_first same empty))
 
-    over_bound : given_of old.course.agent.dialler.phase moment input ≡ Ended moment ∷ Hears moment turns.Cut ∷ []
+    -- the session moves, or stays
+    listed_bound : (kept added : ℕ) (is_listed leaves : Bool)
+        → given_of old.course.agent.dialler moment input ≡ Addressed kept added is_listed ∷ left_at leaves moment
+        → between ≡ old.course.channel → old.held ≡ [] → Bound new before
+    listed_bound kept added is_listed true is same empty =
+        done before (moved_noted between before moment kept added is_listed first last
+        (came (Addressed kept added is_listed ∷ HungUp ∷ Ended moment ∷ Hears moment turns.Cut ∷ []) is) (ready_first same empty))
+    listed_bound kept added is_listed false is same empty = plain_bound _ is (tt, (tt, tt)) same empty
+
+    over_bound : given_of old.course.agent.dialler moment input ≡ Ended moment ∷ Hears moment turns.Cut ∷ []
         → old.held ≡ [] → Bound new before
     over_bound is empty =
         done_apart closed before (over_noted closed before refl moment first last (came (Ended moment ∷ Hears moment turns.Cut ∷ []) is)
         (loose_first before refl empty))
 
-    bytes_bound : (bytes : List ℕ) → given_of old.course.agent.dialler.phase moment input
+    bytes_bound : (bytes : List ℕ) → given_of old.course.agent.dialler moment input
         ≡ bytes_at (is_open old.course.agent.dialler.phase) moment bytes → between ≡ old.course.channel
         → old.course.channel.is_open ≡ true → bytes ≡ old.held → Bound new before
     bytes_bound bytes is same there held = by (is_open old.course.agent.dialler.phase) refl
@@ -232,7 +250,7 @@ module _ {A : Type 0} {far : FarEnd} (old new : Flow A far) (now : ℕ) (input :
             (apart_first closed before (λ open_now. refl) refl shut))
 
     opened_bound : (place : ℕ) → place ≤ length before.history.transactions
-        → given_of old.course.agent.dialler.phase moment input ≡ opened_at old.course.agent.dialler.phase moment → between ≡ opened
+        → given_of old.course.agent.dialler moment input ≡ opened_at old.course.agent.dialler.phase moment → between ≡ opened
         → old.held ≡ [] → Bound new (connected place before)
     opened_bound place low is same empty = by old.course.agent.dialler.phase refl
       where
@@ -276,7 +294,7 @@ noted_bound now happens.Moment old new before after carries meets bound =
     let given : List Move = Hears (max old.course.agent.latest now) (turns.Now (max old.course.agent.latest now)) ∷ [] in
     subst (Bound new) (sym meets) (plain_bound old new now happens.Moment carries.0.0 carries.0.2 carries.3 before bound given refl
     (tt, tt) carries.0.1.1 (sym carries.2))
-noted_bound now (happens.Addresses count) old new before after carries meets bound = absurd carries.0.1
+noted_bound now (happens.Addresses kept added is_listed) old new before after carries meets bound = absurd carries.0.1
 noted_bound now (happens.Call ticket call until) old new before after carries meets bound = absurd carries.0.1
 noted_bound now (happens.Credential credential) old new before after carries meets bound = absurd carries.0.1
 noted_bound now (happens.Follow ticket side path) old new before after carries meets bound = absurd carries.0.1
@@ -291,9 +309,9 @@ asked_bound now happens.Failed old new before carries bound = absurd carries.1
 asked_bound now happens.Cut old new before carries bound = absurd carries.1
 asked_bound now (happens.Bytes bytes) old new before carries bound = absurd carries.1
 asked_bound now happens.Moment old new before carries bound = absurd carries.1
-asked_bound now (happens.Addresses count) old new before carries bound =
-    plain_bound old new now (happens.Addresses count) old.course.channel carries.0 carries.4 before bound _ refl
-    (tt, (tt, tt)) refl carries.3
+asked_bound now (happens.Addresses kept added is_listed) old new before carries bound =
+    listed_bound old new now (happens.Addresses kept added is_listed) old.course.channel carries.0 carries.4 before bound
+    kept added is_listed (leaves_with old.course.agent.dialler kept added is_listed) refl refl carries.3
 asked_bound now (happens.Call ticket call until) old new before carries bound =
     plain_bound old new now (happens.Call ticket call until) old.course.channel carries.0 carries.4 before bound _ refl
     (tt, (tt, tt)) refl carries.3
@@ -400,7 +418,7 @@ befalls_driver (Made (Noted now happens.Failed)) old new before after carries me
 befalls_driver (Made (Noted now happens.Cut)) old new before after carries meets = meets
 befalls_driver (Made (Noted now (happens.Bytes bytes))) old new before after carries meets = meets
 befalls_driver (Made (Noted now happens.Moment)) old new before after carries meets = meets
-befalls_driver (Made (Noted now (happens.Addresses count))) old new before after carries meets = meets
+befalls_driver (Made (Noted now (happens.Addresses kept added is_listed))) old new before after carries meets = meets
 befalls_driver (Made (Noted now (happens.Call ticket call until))) old new before after carries meets = meets
 befalls_driver (Made (Noted now (happens.Credential credential))) old new before after carries meets = meets
 befalls_driver (Made (Noted now (happens.Follow ticket side path))) old new before after carries meets = meets

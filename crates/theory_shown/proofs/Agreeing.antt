@@ -34,7 +34,7 @@ use Rattle.theory_shown.proofs.Watched.{moves_too}
 -- ---- a watch
 
 -- it begins as its laws want
-watch_begins : {A : Type 0} {far : FarEnd} (style : Style) (most : ℕ) (first : Stand A far)
+pub watch_begins : {A : Type 0} {far : FarEnd} (style : Style) (most : ℕ) (first : Stand A far)
     → IsBegun style most first → Begins (flow_in first)
 watch_begins style most first begun = record {
   apart = ap (λ (c : ChannelView). c.is_open) begun.channel;

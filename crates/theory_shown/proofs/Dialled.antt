@@ -9,7 +9,7 @@ use Rattle.zk_bench_dial.specs.Lines.{bench_end, PastView}
 use Rattle.shell_watch.specs.declared.plan.Style.{Style}
 use Rattle.shell_watch.specs.Watching.{IsPrinted, IsWatched}
 use Rattle.theory_shown.specs.Linked.{PrintsPast, WatchesPast}
-use Rattle.theory_shown.proofs.Linked.{linked_end_agrees, linked_watch_agrees}
+use Rattle.theory_shown.proofs.Linked.{linked_end_agrees, linked_watch_agrees, watch_meets}
 
 pub prints_past : (A : Type 0) (past : PastView) → IsHistory (history_of past.history) → (style : Style) (aims : List (Side × Text))
     (roots : List Text) (most : ℕ) (text : List ℕ) → IsPrinted A (bench_end past) style aims roots most text
@@ -20,6 +20,7 @@ prints_past A past is style aims roots most text (inr printed) = inr (record {
   begun = printed.1;
   from = printed.2;
   stood = printed.3;
+  meets = watch_meets A past is style roots most aims printed.0 text printed.1 printed.2;
   coheres = linked_watch_agrees A past is style roots most aims printed.0 text printed.1 printed.2;
 })
 

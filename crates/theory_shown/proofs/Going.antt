@@ -54,7 +54,7 @@ module _ {A : Type 0} {far : FarEnd} (By : List ℕ → List ℕ → Flow A far 
   befalls_on (Made (Noted now happens.Cut)) old new before after meets = same_on before after meets
   befalls_on (Made (Noted now (happens.Bytes bytes))) old new before after meets = same_on before after meets
   befalls_on (Made (Noted now happens.Moment)) old new before after meets = same_on before after meets
-  befalls_on (Made (Noted now (happens.Addresses count))) old new before after meets = same_on before after meets
+  befalls_on (Made (Noted now (happens.Addresses kept added is_listed))) old new before after meets = same_on before after meets
   befalls_on (Made (Noted now (happens.Call ticket call until))) old new before after meets = same_on before after meets
   befalls_on (Made (Noted now (happens.Follow ticket side path))) old new before after meets = same_on before after meets
   befalls_on (Made (Noted now (happens.Unfollow ticket))) old new before after meets = same_on before after meets

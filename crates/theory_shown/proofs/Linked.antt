@@ -12,24 +12,26 @@ use Rattle.theory_serving.proofs.Later.{taken_none}
 use Rattle.zk_bench.specs.declared.phase.Phase.TheVariants.{Apart, Opening}
 use Rattle.zk_bench.specs.Served.{started, Served}
 use Rattle.zk_bench.specs.Served as bench
-use Rattle.zk_bench.specs.Stepping.{IsReady}
+use Rattle.zk_bench.specs.Stepping.{shown_of, IsReady}
 use Rattle.zk_agent.specs.declared.input.AgentInput.{AgentInput}
 use Rattle.zk_agent.specs.declared.input.AgentInput.TheVariants as happens
 use Rattle.zk_driver.specs.Driving.{ChannelView, Looked, Noted, Written}
 use Rattle.zk_driver.specs.Flowing.{Asked, AreWithin, Carries, Deed, Flow, Made, Passes, Runs}
 use Rattle.zk_driver.proofs.Flowed.{goes_on, open_before}
+use Rattle.zk_driver.proofs.Running.{runs_join}
 use Rattle.zk_bench_dial.specs.Lines.{bench_end, PastView}
 use Rattle.zk_bench_dial.proofs.Meeting.{starts_at, trades_at, IsThere}
 use Rattle.theory_drivers.specs.Worlds.{ByDriver}
 use Rattle.theory_drivers.proofs.Turned.{goes_nowhere}
 use Rattle.shell_watch.specs.declared.plan.Style.{Style}
-use Rattle.shell_watch.specs.Watching.{flow_in, Does, IsBegun, Move, Prepares, Stand}
-use Rattle.shell_watch.proofs.Running.{does_run, follows_run}
+use Rattle.shell_watch.specs.Watching.{flow_in, Does, IsBegun, Move, Prepares, PrintsFrom, Stand}
+use Rattle.shell_watch.proofs.Running.{does_run, follows_run, moves_run}
 use Rattle.theory_shown.specs.Agreeing.{RunBenches}
 use Rattle.theory_shown.specs.Benched.{BefallsBench, MeanwhileBench, MeetsBench}
-use Rattle.theory_shown.specs.Linked.{LinkedEndAgrees, LinkedWatchAgrees}
+use Rattle.theory_shown.specs.Linked.{LinkedEndAgrees, LinkedWatchAgrees, MeetsPast}
 use Rattle.theory_shown.specs.Watched.{AllCohere, MovesMeet}
-use Rattle.theory_shown.proofs.Agreeing.{watch_agrees, watch_end_agrees}
+use Rattle.theory_shown.proofs.Agreeing.{watch_agrees, watch_begins, watch_end_agrees}
+use Rattle.theory_shown.proofs.Benched.{as_servers}
 use Rattle.theory_shown.proofs.Waiting.{connected_ready}
 use Rattle.theory_shown.proofs.Watched.{ends_cohere, prints_cohere}
 
@@ -147,7 +149,7 @@ module _ (A : Type 0) (past : PastView) where
       record { after = before; befalls = refl; beside = quiet now (happens.Bytes bytes) old new before carries tt beside }
   noted now happens.Moment old new before carries beside =
       record { after = before; befalls = refl; beside = quiet now happens.Moment old new before carries tt beside }
-  noted now (happens.Addresses count) old new before carries beside = absurd carries.0.1
+  noted now (happens.Addresses kept added is_listed) old new before carries beside = absurd carries.0.1
   noted now (happens.Call ticket call until) old new before carries beside = absurd carries.0.1
   noted now (happens.Follow ticket side path) old new before carries beside = absurd carries.0.1
   noted now (happens.Unfollow ticket) old new before carries beside = absurd carries.0.1
@@ -233,6 +235,24 @@ module _ (A : Type 0) (past : PastView) where
   followed style roots most aims first ready begun follows =
       ran (flow_in first) (flow_in ready) (started past.history) (follows_run A (bench_end past) aims roots first ready follows)
       (beside_first style most first begun)
+
+-- its driver meets servers up to where it has printed
+pub watch_meets : (A : Type 0) (past : PastView) → IsHistory (history_of past.history) → (style : Style) (roots : List Text) (most : ℕ)
+    (aims : List (Side × Text)) (first : Stand A (bench_end past)) (text : List ℕ) → IsBegun style most first
+    → (from : PrintsFrom aims roots first text) → MeetsPast past first from.last
+watch_meets A past is style roots most aims first text begun from =
+    let runs = runs_join (flow_in first) (flow_in from.ready) (flow_in from.last)
+    (follows_run A (bench_end past) aims roots first from.ready from.follows)
+    (moves_run from.prints.moves from.ready from.last from.prints.does) in
+    let all = ran A past (flow_in first) (flow_in from.last) (started past.history) runs (beside_first A past style most first begun) in
+    let served = as_servers ByDriver (flow_in first) (flow_in from.last) all.after (record {
+      begins = watch_begins style most first begun;
+      runs = all.benches.runs;
+      before = started past.history;
+      meets = all.benches.meets;
+      history = subst (λ (h : HistoryView). IsHistory (history_of h)) (sym all.beside.history) is;
+    }) in
+    (shown_of all.after, (served, ap (λ (h : HistoryView). history_of h) all.beside.history))
 
 pub linked_watch_agrees : (A : Type 0) (past : PastView) → IsHistory (history_of past.history) → LinkedWatchAgrees A past
 linked_watch_agrees A past is style roots most aims first text begun from =

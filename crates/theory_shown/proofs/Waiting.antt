@@ -136,7 +136,7 @@ module _ {A : Type 0} {far : FarEnd} where
   waits (Some (Made (Noted now happens.Moment)) ∷ steps) old new passes quiet before ready =
       let rest = waits steps passes.0 new passes.2 quiet before ready in
       record { after = rest.after; meets = (before, refl, rest.meets); history = rest.history }
-  waits (Some (Made (Noted now (happens.Addresses count))) ∷ steps) old new passes quiet before ready =
+  waits (Some (Made (Noted now (happens.Addresses kept added is_listed))) ∷ steps) old new passes quiet before ready =
       let rest = waits steps passes.0 new passes.2 quiet before ready in
       record { after = rest.after; meets = (before, refl, rest.meets); history = rest.history }
   waits (Some (Made (Noted now (happens.Call ticket call until))) ∷ steps) old new passes quiet before ready =

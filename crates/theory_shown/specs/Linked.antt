@@ -4,9 +4,12 @@ use Rattle.std.specs.Prelude.{◌≡◌, ◌⊎◌, ℕ, Bool, List, [], Option}
 use Rattle.zk_nodes.specs.Path.{Text}
 use Rattle.zk_nodes.specs.declared.side.Side.{Side}
 use Rattle.zk_history.specs.HistoryView.{history_of}
+use Rattle.theory_serving.specs.Shown.{Shown}
+use Rattle.theory_drivers.specs.ServedDrivers.{MeetsServers}
+use Rattle.theory_drivers.specs.Worlds.{ByDriver}
 use Rattle.zk_bench_dial.specs.Lines.{bench_end, PastView}
 use Rattle.shell_watch.specs.declared.plan.Style.{Style}
-use Rattle.shell_watch.specs.Watching.{EndsFrom, IsBegun, IsStood, IsWatched, PrintsFrom, Stand}
+use Rattle.shell_watch.specs.Watching.{flow_in, EndsFrom, IsBegun, IsStood, IsWatched, PrintsFrom, Stand}
 use Rattle.theory_shown.specs.Watched.{AllCohere}
 
 -- Each good answer of the client of which a watch prints a line is the answer of this history at the last seen zxid that this line has,
@@ -28,14 +31,21 @@ LinkedEndAgrees A past =
 
 -- ---- what `watch` itself says
 
+-- The driver of a watch meets servers of this history, from its beginning up to where it stands: what laws about drivers take
+-- (`MeetsServers`).
+abbrev pub MeetsPast : {A : Type 0} (past : PastView) → (first last : Stand A (bench_end past)) → Type 0
+MeetsPast past first last =
+    (after : Shown) × (MeetsServers ByDriver (flow_in first) (flow_in last) after × (after.history ≡ history_of past.history))
+
 -- What `watch` says that it has printed over streams at whose far end a bench with this history is (`IsPrinted`), and that it is this
--- history's.
+-- history's. So each watch that prints is a witness of `MeetsServers`.
 pub record HasPrinted (A : Type 0) (past : PastView) (style : Style) (aims : List (Side × Text)) (roots : List Text) (most : ℕ)
     (text : List ℕ) : Type 0 where
   pub first : Stand A (bench_end past)
   pub begun : IsBegun style most first
   pub from : PrintsFrom aims roots first text
   pub stood : IsStood from.ready text from.last from.prints
+  pub meets : MeetsPast past first from.last
   pub coheres : AllCohere (history_of past.history) from.prints.moves from.ready from.last from.prints.does
 
 abbrev pub PrintsPast : (A : Type 0) → PastView → Style → List (Side × Text) → (roots : List Text) → (most : ℕ) → List ℕ → Type 0

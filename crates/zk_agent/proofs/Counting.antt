@@ -32,7 +32,8 @@ use Rattle.zk_agent.specs.Agents.{Comes, Move, Hears, Hands, Renews, Follows, Un
 use Rattle.zk_agent.specs.Agents.{HungUp, Closes, Addressed, Decides, Tends, Presents, Does, HearsSo, LeavesWhere, LetsGoWhere, Trail}
 use Rattle.zk_agent.specs.Agents.{bytes_at}
 use Rattle.zk_agent.specs.inner.Agents.{asks_for}
-use Rattle.zk_agent.specs.Agents.{given_of, judging_in, moves_of, papers_in, how_many_asked, how_many_ended, is_given, opened_at}
+use Rattle.zk_agent.specs.Agents.{given_of, judging_in, leaves_with, left_at, moves_of, papers_in, how_many_asked, how_many_ended}
+use Rattle.zk_agent.specs.Agents.{is_given, opened_at}
 use Rattle.zk_agent.specs.Credentials.{unwritten}
 use Rattle.zk_agent.specs.Calls.{answers, closings, endings, handed, hears, hears_all, how_many, tells, tells_all}
 use Rattle.zk_agent.specs.Telling.{Told, Says, HangsUp, Begins, Introduces, TellsTree, closed_told, due_told, ended_told, is_end_of}
@@ -91,8 +92,8 @@ asks_alone ticket (Asks its asked until ∷ moves) =
 asks_alone ticket (Opened now ∷ moves) = both_more (asks_for ticket) (Opened now) (filter is_given moves) moves (asks_alone ticket moves)
 asks_alone ticket (Over now ∷ moves) = both_more (asks_for ticket) (Over now) (filter is_given moves) moves (asks_alone ticket moves)
 asks_alone ticket (HungUp ∷ moves) = both_more (asks_for ticket) HungUp (filter is_given moves) moves (asks_alone ticket moves)
-asks_alone ticket (Addressed count ∷ moves) =
-    both_more (asks_for ticket) (Addressed count) (filter is_given moves) moves (asks_alone ticket moves)
+asks_alone ticket (Addressed kept added is_listed ∷ moves) =
+    both_more (asks_for ticket) (Addressed kept added is_listed) (filter is_given moves) moves (asks_alone ticket moves)
 asks_alone ticket (Presents judged frames ∷ moves) =
     both_more (asks_for ticket) (Presents judged frames) (filter is_given moves) moves (asks_alone ticket moves)
 
@@ -106,22 +107,28 @@ opened_ask ticket Waiting now = refl
 opened_ask ticket (Dialling began until) now = refl
 opened_ask ticket Open now = refl
 
-pub asks_its : {A : Type 0} (ticket : ℕ) (phase : Phase) (now : ℕ) (input : AgentInput A)
-    → count_by (asks_for ticket) (given_of phase now input) ≡ how_many_asked ticket input
-asks_its ticket phase now happens.Opened = opened_ask ticket phase now
-asks_its ticket phase now happens.Failed = refl
-asks_its ticket phase now (happens.Bytes bytes) = bytes_ask ticket (is_open phase) now bytes.items
-asks_its ticket phase now happens.Cut = refl
-asks_its ticket phase now happens.Moment = refl
-asks_its ticket phase now (happens.Addresses count) = refl
-asks_its ticket phase now (happens.Call its call until) =
+addressed_ask : (ticket kept added : ℕ) (is_listed leaves : Bool) (now : ℕ)
+    → count_by (asks_for ticket) (Addressed kept added is_listed ∷ left_at leaves now) ≡ 0
+addressed_ask ticket kept added is_listed true now = refl
+addressed_ask ticket kept added is_listed false now = refl
+
+pub asks_its : {A : Type 0} (ticket : ℕ) (dialler : Dialler A) (now : ℕ) (input : AgentInput A)
+    → count_by (asks_for ticket) (given_of dialler now input) ≡ how_many_asked ticket input
+asks_its ticket dialler now happens.Opened = opened_ask ticket dialler.phase now
+asks_its ticket dialler now happens.Failed = refl
+asks_its ticket dialler now (happens.Bytes bytes) = bytes_ask ticket (is_open dialler.phase) now bytes.items
+asks_its ticket dialler now happens.Cut = refl
+asks_its ticket dialler now happens.Moment = refl
+asks_its ticket dialler now (happens.Addresses kept added is_listed) =
+    addressed_ask ticket kept added is_listed (leaves_with dialler kept added is_listed) now
+asks_its ticket dialler now (happens.Call its call until) =
     count_cons (asks_for ticket) (Asks its (call_view call) until) (Hears now (turns.Now now) ∷ [])
     ∙ (let none : count_by (asks_for ticket) (Hears now (turns.Now now) ∷ []) ≡ 0 = refl in omega (arith, none))
-asks_its ticket phase now (happens.Credential credential) = refl
-asks_its ticket phase now (happens.Follow its side path) = refl
-asks_its ticket phase now (happens.Unfollow its) = refl
-asks_its ticket phase now (happens.FollowTree its root most) = refl
-asks_its ticket phase now (happens.UnfollowTree its) = refl
+asks_its ticket dialler now (happens.Credential credential) = refl
+asks_its ticket dialler now (happens.Follow its side path) = refl
+asks_its ticket dialler now (happens.Unfollow its) = refl
+asks_its ticket dialler now (happens.FollowTree its root most) = refl
+asks_its ticket dialler now (happens.UnfollowTree its) = refl
 
 -- and so does a step
 none_presented : (ticket : ℕ) (judged : List (ℕ × ℤ)) (frames : List (List ℕ))
@@ -133,9 +140,9 @@ pub asks_made : {A : Type 0} (ticket : ℕ) (is_there : Bool) (now : ℕ) (input
 asks_made ticket is_there now input agent =
     let judged = (judging_in input agent).1.judged in
     let frames = unwritten is_there (papers_in input agent) in
-    let its = asks_its ticket agent.dialler.phase now input in
+    let its = asks_its ticket agent.dialler now input in
     let none = none_presented ticket judged frames in
-    let both = count_append (asks_for ticket) (given_of agent.dialler.phase now input) (Presents judged frames ∷ []) in
+    let both = count_append (asks_for ticket) (given_of agent.dialler now input) (Presents judged frames ∷ []) in
     omega (arith, its, none, both)
 
 module _ {A : Type 0} (ticket : ℕ) where
@@ -334,7 +341,7 @@ module _ {A : Type 0} (ticket : ℕ) where
       let same : total new ≡ total (record old { told = old.told ++ HangsUp ∷ [] }) = ap total does in
       let more = count_append (is_end_of ticket) old.told (HangsUp ∷ []) in
       let none : how_many_ended ticket (HangsUp ∷ []) ≡ 0 = refl in omega (arith, same, more, none)
-  moved (Addressed count) old new does = let same : total new ≡ total old = ap total does.1 in omega (arith, same)
+  moved (Addressed kept added is_listed) old new does = let same : total new ≡ total old = ap total does.1 in omega (arith, same)
   moved (Decides now due) old new does =
       let same : total new ≡ total (record old { dialler = new.dialler; told = old.told ++ due_told due }) = ap total does.last in
       let more = count_append (is_end_of ticket) old.told (due_told due) in

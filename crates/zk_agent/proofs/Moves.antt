@@ -1,9 +1,9 @@
 -- Moves, one after the other: what each of them keeps, lists of them keep; and single moves, each from what the agent's parts say of it.
-use Rattle.std.proofs.Common.{◌≡◌, ◌≢◌, ◌++◌, ◌⊎◌, inl, inr, ℕ, ℤ, Bool, true, false, cond, ◌&&◌, List, [], ◌∷◌, Option, Some, None, map}
-use Rattle.std.proofs.Common.{refl, sym, ap}
-use Rattle.std.proofs.Common.{subst, ◌∙◌}
+use Rattle.std.proofs.Common.{◌≡◌, ◌≢◌, ◌++◌, ◌⊎◌, inl, inr, ℕ, ℤ, ◌+◌, Bool, true, false, cond, ◌&&◌, not, List, [], ◌∷◌, Option, Some}
+use Rattle.std.proofs.Common.{None, length, map, refl, sym, ap, subst, ◌∙◌}
 use Rattle.std.specs.Prelude.{Result, Ok, Err, OnOk, All, is_some}
 use Rattle.std.specs.List.{filter, list_any, AllByRecursion, FoldsTo}
+use Rattle.std.specs.List.Sorted.{IsPermutation}
 use Rattle.std.proofs.lemmas.List.{append_assoc, append-nil}
 use Rattle.zk_trees.specs.Tending.{shifted, shifted_by, TreeTold}
 use Rattle.std.proofs.lemmas.List.Elements.{All-map, filter-append}
@@ -19,7 +19,10 @@ use Rattle.zk_dialler.specs.declared.dialler.Dialler.{Dialler}
 use Rattle.zk_dialler.specs.declared.dialler.Phase.{Phase}
 use Rattle.zk_dialler.specs.declared.dialler.Phase.TheVariants.{Waiting, Dialling, Open}
 use Rattle.zk_dialler.specs.Backoffs.{row_ended}
-use Rattle.zk_dialler.specs.Dialling.{is_due, is_open, AttemptEnds, DialsWell, Ends, IsRefused, Opens}
+use Rattle.zk_dialler.specs.Chances.{next_state, state_after}
+use Rattle.zk_dialler.specs.Dialling.{is_due, is_open, is_waiting, AttemptEnds, DialsWell, Ends, IsRefused, Opens}
+use Rattle.zk_dialler.specs.Moves.{order_of, tries_kept}
+use Rattle.zk_dialler.specs.Orders.{numbers, shuffled}
 use Rattle.zk_dialler.specs.declared.dialler.DialDue.{DialDue}
 use Rattle.zk_dialler.specs.declared.dialler.DialDue.TheVariants.{Dial, GiveUp}
 use Rattle.zk_follow.specs.declared.subject.Subject.{Subject}
@@ -32,7 +35,7 @@ use Rattle.zk_agent.specs.declared.input.AgentInput.{AgentInput}
 use Rattle.zk_agent.specs.declared.replies.Heard.{Heard}
 use Rattle.zk_agent.specs.Agents.{Trail, Move, Hears, Hands, Renews, Follows, Unfollows, Asks, GivesUp, Tires, Opened, Ended, HungUp}
 use Rattle.zk_agent.specs.Agents.{Closes, Addressed, Decides, Tends, Presents, Does, IsAt, IsLed, IsShut, Comes, HearsSo, LeavesWhere}
-use Rattle.zk_agent.specs.Agents.{MayHear}
+use Rattle.zk_agent.specs.Agents.{leaves_with, moves_with, AddressesSo, MayHear}
 use Rattle.zk_agent.specs.inner.Agents.{MayTake}
 use Rattle.zk_agent.specs.Agents.{LetsGo, LetsGoWhere, TakesSo, given_of, is_connected, is_given, moves_of, noted, opened_at}
 use Rattle.zk_agent.specs.Agents.{over_at, row_after}
@@ -80,7 +83,7 @@ led_by {A} (Tires now) old new does led =
 led_by {A} (Opened now) old new does led = subst IsLed (sym (ap (λ (t : Trail A). t.view) does.1)) led
 led_by {A} (Ended now) old new does led = subst IsLed (sym (ap (λ (t : Trail A). t.view) does.1)) led
 led_by {A} HungUp old new does led = subst IsLed (sym (ap (λ (t : Trail A). t.view) does)) led
-led_by {A} (Addressed count) old new does led = subst IsLed (sym (ap (λ (t : Trail A). t.view) does.1)) led
+led_by {A} (Addressed kept added is_listed) old new does led = subst IsLed (sym (ap (λ (t : Trail A). t.view) does.1)) led
 led_by {A} (Decides now due) old new does led = subst IsLed (sym (ap (λ (t : Trail A). t.view) does.last)) led
 led_by {A} Closes old new does led = subst IsLed (sym (ap (λ (t : Trail A). t.view) does.last)) led
 led_by {A} (Tends told) old new does led = subst IsLed (sym (ap (λ (t : Trail A). t.view) does)) led
@@ -187,7 +190,7 @@ shut_by {A} (Opened now) old new does shut =
 shut_by (Ended now) old new does shut =
     λ closed. ends_waiting old.dialler.phase old.view.saved.session.timeout now old.dialler new.dialler refl does.0
 shut_by HungUp old new does shut = subst IsShut (sym does) shut
-shut_by {A} (Addressed count) old new does shut =
+shut_by {A} (Addressed kept added is_listed) old new does shut =
     λ closed. does.0.phase ∙ shut (sym (ap (λ (t : Trail A). t.view.standing.state) does.1) ∙ closed)
 shut_by {A} (Decides now due) old new does shut =
     λ closed. absurd (does.goes_on (sym (ap (λ (t : Trail A). t.view.standing.state) does.last) ∙ closed))
@@ -218,7 +221,7 @@ stays_by {A} (Tires now) old new does =
 stays_by {A} (Opened now) old new does = ap (λ (t : Trail A). t.timeout) does.1
 stays_by {A} (Ended now) old new does = ap (λ (t : Trail A). t.timeout) does.1
 stays_by {A} HungUp old new does = ap (λ (t : Trail A). t.timeout) does
-stays_by {A} (Addressed count) old new does = ap (λ (t : Trail A). t.timeout) does.1
+stays_by {A} (Addressed kept added is_listed) old new does = ap (λ (t : Trail A). t.timeout) does.1
 stays_by {A} (Decides now due) old new does = ap (λ (t : Trail A). t.timeout) does.last
 stays_by {A} Closes old new does = ap (λ (t : Trail A). t.timeout) does.last
 stays_by {A} (Tends told) old new does = ap (λ (t : Trail A). t.timeout) does
@@ -336,17 +339,17 @@ module _ {A : Type 0} (is_there : Bool) (now : ℕ) (input : AgentInput A) (agen
   abbrev presents : (judged : List (ℕ × ℤ)) (papers : Papers) → List Move
   presents judged papers = Presents judged (unwritten is_there (with_credential input papers)) ∷ []
 
-  pub made : (was : Credentials A) (told judged : List (ℕ × ℤ)) (papers : Papers) (phase : Phase) (old new : Trail A)
+  pub made : (was : Credentials A) (told judged : List (ℕ × ℤ)) (papers : Papers) (dialler : Dialler A) (old new : Trail A)
       → was ≡ agent.credentials → told ≡ judged → judged ≡ (judging (papers_of was)).1.judged
-      → papers ≡ with_judging (judging (papers_of was)) (papers_of was) → phase ≡ agent.dialler.phase
-      → Comes now (given_of phase now input ++ presents told papers) old new
+      → papers ≡ with_judging (judging (papers_of was)) (papers_of was) → dialler ≡ agent.dialler
+      → Comes now (given_of dialler now input ++ presents told papers) old new
       → Comes now (moves_of is_there now input agent) old new
-  made was told judged papers phase old new same is its are at comes =
-      subst (λ (c : Credentials A). Comes now (given_of agent.dialler.phase now input
+  made was told judged papers dialler old new same is its are at comes =
+      subst (λ (c : Credentials A). Comes now (given_of agent.dialler now input
       ++ presents (judging (papers_of c)).1.judged (with_judging (judging (papers_of c)) (papers_of c))) old new) same
-      (subst (λ j. Comes now (given_of agent.dialler.phase now input
+      (subst (λ j. Comes now (given_of agent.dialler now input
       ++ presents j (with_judging (judging (papers_of was)) (papers_of was))) old new) (is ∙ its)
-      (subst (λ p. Comes now (given_of agent.dialler.phase now input ++ presents told p) old new) are
+      (subst (λ p. Comes now (given_of agent.dialler now input ++ presents told p) old new) are
       (subst (λ h. Comes now (given_of h now input ++ presents told papers) old new) at comes)))
 
 -- ---- single moves
@@ -379,6 +382,34 @@ pub ended : {A : Type 0} (old new : Trail A) (timeout now : ℕ)
     → Comes now (Ended now ∷ []) old new
 ended old new timeout now is ends rest =
     gives now (Ended now) old new refl refl (subst (λ t. Ends t now old.dialler new.dialler) is ends, rest)
+
+-- another list, by what the dialler says of it
+module _ {A : Type 0} (kept added : ℕ) (is_listed moves : Bool) (old new : Dialler A)
+    (so : moves ≡ moves_with old kept added is_listed) (phase : new.phase ≡ old.phase) where
+  pub readdressed : new.ring.order.items ≡ order_of moves
+      (tries_kept (length old.ring.order.items) kept (kept + added)
+      (next_state (state_after (kept + added) (next_state old.backoff.chance.state)))) kept
+      (shuffled (next_state old.backoff.chance.state) (kept + added) (numbers (kept + added)))
+      → IsPermutation (numbers (kept + added)) new.ring.order.items → new.ring.next ≡ 0
+      → new.backoff ≡ record old.backoff {
+        chance = record { state = next_state (next_state (state_after (kept + added) (next_state old.backoff.chance.state))) };
+      }
+      → AddressesSo kept added is_listed old new
+  readdressed order each first backoff = record {
+    order = subst (λ b. new.ring.order.items ≡ order_of b
+        (tries_kept (length old.ring.order.items) kept (kept + added)
+        (next_state (state_after (kept + added) (next_state old.backoff.chance.state)))) kept
+        (shuffled (next_state old.backoff.chance.state) (kept + added) (numbers (kept + added)))) so order;
+    each = each;
+    first = first;
+    phase = phase;
+    backoff = backoff;
+  }
+
+  pub leaves_so : (leaves : Bool) → leaves ≡ (moves && not (is_waiting new.phase)) → leaves ≡ leaves_with old kept added is_listed
+  leaves_so leaves is =
+      is ∙ ap (λ b. b && not (is_waiting new.phase)) so
+      ∙ ap (λ at. moves_with old kept added is_listed && not (is_waiting at)) phase
 
 pub decided : {A : Type 0} (old new : Trail A) (timeout now : ℕ) (due : Option DialDue)
     → old.view.standing.state ≢ Closed → timeout ≡ old.view.saved.session.timeout

@@ -1,6 +1,6 @@
 -- How far an agent has come, move by move.
-use Rattle.std.specs.Prelude.{◌≡◌, ◌≢◌, ◌==◌, ⊤, ℕ, ℤ, ◌&&◌, Bool, true, false, if◌then◌else◌, List, [], ◌∷◌, ◌++◌, map, Option}
-use Rattle.std.specs.Prelude.{Some, is_some}
+use Rattle.std.specs.Prelude.{◌≡◌, ◌≢◌, ◌==◌, ⊤, ℕ, ℤ, ◌+◌, ◌&&◌, Bool, true, false, not, if◌then◌else◌, List, [], ◌∷◌, ◌++◌, map}
+use Rattle.std.specs.Prelude.{Option, Some, is_some, length}
 use Rattle.std.specs.List.{count_by, filter, flat_map, AllByRecursion, FoldsTo}
 use Rattle.std.specs.List.Sorted.{IsPermutation}
 use Rattle.zk_nodes.specs.Path.{Text}
@@ -20,8 +20,9 @@ use Rattle.zk_dialler.specs.declared.dialler.DialDue.{DialDue}
 use Rattle.zk_dialler.specs.declared.dialler.Phase.{Phase}
 use Rattle.zk_dialler.specs.declared.dialler.Phase.TheVariants.{Waiting, Dialling}
 use Rattle.zk_dialler.specs.Backoffs.{connected_at, row_ended}
-use Rattle.zk_dialler.specs.Chances.{state_after}
-use Rattle.zk_dialler.specs.Dialling.{first_moment, has_come, is_due, is_open, DialsWell, Ends, Opens}
+use Rattle.zk_dialler.specs.Chances.{next_state, state_after}
+use Rattle.zk_dialler.specs.Dialling.{first_moment, has_come, is_due, is_open, is_waiting, DialsWell, Ends, Opens}
+use Rattle.zk_dialler.specs.Moves.{moves_by, order_of, tries_kept}
 use Rattle.zk_dialler.specs.Orders.{numbers, shuffled}
 use Rattle.zk_follow.specs.declared.subject.Subject.{Subject}
 use Rattle.zk_follow.specs.Following.{due_again, first_again, fresh, news_in, told_of, unfollowed, AreFollowed, RunsOut, Steps}
@@ -76,7 +77,7 @@ pub data Move : Type 0 where
   Tires : (now : ℕ) → Move
   Opened Ended : (now : ℕ) → Move
   HungUp Renews Closes : Move
-  Addressed : (count : ℕ) → Move
+  Addressed : (kept added : ℕ) → (is_listed : Bool) → Move
   Decides : (now : ℕ) → Option DialDue → Move
   Tends : TreeTold → Move
   Presents : (judged : List (ℕ × ℤ)) → (frames : List (List ℕ)) → Move
@@ -173,13 +174,25 @@ pub record AsksSo {A : Type 0} (ticket : ℕ) (asked : Call) (until : Option ℕ
   pub waits : entry.is_sent ≡ false
   pub last : new ≡ record old { line = old.line ++ entry ∷ [] }
 
--- Another list of addresses is dialled in a new order, which goes on with the same random numbers.
-pub record AddressesSo {A : Type 0} (count : ℕ) (old new : Dialler A) : Type 0 where
-  pub order : new.ring.order.items ≡ shuffled old.backoff.chance.state count (numbers count)
-  pub each : IsPermutation (numbers count) new.ring.order.items
+-- Whether a session moves with another list of addresses, by the next random number: its first addresses, this many, are kept, and the
+-- others are added.
+abbrev pub moves_with : {A : Type 0} → Dialler A → (kept added : ℕ) → (is_listed : Bool) → Bool
+moves_with dialler kept added is_listed =
+    moves_by (length dialler.ring.order.items) (kept + added) is_listed (next_state dialler.backoff.chance.state)
+
+-- Another list of addresses is dialled in a new order, which goes on with the same random numbers. A session that moves tries one group of
+-- them ahead of the other.
+pub record AddressesSo {A : Type 0} (kept added : ℕ) (is_listed : Bool) (old new : Dialler A) : Type 0 where
+  pub order : new.ring.order.items ≡ order_of (moves_with old kept added is_listed)
+      (tries_kept (length old.ring.order.items) kept (kept + added)
+      (next_state (state_after (kept + added) (next_state old.backoff.chance.state)))) kept
+      (shuffled (next_state old.backoff.chance.state) (kept + added) (numbers (kept + added)))
+  pub each : IsPermutation (numbers (kept + added)) new.ring.order.items
   pub first : new.ring.next ≡ 0
   pub phase : new.phase ≡ old.phase
-  pub backoff : new.backoff ≡ record old.backoff { chance = record { state = state_after count old.backoff.chance.state } }
+  pub backoff : new.backoff ≡ record old.backoff {
+    chance = record { state = next_state (next_state (state_after (kept + added) (next_state old.backoff.chance.state))) };
+  }
 
 -- After a close each call that waits is answered so.
 pub record ClosesSo {A : Type 0} (old new : Trail A) : Type 0 where
@@ -223,7 +236,8 @@ Does old (Opened now) new =
     Opens old.view.saved.session.timeout now old.dialler new.dialler true × (new ≡ record old { dialler = new.dialler })
 Does old (Ended now) new = Ends old.view.saved.session.timeout now old.dialler new.dialler × (new ≡ record old { dialler = new.dialler })
 Does old HungUp new = new ≡ record old { told = old.told ++ HangsUp ∷ [] }
-Does old (Addressed count) new = AddressesSo count old.dialler new.dialler × (new ≡ record old { dialler = new.dialler })
+Does old (Addressed kept added is_listed) new =
+    AddressesSo kept added is_listed old.dialler new.dialler × (new ≡ record old { dialler = new.dialler })
 Does old (Decides now due) new = DecidesSo now due old new
 Does old Closes new = ClosesSo old new
 Does old (Presents judged frames) new =
@@ -277,20 +291,30 @@ abbrev pub bytes_at : (is_open : Bool) → (now : ℕ) → List ℕ → List Mov
 bytes_at true now bytes = Hears now (turns.Bytes bytes) ∷ []
 bytes_at false now bytes = Hears now (turns.Now now) ∷ []
 
+-- Whether a session leaves its connection, or its attempt, with another list of addresses: if it has one, and moves.
+abbrev pub leaves_with : {A : Type 0} → Dialler A → (kept added : ℕ) → (is_listed : Bool) → Bool
+leaves_with dialler kept added is_listed = moves_with dialler kept added is_listed && not (is_waiting dialler.phase)
+
+-- It hangs up, or gives the attempt up, and the client hears that the connection is over.
+abbrev pub left_at : (leaves : Bool) → (now : ℕ) → List Move
+left_at true now = HungUp ∷ over_at now
+left_at false now = Hears now (turns.Now now) ∷ []
+
 -- what an input makes at a moment, by where the connection is
-abbrev pub given_of : {A : Type 0} → Phase → (now : ℕ) → AgentInput A → List Move
-given_of phase now happens.Opened = opened_at phase now
-given_of phase now happens.Failed = over_at now
-given_of phase now happens.Cut = over_at now
-given_of phase now (happens.Bytes bytes) = bytes_at (is_open phase) now bytes.items
-given_of phase now happens.Moment = Hears now (turns.Now now) ∷ []
-given_of phase now (happens.Addresses count) = Addressed count ∷ Hears now (turns.Now now) ∷ []
-given_of phase now (happens.Call ticket call until) = Asks ticket (call_view call) until ∷ Hears now (turns.Now now) ∷ []
-given_of phase now (happens.Credential credential) = Hears now (turns.Now now) ∷ []
-given_of phase now (happens.Follow ticket side path) = Follows ticket side path ∷ Hears now (turns.Now now) ∷ []
-given_of phase now (happens.Unfollow ticket) = Unfollows ticket ∷ Hears now (turns.Now now) ∷ []
-given_of phase now (happens.FollowTree ticket root most) = Hears now (turns.Now now) ∷ []
-given_of phase now (happens.UnfollowTree ticket) = Hears now (turns.Now now) ∷ []
+abbrev pub given_of : {A : Type 0} → Dialler A → (now : ℕ) → AgentInput A → List Move
+given_of dialler now happens.Opened = opened_at dialler.phase now
+given_of dialler now happens.Failed = over_at now
+given_of dialler now happens.Cut = over_at now
+given_of dialler now (happens.Bytes bytes) = bytes_at (is_open dialler.phase) now bytes.items
+given_of dialler now happens.Moment = Hears now (turns.Now now) ∷ []
+given_of dialler now (happens.Addresses kept added is_listed) =
+    Addressed kept added is_listed ∷ left_at (leaves_with dialler kept added is_listed) now
+given_of dialler now (happens.Call ticket call until) = Asks ticket (call_view call) until ∷ Hears now (turns.Now now) ∷ []
+given_of dialler now (happens.Credential credential) = Hears now (turns.Now now) ∷ []
+given_of dialler now (happens.Follow ticket side path) = Follows ticket side path ∷ Hears now (turns.Now now) ∷ []
+given_of dialler now (happens.Unfollow ticket) = Unfollows ticket ∷ Hears now (turns.Now now) ∷ []
+given_of dialler now (happens.FollowTree ticket root most) = Hears now (turns.Now now) ∷ []
+given_of dialler now (happens.UnfollowTree ticket) = Hears now (turns.Now now) ∷ []
 
 -- what the bytes of an input answer, where they come on the connection
 abbrev pub judging_in : {A : Type 0} → AgentInput A → Agent A → Judging
@@ -306,7 +330,7 @@ papers_in input agent = with_credential input (with_judging (judging_in input ag
 -- and writes those that were not yet written on the connection that is there.
 abbrev pub moves_of : {A : Type 0} → (is_open : Bool) → (now : ℕ) → AgentInput A → Agent A → List Move
 moves_of is_open now input agent =
-    given_of agent.dialler.phase now input
+    given_of agent.dialler now input
     ++ Presents (judging_in input agent).1.judged (unwritten is_open (papers_in input agent)) ∷ []
 
 -- Moves, the oldest first, all at one moment. Those that come from outside are these, and no other. A client that was led stands where it

@@ -42,8 +42,8 @@ pub struct Agent<A: Allocator + Copy = Global> {
 }
 
 impl<A: Allocator + Copy> Agent<A> {
-    ghost use Rattle.std.specs.Prelude.{◌≡◌, ◌≢◌, ◌≤◌, ◌<◌, ◌+◌, ◌<ℤ◌, ◌≤ℤ◌, ◌^◌, ◌++◌, ◌∷◌, ℕ, true, false, map, max, length, pos};
-    ghost use Rattle.std.specs.Prelude.{unsigned_abs, [], None, IfOk, IfSome, OnErr, OnOk, All};
+    ghost use Rattle.std.specs.Prelude.{◌≡◌, ◌≢◌, ◌≤◌, ◌<◌, ◌+◌, ◌<ℤ◌, ◌≤ℤ◌, ◌^◌, ◌++◌, ◌∷◌, ◌&&◌, ℕ, true, false, map, max, length, pos};
+    ghost use Rattle.std.specs.Prelude.{not, unsigned_abs, [], None, IfOk, IfSome, OnErr, OnOk, All};
     ghost use Rattle.std.specs.List.Sorted.{IsPermutation};
     ghost use Rattle.zk_turns.specs.Turns as turns;
     ghost use Rattle.zk_turns.specs.View.{view_at};
@@ -52,7 +52,7 @@ impl<A: Allocator + Copy> Agent<A> {
     ghost use Rattle.zk_client.specs.Clients.{renewed_start, view_of};
     ghost use Rattle.zk_dialler.specs.Backoffs.{row_ended};
     ghost use Rattle.zk_dialler.specs.Chances.{state_after};
-    ghost use Rattle.zk_dialler.specs.Dialling.{is_open};
+    ghost use Rattle.zk_dialler.specs.Dialling.{is_open, is_waiting};
     ghost use Rattle.zk_dialler.specs.Orders.{numbers, shuffled};
     ghost use Rattle.zk_dialler.specs.declared.dialler.Phase.TheVariants.{Waiting};
     ghost use Rattle.zk_follow.specs.Following.{due_again, AreFollowed};
@@ -64,7 +64,7 @@ impl<A: Allocator + Copy> Agent<A> {
     ghost use Rattle.zk_agent.specs.Agents.{moves_of, papers_in, Presents};
     ghost use Rattle.zk_agent.specs.Credentials.{all_written, no_papers, papers_of, unwritten, with_credential};
     ghost use Rattle.zk_agent.specs.Agents.{trail_of, Addressed, Asks, Comes, Follows, Hears, IsAnswered, IsBroken, IsDecided, IsLed};
-    ghost use Rattle.zk_agent.specs.Agents.{NothingAt, NothingOpen, Unfollows};
+    ghost use Rattle.zk_agent.specs.Agents.{leaves_with, left_at, NothingAt, NothingOpen, Unfollows};
     ghost use Rattle.zk_agent.specs.Calls.{endings, how_many, IsInTime, IsServed};
     ghost use Rattle.zk_agent.specs.Telling.{told_by, Begins};
     ghost use Rattle.zk_agent.specs.Trees.{GoesOn};
@@ -323,7 +323,7 @@ impl<A: Allocator + Copy> Agent<A> {
         judged: &[(usize, i32)],
         actions: &mut Vec<Action<A>, A>,
     ) -> Result<(), FollowerStop>
-        ensures comes { OnOk result (Comes now (given_of self.old.dialler.phase now input
+        ensures comes { OnOk result (Comes now (given_of self.old.dialler now input
             ++ Presents judged.now (unwritten (is_open self.new.dialler.phase) (with_credential input (papers_of credentials.old))) ∷ [])
             (trail_of self.old actions.old.items) (trail_of self.new actions.new.items)) }
         ensures papers { OnOk result (papers_of credentials.new
@@ -357,7 +357,7 @@ impl<A: Allocator + Copy> Agent<A> {
         credentials: &mut Credentials<A>,
         actions: &mut Vec<Action<A>, A>,
     ) -> Result<(), FollowerStop>
-        ensures comes { OnOk result (Comes now (given_of self.old.dialler.phase now input) (trail_of self.old actions.old.items)
+        ensures comes { OnOk result (Comes now (given_of self.old.dialler now input) (trail_of self.old actions.old.items)
             (trail_of self.new actions.new.items)) }
         ensures papers { OnOk result (papers_of credentials.new ≡ with_credential input (papers_of credentials.old)) }
         ensures followed { OnOk result
@@ -370,7 +370,11 @@ impl<A: Allocator + Copy> Agent<A> {
             AgentInput::Bytes(bytes) => self.bytes(now, bytes, actions),
             AgentInput::Moment | AgentInput::FollowTree { .. } | AgentInput::UnfollowTree { .. } =>
                 { self.step_client(now, zk_client::Input::Now(now), actions) }
-            AgentInput::Addresses(count) => self.set_addresses(now, count, actions),
+            AgentInput::Addresses {
+                kept,
+                added,
+                is_listed,
+            } => self.change_addresses(now, kept, added, is_listed, actions),
             AgentInput::Call {
                 ticket,
                 call,
@@ -431,20 +435,36 @@ impl<A: Allocator + Copy> Agent<A> {
         self.step_client(now, zk_client::Input::Now(now), actions)
     }
 
-    /// Another list of addresses.
-    fn set_addresses(
+    /// Whether a session leaves its connection, or its attempt: it has one, and moves.
+    fn is_leaving(&self, moves: bool) -> bool
+        ensures { result ≡ (moves && not (is_waiting self.now.dialler.phase)) }
+    {
+        moves && !self.dialler.is_waiting()
+    }
+
+    /// Another list of addresses. A session that moves leaves its connection, or its attempt.
+    fn change_addresses(
         &mut self,
         now: u64,
-        count: usize,
+        kept: usize,
+        added: usize,
+        is_listed: bool,
         actions: &mut Vec<Action<A>, A>,
     ) -> Result<(), FollowerStop>
-        ensures comes { OnOk result (Comes now (Addressed count ∷ Hears now (turns.Now now) ∷ []) (trail_of self.old actions.old.items)
-            (trail_of self.new actions.new.items)) }
+        ensures comes { OnOk result
+            (Comes now (Addressed kept added is_listed ∷ left_at (leaves_with self.old.dialler kept added is_listed) now)
+            (trail_of self.old actions.old.items) (trail_of self.new actions.new.items)) }
         ensures followed { OnOk result
             (AreFollowed now (view_of self.new.asker.follower.client) self.new.asker.follower.subjects.items) }
         ensures broke { OnErr result (IsBroken self.old self.new) }
     {
-        self.dialler.set_addresses(self.alloc, count)?;
+        let moves = self
+            .dialler
+            .change_addresses(self.alloc, kept, added, is_listed)?;
+        if self.is_leaving(moves) {
+            push(actions, Action::HangUp)?;
+            return self.end(now, actions);
+        }
         self.step_client(now, zk_client::Input::Now(now), actions)
     }
 

@@ -21,8 +21,18 @@ pub enum AgentInput<A: Allocator + Copy = Global> {
     Cut,
     /// Nothing but the moment.
     Moment,
-    /// The list of addresses is another one, of this many: they are dialled in a new order. A connection that is there stays.
-    Addresses(usize),
+    /// The list of addresses is another one: first stand those that were in the list before, as many as `kept`, and after them those that
+    /// were not, as many as `added`. A place is one of this list from now on. `is_listed` says whether it has the address of the connection
+    /// that is there or is being made, or else the one that was dialled last; it is true if none was dialled yet.
+    ///
+    /// They are dialled in a new order, and the session may move, as those of ZooKeeper's own clients do: always if `is_listed` is false;
+    /// else by the chance by which the list has grown, and never if it has not. One that moves hangs up, or gives the attempt up, and what
+    /// was on its way is as after any cut. It dials addresses that were added first, if the list has grown.
+    Addresses {
+        kept: usize,
+        added: usize,
+        is_listed: bool,
+    },
     /// A call is asked. It is handed to the client as soon as a server has accepted the connection and fewer than 1,024 calls are on their
     /// way, after those that were asked before; and it waits to this moment at most, where there is one. No other call or subject has or
     /// had the ticket.

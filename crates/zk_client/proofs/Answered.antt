@@ -17,8 +17,7 @@ use Rattle.zk_turns.specs.Rule.{next, next_reply, after_reply, with_node, with_c
 use Rattle.zk_cache.specs.Kept.{Answer, Names}
 use Rattle.zk_turns.proofs.Happened.{view_ext}
 use Rattle.zk_frames.specs.declared.limits.FrameLimits.{FrameLimits}
-use Rattle.zk_client.specs.Seen.{shown, cache_of}
-use Rattle.zk_client.specs.inner.Seen.{while_pending}
+use Rattle.zk_client.specs.inner.Seen.{shown, cache_of, while_pending}
 use Rattle.zk_client.proofs.CacheLemmas.{cache-ext, nothing-kept}
 use Rattle.zk_client.specs.inner.Steps.{closing}
 

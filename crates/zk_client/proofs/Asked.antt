@@ -17,7 +17,7 @@ use Rattle.zk_turns.specs.Taken.{phase_of, longest_of}
 use Rattle.zk_turns.specs.Rule.{after_all}
 use Rattle.zk_client.specs.inner.Steps.{calls}
 use Rattle.zk_client.specs.Sound.{HasRoom, IsSound}
-use Rattle.zk_client.proofs.Rooms.{tied-talking}
+use Rattle.zk_client.proofs.Rooms.{tied-talking, sound-with}
 use Rattle.zk_limits.specs.declared.limits.TheConstants.{MOST_PATHS}
 
 pushed : (p : Pending → Bool) (xs : List Pending) (y : Pending)
@@ -50,11 +50,9 @@ pub asked-sound : (kept new_kept : SessionView) (talk new_talk : Talk) (lists : 
     → IsSound kept talk lists → kept.state ≡ Connected
     → ((side : Side) → watched_side (question_of call) ≡ Some side → count_of lists side + watches_pending side talk.pending < MOST_PATHS)
     → new_kept ≡ session.next session.Sends kept → new_talk ≡ talk_asked ticket call talk → IsSound new_kept new_talk lists
-asked-sound kept new_kept talk new_talk lists ticket call sound at less e f = rw (e, f) (record {
-  tied =
-      tied-talking (session.next session.Sends kept) (talk_asked ticket call talk) (sound.tied.phase ∙ ap phase_of at) at sound.tied.short;
-  room = asked-room lists talk.pending talk.xid ticket call sound.room less;
-})
+asked-sound kept new_kept talk new_talk lists ticket call sound at less e f = rw (e, f) (sound-with
+    (tied-talking (session.next session.Sends kept) (talk_asked ticket call talk) (sound.phase ∙ ap phase_of at) at sound.short)
+    (asked-room lists talk.pending talk.xid ticket call sound.room less))
 
 -- a call, sent or refused, changes neither the state nor how long a payload may be
 pub asked-longest : (view : View) (ticket : ℕ) (call : Call) (why : Option Outcome)

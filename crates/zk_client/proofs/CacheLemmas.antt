@@ -10,7 +10,7 @@ use Rattle.zk_cache.specs.declared.held.Kept.{Kept}
 use Rattle.zk_cache.proofs.CallerLemmas.{keeps_each}
 use Rattle.zk_turns.specs.View.{Cache}
 use Rattle.zk_turns.specs.Rule.{empty_cache, forgotten}
-use Rattle.zk_client.specs.Seen.{cache_of}
+use Rattle.zk_client.specs.inner.Seen.{cache_of}
 
 pub cache-ext : (a b : Cache) → ((path : Text) → a.nodes path ≡ b.nodes path) → ((path : Text) → a.children path ≡ b.children path) → a ≡ b
 cache-ext a b p q = λ i. record { nodes = λ path. p path i; children = λ path. q path i }

@@ -25,8 +25,7 @@ use Rattle.zk_conversation.proofs.Lengths.{length-int, length-long, length-count
 use Rattle.zk_turns.proofs.Arriving.{IsOf, AreOf, of_arriving}
 use Rattle.zk_turns.proofs.Spelt.{first_spelt}
 use Rattle.zk_frames.specs.declared.limits.FrameLimits.{FrameLimits}
-use Rattle.zk_client.specs.Seen.{shown}
-use Rattle.zk_client.specs.inner.Seen.{while_pending}
+use Rattle.zk_client.specs.inner.Seen.{shown, while_pending}
 use Rattle.zk_client.specs.Sound.{IsSound}
 use Rattle.zk_client.specs.inner.Sound.{IsLeft, HasArrived}
 use Rattle.zk_turns.proofs.Words.{happening_of}
@@ -87,20 +86,20 @@ later-has : (arrived : Arrived) (kept : SessionView) (talk : Talk) (lists : List
     → IsLeft arrived talk.pending (pending_after arrived talk.pending) → HasArrived arrived kept (talk_after arrived talk) lists
 later-has (Connected response) kept talk lists sound at is left = absurd is
 later-has (Replied ticket question zxid result) kept talk lists sound at is left =
-    record { before = talk.pending; left = left; room = sound.room; phase = refl; comes = at; short = sound.tied.short }
+    record { before = talk.pending; left = left; room = sound.room; phase = refl; comes = at; short = sound.short }
 later-has (Watches_set last zxid err) kept talk lists sound at is left =
-    record { before = talk.pending; left = left; room = sound.room; phase = refl; comes = at; short = sound.tied.short }
+    record { before = talk.pending; left = left; room = sound.room; phase = refl; comes = at; short = sound.short }
 later-has (Notice event path) kept talk lists sound at is left =
-    record { before = talk.pending; left = left; room = sound.room; phase = refl; comes = at; short = sound.tied.short }
+    record { before = talk.pending; left = left; room = sound.room; phase = refl; comes = at; short = sound.short }
 later-has Pong kept talk lists sound at is left =
-    record { before = talk.pending; left = left; room = sound.room; phase = refl; comes = at; short = sound.tied.short }
+    record { before = talk.pending; left = left; room = sound.room; phase = refl; comes = at; short = sound.short }
 later-has Skipped kept talk lists sound at is left =
-    record { before = talk.pending; left = left; room = sound.room; phase = refl; comes = at; short = sound.tied.short }
+    record { before = talk.pending; left = left; room = sound.room; phase = refl; comes = at; short = sound.short }
 
 while-connected : (arrived : Arrived) (kept : SessionView) (talk : Talk) (lists : Lists) (payload : List ℕ) → IsSound kept talk lists
     → kept.state ≡ Is_connected → arriving talk.phase talk.pending payload ≡ Ok arrived → Comes arrived kept talk lists
 while-connected arrived kept talk lists payload sound at e =
-    let phase : talk.phase ≡ Talking = sound.tied.phase ∙ ap phase_of at in
+    let phase : talk.phase ≡ Talking = sound.phase ∙ ap phase_of at in
     let is = of-later talk.pending payload arrived (ap (λ (p : Phase). arriving p talk.pending payload) (sym phase) ∙ e) in
     let left = leaves arrived talk.pending is in
     record { left = left; has = later-has arrived kept talk lists sound at is left }
@@ -108,7 +107,7 @@ while-connected arrived kept talk lists payload sound at e =
 first-has : (response : Response) (kept : SessionView) (talk : Talk) (lists : Lists) → IsSound kept talk lists → kept.state ≡ Connecting
     → talk.phase ≡ Opening → length (response_password response) ≤ LONGEST_PASSWORD → Comes (Connected response) kept talk lists
 first-has response kept talk lists sound at phase short =
-    let quiet : length talk.pending ≡ 0 = sound.tied.quiet (λ e. let clash : Opening ≡ Talking = sym phase ∙ e in absurd cc) in
+    let quiet : length talk.pending ≡ 0 = sound.quiet (λ e. let clash : Opening ≡ Talking = sym phase ∙ e in absurd cc) in
     record {
       left = refl;
       has = record {
@@ -117,7 +116,7 @@ first-has response kept talk lists sound at phase short =
         room = sound.room;
         phase = refl;
         comes = (at, quiet, short);
-        short = sound.tied.short;
+        short = sound.short;
       };
     }
 
@@ -125,7 +124,7 @@ while-connecting : (arrived : Arrived) (kept : SessionView) (talk : Talk) (lists
     → IsSound kept talk lists → kept.state ≡ Connecting → IsBytes payload → length payload ≤ LONGEST_INCOMING
     → arriving talk.phase talk.pending payload ≡ Ok arrived → Comes arrived kept talk lists
 while-connecting arrived kept talk lists payload sound at are le e =
-    let phase : talk.phase ≡ Opening = sound.tied.phase ∙ ap phase_of at in
+    let phase : talk.phase ≡ Opening = sound.phase ∙ ap phase_of at in
     let read : arriving Opening talk.pending payload ≡ Ok arrived = ap (λ (p : Phase). arriving p talk.pending payload) (sym phase) ∙ e in
     let first = first-comes talk.pending payload arrived read in
     let spelt =
@@ -156,7 +155,7 @@ pub arrives : (limits : FrameLimits) (held : List ℕ) (halted : Bool) (kept : S
     → arriving talk.phase talk.pending payload ≡ read
     → arrival (shown limits held halted kept talk lists answers) payload ≡ happening_of kept.saved.last read
 arrives limits held halted kept talk lists answers payload read sound e =
-    ap (λ (p : Phase). happening_of kept.saved.last (arriving p talk.pending payload)) (sym sound.tied.phase)
+    ap (λ (p : Phase). happening_of kept.saved.last (arriving p talk.pending payload)) (sym sound.phase)
     ∙ ap (happening_of kept.saved.last) e
 
 -- the view before, by what is left

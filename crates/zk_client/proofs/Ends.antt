@@ -16,8 +16,7 @@ use Rattle.zk_turns.specs.Past.{Took, Expiry}
 use Rattle.zk_turns.specs.Rule.{next}
 use Rattle.zk_turns.proofs.Happened.{view_ext}
 use Rattle.zk_frames.specs.declared.limits.FrameLimits.{FrameLimits}
-use Rattle.zk_client.specs.Seen.{shown}
-use Rattle.zk_client.specs.inner.Seen.{while_pending}
+use Rattle.zk_client.specs.inner.Seen.{shown, while_pending}
 use Rattle.zk_client.proofs.CacheLemmas.{nothing-kept}
 
 pub none-there : {A : Type 0} → (xs : List A) → length xs ≡ 0 → xs ≡ []

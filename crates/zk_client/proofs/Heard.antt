@@ -17,7 +17,7 @@ use Rattle.zk_conversation.specs.Results.{Result}
 use Rattle.zk_conversation.specs.Pending.{Talk}
 use Rattle.zk_cache.specs.Cache.{Answers}
 use Rattle.zk_frames.specs.declared.limits.FrameLimits.{FrameLimits}
-use Rattle.zk_client.specs.Seen.{shown}
+use Rattle.zk_client.specs.inner.Seen.{shown}
 use Rattle.zk_watches.specs.Lists.{Lists}
 use Rattle.zk_watches.specs.Parts.{parts}
 use Rattle.zk_turns.specs.Turns.{Comes, Output, Framed}

@@ -1,15 +1,16 @@
 -- What holds of a client after a run: its turns lead from view to view, and the outside tells them.
 use Rattle.std.proofs.lemmas.Int.{ints}
-use Rattle.std.proofs.Common.{◌≡◌, refl, sym, ap, subst, ◌∙◌, arith, List, [], ◌∷◌, ◌++◌, Bool, true, Some, None}
-use Rattle.std.specs.Prelude.{Option, Result, Ok, Err, OnErr, ◌≤ℤ◌, ◌↔◌, map, ℤ}
+use Rattle.std.proofs.Common.{◌≡◌, refl, sym, ap, subst, ◌∙◌, append_assoc, arith, List, [], ◌∷◌, ◌++◌, Bool, true, Some, None}
+use Rattle.std.specs.Prelude.{Option, IfSome, Result, Ok, Err, OnErr, ◌≤ℤ◌, ◌↔◌, map, reverse, ℤ}
+use Rattle.std.proofs.lemmas.Grind.{reverse_onto}
 use Rattle.std.specs.Int.Signed.{≤ℤ_refl}
 use Rattle.zk_nodes.specs.declared.side.Side.TheVariants.{Data, Child}
 use Rattle.zk_cache.specs.Kept.{is_marked_good}
 use Rattle.zk_turns.specs.Turns.{Start, Item, Turned, Halts, Turn, Input, Output}
-use Rattle.zk_turns.specs.View.{View, Cache}
+use Rattle.zk_turns.specs.View.{View, Cache, view_at}
 use Rattle.zk_turns.specs.Past.{last_of, is_good}
 use Rattle.zk_turns.specs.Taken.{past_of}
-use Rattle.zk_turns.specs.Rule.{Stands, HaltsAs}
+use Rattle.zk_turns.specs.Rule.{Stands, HaltsAs, empty_cache}
 use Rattle.zk_turns.specs.Meaning.{IsLastSeen, IsGoodSince}
 use Rattle.zk_turns.proofs.Marks.{data_marks, child_marks}
 use Rattle.zk_turns.proofs.Meant.{is_good_since, is_last_seen}
@@ -17,8 +18,9 @@ use Rattle.zk_turns.proofs.Over.{nothing_kept, last_rises}
 use Rattle.zk_turns.proofs.Reporting.{reports_are}
 use Rattle.zk_turns.proofs.Stepped.{halt_stands}
 use Rattle.zk_laws.proofs.Headlines.{headline_here, quiet_client}
-use Rattle.zk_client.specs.Outsides.{Told, HandsOut, IsGiven, TellsAll, NoneIsLeft, inputs_then}
-use Rattle.zk_client.specs.Runs.{Holds, IsExact, RanWhole, RanUntilHalt}
+use Rattle.zk_client.specs.Outsides.{Told, HandsOut, IsGiven, TellsAll}
+use Rattle.zk_client.specs.Runs.{Holds, IsExact, Ran}
+use Rattle.zk_client.proofs.CacheLemmas.{cache-ext}
 
 -- ---- one view
 
@@ -37,8 +39,8 @@ exact_here start items view s = record {
       (is_good_since Child path (past_of start items));
   last = subst (λ z. IsLastSeen start (past_of start items) z) (sym (ap (λ v. v.last) s.saved)) (is_last_seen start (past_of start items));
   reports = reports_are start items view s;
-  emptied_nodes = λ over path. ap (λ (c : Cache). c.nodes path) s.cache ∙ (nothing_kept start items over).nodes path;
-  emptied_children = λ over path. ap (λ (c : Cache). c.children path) s.cache ∙ (nothing_kept start items over).children path;
+  emptied = λ over. s.cache ∙ cache-ext (view_at start (past_of start items)).cache empty_cache (nothing_kept start items over).nodes
+      (nothing_kept start items over).children;
 }
 
 pub holds_here : (start : Start) (items : List Item) (view : View) → Stands start items view → Holds start items view
@@ -86,6 +88,16 @@ tells_none (Some old) = (refl, refl)
 pub at_first : (before : View) (told : Option Told) → HasCome before before told told
 at_first before told = record { turns = []; stands = λ start items s. s; tells = tells_none told }
 
+-- the inputs of these turns, the oldest first
+abbrev inputs : List Turn → List Input
+inputs turns = reverse (map (λ turn. turn.input) turns)
+
+-- those of one turn more, before these
+one-later : (turn : Turn) (turns : List Turn) (rest : List Input) → inputs turns ++ turn.input ∷ rest ≡ inputs (turn ∷ turns) ++ rest
+one-later turn turns rest =
+    sym (append_assoc (inputs turns) (turn.input ∷ []) rest)
+    ∙ sym (ap (λ (l : List Input). l ++ rest) (reverse_onto (map (λ turn. turn.input) turns) turn.input []))
+
 -- one more turn is told
 tells_more : (told now mid new : Option Told) (turns : List Turn) (input : Input) (outputs : List Output)
     → TellsAll told turns [] now → HandsOut now (Some input) mid → IsGiven mid outputs new
@@ -102,7 +114,8 @@ tells_more (Some old) (Some now) (Some mid) (Some new) turns input outputs t han
     let n : Some new ≡ Some (record { coming = hands.0; asked = None; turns = record { input = input; outputs = outputs } ∷ now.turns }) =
     subst (λ (d : Told). IsGiven (Some d) outputs (Some new)) m given in
     let k : new ≡ record { coming = hands.0; asked = None; turns = record { input = input; outputs = outputs } ∷ now.turns } = cc in (
-      t.0 ∙ ap (λ l. inputs_then turns l) hands.1 ∙ ap (λ (d : Told). inputs_then turns (input ∷ d.coming)) (sym k),
+      t.0 ∙ ap (λ l. inputs turns ++ l) hands.1 ∙ ap (λ (d : Told). inputs turns ++ input ∷ d.coming) (sym k)
+          ∙ one-later (record { input = input; outputs = outputs }) turns new.coming,
       ap (λ (d : Told). d.turns) k ∙ ap (λ l. record { input = input; outputs = outputs } ∷ l) t.1,
     )
 
@@ -119,7 +132,7 @@ further before now after told told_now mid new input outputs come hands step giv
 
 -- no input is left
 tells_same : (told now new : Option Told) (turns : List Turn)
-    → TellsAll told turns [] now → HandsOut now None new → TellsAll told turns [] new × NoneIsLeft new
+    → TellsAll told turns [] now → HandsOut now None new → TellsAll told turns [] new × IfSome new (λ told. told.coming ≡ [])
 tells_same None None None turns t hands = (refl, tt)
 tells_same None None (Some new) turns t hands = absurd cc
 tells_same None (Some now) new turns t hands = absurd cc
@@ -130,18 +143,18 @@ tells_same (Some old) (Some now) (Some new) turns t hands =
     (subst (λ d. TellsAll (Some old) turns [] (Some d)) (sym n) t, ap (λ (d : Told). d.coming) n ∙ hands.0)
 
 pub ended : (before now : View) (told told_now new : Option Told)
-    → HasCome before now told told_now → HandsOut told_now None new → RanWhole before told now new
+    → HasCome before now told told_now → HandsOut told_now None new
+    → Ran before now told new [] [] × IfSome new (λ told. told.coming ≡ [])
 ended before now told told_now new come hands =
-    let t = tells_same told told_now new come.turns come.tells hands in
-    record {
-      turns = come.turns;
-      leads = record {
+    let t = tells_same told told_now new come.turns come.tells hands in (
+      record {
+        turns = come.turns;
         holds = λ start items s. holds_here start (map Turned come.turns ++ items) now (come.stands start items s);
         rising = λ start items s. rising_here start (map Turned come.turns) [] items before now s (come.stands start items s);
-      };
-      tells = t.0;
-      ended = t.1;
-    }
+        tells = t.0;
+      },
+      t.1,
+    )
 
 -- the last input is no turn
 tells_last : (told now new : Option Told) (turns : List Turn) (input : Input)
@@ -152,19 +165,18 @@ tells_last (Some old) None new turns input t hands = absurd t
 tells_last (Some old) (Some now) None turns input t hands = let n = hands.2 in absurd cc
 tells_last (Some old) (Some now) (Some new) turns input t hands =
     let n : new ≡ record { coming = hands.0; asked = Some input; turns = now.turns } = cc in (
-      t.0 ∙ ap (λ l. inputs_then turns l) hands.1 ∙ ap (λ (d : Told). inputs_then turns (input ∷ d.coming)) (sym n),
+      t.0 ∙ ap (λ l. inputs turns ++ l) hands.1 ∙ ap (λ (d : Told). inputs turns ++ input ∷ d.coming) (sym n),
       ap (λ (d : Told). d.turns) n ∙ t.1,
     )
 
 pub halted : (before now after : View) (told told_now new : Option Told) (input : Input)
-    → HasCome before now told told_now → HandsOut told_now (Some input) new → HaltsAs now after → RanUntilHalt before told after new
+    → HasCome before now told told_now → HandsOut told_now (Some input) new → HaltsAs now after
+    → Ran before after told new (Halts ∷ []) (input ∷ [])
 halted before now after told told_now new input come hands h = record {
   turns = come.turns;
-  leads = record {
-    holds = λ start items s. holds_here start (Halts ∷ (map Turned come.turns ++ items)) after (stands start items s);
-    rising = λ start items s. rising_here start (map Turned come.turns) (Halts ∷ []) items before after s (stands start items s);
-  };
-  tells = (input, tells_last told told_now new come.turns input come.tells hands);
+  holds = λ start items s. holds_here start (Halts ∷ (map Turned come.turns ++ items)) after (stands start items s);
+  rising = λ start items s. rising_here start (map Turned come.turns) (Halts ∷ []) items before after s (stands start items s);
+  tells = tells_last told told_now new come.turns input come.tells hands;
 } where
   stands : (start : Start) (items : List Item) → Stands start items before → Stands start (Halts ∷ (map Turned come.turns ++ items)) after
   stands start items s = halt_stands start (map Turned come.turns ++ items) now after (come.stands start items s) h

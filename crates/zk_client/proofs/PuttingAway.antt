@@ -7,7 +7,7 @@ use Rattle.std.specs.Int.{w32, w64, byte_at, bytes_high_first, cast_unsigned}
 use Rattle.std.proofs.lemmas.Bool.{le-ltb}
 use Rattle.std.proofs.lemmas.Int.{ints}
 use Rattle.std.proofs.lemmas.List.{append-nil}
-use Rattle.hex.specs.Hex.{decode_of}
+use Rattle.hex.specs.Hex.{decode_of, encode_lower}
 use Rattle.hex.proofs.HexLemmas.{decode_of-encode_lower}
 use Rattle.zk_jute.specs.inner.Laws.{reads}
 use Rattle.zk_jute.specs.Layout.{Value}
@@ -16,8 +16,8 @@ use Rattle.zk_jute.specs.Spelling.{IsBytes, Fits, spelling, long_bytes, int_byte
 use Rattle.zk_jute.specs.declared.fault.TakeError.{TakeError}
 use Rattle.zk_client.specs.declared.saved_fault.SavedFault.{SavedFault}
 use Rattle.zk_client.specs.declared.saved_fault.SavedFault.TheVariants.{Memory}
-use Rattle.zk_client.specs.SavedSessions.{PutAway, IsInRange, CanBePutAway, Gives, bytes_read, fields_of, put_away, record_read}
-use Rattle.zk_client.specs.SavedSessions.{saved_bytes, saved_layout, saved_text}
+use Rattle.zk_client.specs.SavedSessions.{PutAway, IsInRange, CanBePutAway, Gives, bytes_read, put_away, record_read}
+use Rattle.zk_client.specs.SavedSessions.{saved_bytes, saved_layout}
 use Rattle.zk_limits.specs.declared.limits.TheConstants.{LONGEST_PASSWORD}
 
 -- ---- bytes
@@ -68,10 +68,11 @@ put_away-in_range value in_range =
 bytes_read-saved_bytes : (value : PutAway) (bytes : List ℕ) → CanBePutAway value → bytes ≡ saved_bytes value → bytes_read bytes ≡ Ok value
 bytes_read-saved_bytes value bytes can e =
     let short : length value.password ≤ LONGEST_PASSWORD = can.in_range.short in
-    let fits : Fits saved_layout (fields_of value) = (can.session, (omega arith, can.last)) in
-    let again : reading saved_layout (length bytes) bytes ≡ Ok (fields_of value, []) =
+    let fields : Value saved_layout = (value.session, (Some value.password, value.last)) in
+    let fits : Fits saved_layout fields = (can.session, (omega arith, can.last)) in
+    let again : reading saved_layout (length bytes) bytes ≡ Ok (fields, []) =
     ap (reading saved_layout (length bytes)) (e ∙ sym (append-nil (saved_bytes value)))
-    ∙ (reads saved_layout (length bytes)).again (fields_of value) [] fits in
+    ∙ (reads saved_layout (length bytes)).again fields [] fits in
     ap record_read again ∙ put_away-in_range value can.in_range
 
 -- reading gives what was put away, unless memory runs out
@@ -82,7 +83,7 @@ only_saved value bytes result can e gives =
 
 -- the digits of what was put away stand for its bytes
 pub decode_of-saved_text : (value : PutAway) (text : List ℕ)
-    → CanBePutAway value → text ≡ saved_text value → decode_of text ≡ Ok (saved_bytes value)
+    → CanBePutAway value → text ≡ encode_lower (saved_bytes value) → decode_of text ≡ Ok (saved_bytes value)
 decode_of-saved_text value text can e = ap decode_of e ∙ decode_of-encode_lower (saved_bytes value) (IsBytes-saved_bytes value can.bytes)
 
 -- ---- what is read was spelled so

@@ -2,7 +2,7 @@
 -- reply turns that place into the watch.
 use Rattle.std.proofs.Common.{◌≡◌, ℕ, suc, ◌+◌, ◌≤◌, Bool, true, false, List, [], ◌∷◌, ◌++◌, length, Option, Some, None, refl, ap, sym, ◌∙◌}
 use Rattle.std.proofs.Common.{cond, not, arith, length-append}
-use Rattle.std.specs.Prelude.{bytes_eq}
+use Rattle.std.specs.Prelude.{bytes_eq, ◌≢◌}
 use Rattle.zk_nodes.specs.declared.side.Side.TheVariants.{Data, Child}
 use Rattle.zk_records.specs.declared.event.Event.{Event}
 use Rattle.zk_records.specs.Events.{concerns}
@@ -17,7 +17,7 @@ use Rattle.zk_cache.specs.Kept.{Names, Answer}
 use Rattle.zk_turns.specs.Past.{Left, leaves_data, leaves_child}
 use Rattle.zk_turns.specs.Taken.{phase_of}
 use Rattle.zk_turns.specs.Rule.{with_node, with_children, after_reply, says_there}
-use Rattle.zk_client.specs.Sound.{HasRoom, IsTied}
+use Rattle.zk_client.specs.Sound.{HasRoom, IsSound}
 use Rattle.zk_client.specs.inner.Sound.{HasRoomFor}
 use Rattle.zk_limits.specs.declared.limits.TheConstants.{LONGEST_PASSWORD}
 
@@ -136,6 +136,16 @@ room-for xid ticket Close lists rest room side e = absurd cc
 room-for xid ticket Raw lists rest room side e = absurd cc
 
 -- ---- where a client talks
+
+-- what is true of the connection
+pub record IsTied (kept : SessionView) (talk : Talk) : Type 0 where
+  pub phase : talk.phase ≡ phase_of kept.state
+  pub quiet : talk.phase ≢ Talking → length talk.pending ≡ 0
+  pub short : length kept.saved.session.password ≤ LONGEST_PASSWORD
+
+pub sound-with : {kept : SessionView} {talk : Talk} {lists : Lists}
+    → IsTied kept talk → HasRoom lists talk.pending → IsSound kept talk lists
+sound-with tied room = record { phase = tied.phase; quiet = tied.quiet; short = tied.short; room = room }
 
 pub tied-talking : (kept : SessionView) (talk : Talk)
     → talk.phase ≡ Talking → kept.state ≡ Connected → length kept.saved.session.password ≤ LONGEST_PASSWORD → IsTied kept talk

@@ -4,7 +4,7 @@ use Rattle.std.proofs.Props.{props}
 use mathlib.Core.HLevel.{is_prop→PathP}
 use Rattle.zk_limits.specs.declared.limits.TheConstants.{LONGEST_PASSWORD}
 use Rattle.zk_client.specs.declared.client.Client.{Client}
-use Rattle.zk_client.specs.Sound.{CoreIsSound, IsReadingFor}
+use Rattle.zk_client.specs.inner.Sound.{CoreIsSound, IsReadingFor}
 
 pub same_client : {A : Type 0} (a b : Client A) → a.core ≡ b.core → a.reader ≡ b.reader → a ≡ b
 same_client a b p q = λ i. record {

@@ -13,7 +13,7 @@ use Rattle.zk_conversation.specs.Pending.{Talk}
 use Rattle.zk_watches.specs.Lists.{Lists}
 use Rattle.zk_cache.specs.Cache.{Answers}
 use Rattle.zk_frames.specs.declared.limits.FrameLimits.{FrameLimits}
-use Rattle.zk_client.specs.Seen.{shown}
+use Rattle.zk_client.specs.inner.Seen.{shown}
 use Rattle.zk_turns.specs.Turns.{Output, Silent}
 use Rattle.zk_turns.specs.Past.{Happening, Dropped, Pinged, Ticked}
 use Rattle.zk_turns.specs.Taken.{if_open, opens, due}

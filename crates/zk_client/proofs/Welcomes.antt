@@ -24,12 +24,11 @@ use Rattle.zk_turns.specs.Taken.{welcome_by, accepted_or_expired}
 use Rattle.zk_turns.specs.Rule.{if_any, next}
 use Rattle.zk_turns.proofs.Happened.{view_ext}
 use Rattle.zk_frames.specs.declared.limits.FrameLimits.{FrameLimits}
-use Rattle.zk_client.specs.Seen.{shown}
-use Rattle.zk_client.specs.inner.Seen.{while_pending}
+use Rattle.zk_client.specs.inner.Seen.{shown, while_pending}
 use Rattle.zk_client.specs.Sound.{HasRoom, IsSound}
 use Rattle.zk_client.specs.inner.Steps.{welcome_of, has_any}
 use Rattle.zk_client.proofs.Ends.{none-there}
-use Rattle.zk_client.proofs.Rooms.{tied-talking}
+use Rattle.zk_client.proofs.Rooms.{tied-talking, sound-with}
 use Rattle.zk_limits.specs.declared.limits.TheConstants.{LONGEST_PASSWORD}
 
 above : (timeout : ℤ) → pos 0 <ℤ timeout → int_lt (pos 0) timeout ≡ true
@@ -105,14 +104,11 @@ welcomes held halted kept talk lists answers pending response mid new set any at
     let waits : set.pending ≡ map pending_for (parts_asked (parts lists)) =
     asked ∙ ap (λ (l : List Pending). l ++ map pending_for (parts_asked (parts lists))) (none-there talk.pending quiet) in
     record {
-      sound = record {
-        tied = tied-talking new set phase (ap (λ (k : SessionView). k.state) is)
-            (rw (ap (λ (k : SessionView). k.saved.session.password) is) short);
-        room = record {
-          on_data = rw (waits, unwatched-data (parts lists)) room.on_data;
-          on_child = rw (waits, unwatched-child (parts lists)) room.on_child;
-        };
-      };
+      sound = sound-with (tied-talking new set phase (ap (λ (k : SessionView). k.state) is)
+          (rw (ap (λ (k : SessionView). k.saved.session.password) is) short)) (record {
+            on_data = rw (waits, unwatched-data (parts lists)) room.on_data;
+            on_child = rw (waits, unwatched-child (parts lists)) room.on_child;
+          });
       next = view_ext _ _ (ap (λ (k : SessionView). record { halted = halted; state = k.state }) is) (ap (λ (k : SessionView). k.saved) is)
           (ap (λ (k : SessionView). k.moments) is) waits refl xid refl refl refl;
     }

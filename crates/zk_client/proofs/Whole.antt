@@ -10,8 +10,7 @@ use Rattle.zk_turns.specs.View.{Standing, view_at}
 use Rattle.zk_turns.specs.Rule.{HaltsAs}
 use Rattle.zk_turns.proofs.Happened.{view_ext}
 use Rattle.zk_frames.specs.declared.limits.FrameLimits.{FrameLimits}
-use Rattle.zk_client.specs.Seen.{shown}
-use Rattle.zk_client.specs.inner.Seen.{origin_of}
+use Rattle.zk_client.specs.inner.Seen.{shown, origin_of}
 use Rattle.zk_client.specs.Sound.{IsSound, IsReading}
 use Rattle.zk_client.proofs.CacheLemmas.{nothing-kept}
 use Rattle.zk_client.proofs.Heard.{nothing-held}
@@ -33,7 +32,9 @@ begins-view start {limits} kept talk lists answers held e f g h i l =
 begins-sound : (start : Start) (kept : SessionView) (talk : Talk) (lists : Lists)
     → length start.password ≤ LONGEST_PASSWORD → kept ≡ beginning start → talk ≡ new_talk → lists ≡ no_lists → IsSound kept talk lists
 begins-sound start kept talk lists short e f g = rw (e, f, g) (record {
-  tied = record { phase = refl; quiet = λ n. refl; short = short };
+  phase = refl;
+  quiet = λ n. refl;
+  short = short;
   room = record { on_data = omega arith; on_child = omega arith };
 })
 

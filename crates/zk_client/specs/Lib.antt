@@ -1,7 +1,6 @@
 -- What a client shows and keeps true, step by step and after a whole run; and a session that is put away.
 pub mod Views
 pub mod FaultText
-pub mod Seen
 pub mod Sound
 pub mod Steps
 pub mod Clients

@@ -1,20 +1,20 @@
 -- What holds of a client after a run.
-use Rattle.std.specs.Prelude.{◌≡◌, ◌≤ℤ◌, ◌↔◌, List, [], ◌∷◌, ◌++◌, map, Option, None, true}
+use Rattle.std.specs.Prelude.{◌≡◌, ◌≤ℤ◌, ◌↔◌, List, [], ◌∷◌, ◌++◌, map, Option, true}
 use Rattle.zk_nodes.specs.Path.{Text}
 use Rattle.zk_nodes.specs.History.{History, IsHistory}
 use Rattle.zk_nodes.specs.declared.side.Side.TheVariants.{Data, Child}
 use Rattle.zk_cache.specs.Kept.{is_marked_good}
-use Rattle.zk_turns.specs.Turns.{Start, Input, Item, Turned, Halts, Turn}
+use Rattle.zk_turns.specs.Turns.{Start, Input, Item, Turned, Turn}
 use Rattle.zk_turns.specs.View.{View}
 use Rattle.zk_turns.specs.Past.{is_over}
 use Rattle.zk_turns.specs.Taken.{past_of}
-use Rattle.zk_turns.specs.Rule.{Stands}
+use Rattle.zk_turns.specs.Rule.{Stands, empty_cache}
 use Rattle.zk_turns.specs.Sent.{outputs_of}
 use Rattle.zk_turns.specs.Reported.{reports_in, reports_of}
 use Rattle.zk_turns.specs.Meaning.{IsGoodSince, IsLastSeen}
 use Rattle.zk_laws.specs.Served.{Served, Entry, items_in, IsServing}
 use Rattle.zk_laws.specs.Headline.{Headline, IsQuietAt, IsTrueOf, tree_of}
-use Rattle.zk_client.specs.Outsides.{Told, TellsAll, NoneIsLeft}
+use Rattle.zk_client.specs.Outsides.{Told, TellsAll}
 
 -- Whatever transactions a history holds, and however turns and moves of servers that hold its beginnings fall: the good answers are
 -- the history's at the last seen zxid, what was answered is true, and no connection was given up except for silence or a message that
@@ -32,8 +32,7 @@ pub record IsExact (start : Start) (items : List Item) (view : View) : Type 0 wh
   pub children : (path : Text) → is_marked_good (view.cache.children path) ≡ true ↔ IsGoodSince Child path (past_of start items)
   pub last : IsLastSeen start (past_of start items) view.saved.last
   pub reports : reports_in (outputs_of items) ≡ reports_of (past_of start items)
-  pub emptied_nodes : is_over (past_of start items) ≡ true → (path : Text) → view.cache.nodes path ≡ None
-  pub emptied_children : is_over (past_of start items) ≡ true → (path : Text) → view.cache.children path ≡ None
+  pub emptied : is_over (past_of start items) ≡ true → view.cache ≡ empty_cache
 
 -- all of it, of a client that stands after these items
 pub record Holds (start : Start) (items : List Item) (view : View) : Type 0 where
@@ -41,20 +40,9 @@ pub record Holds (start : Start) (items : List Item) (view : View) : Type 0 wher
   pub exact : IsExact start items view
   pub served : IsTrueToServers start items view
 
--- These turns, and then these marks, lead from the one view to the other.
-pub record LeadsTo (before : View) (turns : List Turn) (marks : List Item) (after : View) : Type 0 where
+-- Turns, and then these marks, lead from the one view to the other. The inputs that were handed out are those of the turns, and then these.
+pub record Ran (before after : View) (told told_after : Option Told) (marks : List Item) (others : List Input) : Type 0 where
+  pub turns : List Turn
   pub holds : (start : Start) (items : List Item) → Stands start items before → Holds start (marks ++ (map Turned turns ++ items)) after
   pub rising : (start : Start) (items : List Item) → Stands start items before → before.saved.last ≤ℤ after.saved.last
-
--- A run that went to the end of its inputs: each is one of these turns.
-pub record RanWhole (before : View) (told : Option Told) (after : View) (told_after : Option Told) : Type 0 where
-  pub turns : List Turn
-  pub leads : LeadsTo before turns [] after
-  pub tells : TellsAll told turns [] told_after
-  pub ended : NoneIsLeft told_after
-
--- A run that halted: each input that was handed out is one of these turns, but the last, which is no turn.
-pub record RanUntilHalt (before : View) (told : Option Told) (after : View) (told_after : Option Told) : Type 0 where
-  pub turns : List Turn
-  pub leads : LeadsTo before turns (Halts ∷ []) after
-  pub tells : (input : Input) × TellsAll told turns (input ∷ []) told_after
+  pub tells : TellsAll told turns others told_after

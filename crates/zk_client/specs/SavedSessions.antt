@@ -3,7 +3,6 @@ use Rattle.std.specs.Prelude.{◌≡◌, ◌≢◌, ◌≤◌, ℕ, ℤ, pos, �
 use Rattle.std.specs.Prelude.{Result, Ok, Err, MatchResult, FitsSigned}
 use Rattle.std.specs.Fmt.{decimal, signed_decimal}
 use Rattle.std.specs.Int.{w64}
-use Rattle.hex.specs.Hex.{decode_of, encode_lower}
 use Rattle.hex.specs.declared.error.FromHexError.{FromHexError}
 use Rattle.hex.specs.declared.error.FromHexError.TheVariants.{InvalidHexCharacter, OutOfMemory}
 use Rattle.zk_jute.specs.FaultText.{take_error_words}
@@ -40,14 +39,8 @@ pub record CanBePutAway (value : PutAway) : Type 0 where
 abbrev pub saved_layout : Layout
 saved_layout = long ⨾ (buffer ⨾ long)
 
-abbrev pub fields_of : PutAway → Value saved_layout
-fields_of value = (value.session, (Some value.password, value.last))
-
 abbrev pub saved_bytes : PutAway → List ℕ
-saved_bytes value = spelling saved_layout (fields_of value)
-
-abbrev pub saved_text : PutAway → List ℕ
-saved_text value = encode_lower (saved_bytes value)
+saved_bytes value = spelling saved_layout (value.session, (Some value.password, value.last))
 
 -- ---- what is refused, and as what
 
@@ -58,13 +51,10 @@ put_away session password last =
     else if int_lt last (pos 0) then Err (NegativeZxid last)
     else Ok (record { session = session; password = password; last = last })
 
-abbrev pub fields_read : Value saved_layout → Result PutAway SavedFault
-fields_read (session, (Some password, last)) = put_away session password last
-fields_read (session, (None, last)) = Err NoPassword
-
 -- a record, and the bytes after it
 abbrev pub record_read : Result (Value saved_layout × List ℕ) TakeError → Result PutAway SavedFault
-record_read (Ok (fields, [])) = fields_read fields
+record_read (Ok ((session, (Some password, last)), [])) = put_away session password last
+record_read (Ok ((session, (None, last)), [])) = Err NoPassword
 record_read (Ok (fields, b ∷ rest)) = Err (BytesBehind (length (b ∷ rest)))
 record_read (Err fault) = Err (Unread fault)
 
@@ -80,9 +70,6 @@ no_digits count _ = OddDigits count
 abbrev pub digits_read : ℕ → Result (List ℕ) FromHexError → Result PutAway SavedFault
 digits_read count (Ok bytes) = bytes_read bytes
 digits_read count (Err fault) = Err (no_digits count fault)
-
-abbrev pub text_read : List ℕ → Result PutAway SavedFault
-text_read text = digits_read (length text) (decode_of text)
 
 -- ---- what calls answer
 

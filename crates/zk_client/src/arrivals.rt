@@ -25,10 +25,9 @@ ghost use Rattle.zk_turns.proofs.Fed.{arrival};
 ghost use Rattle.zk_client.specs.Views.{said};
 ghost use Rattle.zk_session.specs.SessionView.{SessionView};
 ghost use Rattle.zk_session.specs.Table as sessions;
-ghost use Rattle.zk_client.specs.Seen.{view_with};
-ghost use Rattle.zk_client.specs.inner.Seen.{while_pending, origin, saved_by};
-ghost use Rattle.zk_client.specs.Sound.{CoreIsSound, HasRoom};
-ghost use Rattle.zk_client.specs.inner.Sound.{CoreHasArrived, IsLeft};
+ghost use Rattle.zk_client.specs.inner.Seen.{view_with, while_pending, origin, saved_by};
+ghost use Rattle.zk_client.specs.Sound.{HasRoom};
+ghost use Rattle.zk_client.specs.inner.Sound.{CoreIsSound, CoreHasArrived, IsLeft};
 ghost use Rattle.zk_client.specs.inner.Steps.{welcome_of, has_any};
 
 use crate::fault::Fault;

@@ -14,9 +14,8 @@ ghost use Rattle.zk_turns.specs.Taken.{refusal};
 ghost use Rattle.zk_turns.specs.Turns.{IsAskable};
 ghost use Rattle.zk_turns.specs.Rule.{after_all, says_all};
 ghost use Rattle.zk_client.specs.Views.{said, outcome_view};
-ghost use Rattle.zk_client.specs.Seen.{view_with};
-ghost use Rattle.zk_client.specs.inner.Seen.{origin};
-ghost use Rattle.zk_client.specs.Sound.{CoreIsSound};
+ghost use Rattle.zk_client.specs.inner.Seen.{view_with, origin};
+ghost use Rattle.zk_client.specs.inner.Sound.{CoreIsSound};
 ghost use Rattle.zk_client.specs.inner.Steps.{IsSendable, calls};
 
 use crate::machine::{Core, say};

@@ -3,7 +3,8 @@
 ghost use Rattle.std.specs.Prelude.{◌≡◌, ◌≤◌, length, false};
 ghost use Rattle.std.proofs.Props.{props};
 ghost use Rattle.zk_limits.specs.declared.limits.TheConstants.{LONGEST_PASSWORD};
-ghost use Rattle.zk_client.specs.Sound.{CoreIsSound, IsReadingFor};
+ghost use Rattle.zk_turns.specs.Taken.{longest};
+ghost use Rattle.zk_client.specs.Sound.{IsSound, IsReading};
 
 use crate::fault::Halt;
 use crate::input::{Given, Input};
@@ -26,8 +27,8 @@ use zk_watches::Registry;
 pub struct Client<A: Allocator + Copy = Global> {
     core: Core<A>,
     reader: FrameReader<A>,
-    ghost sound: { core.halted ≡ false → CoreIsSound core } by { Prim.hlevel props },
-    ghost reading: { core.halted ≡ false → IsReadingFor core reader } by { Prim.hlevel props },
+    ghost sound: { core.halted ≡ false → IsSound core.session core.conversation core.registry } by { Prim.hlevel props },
+    ghost reading: { core.halted ≡ false → IsReading (longest core.limits core.session.state) reader } by { Prim.hlevel props },
     ghost short: { length core.session.saved.session.password ≤ LONGEST_PASSWORD },
 }
 

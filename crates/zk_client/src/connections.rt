@@ -14,9 +14,8 @@ ghost use Rattle.zk_conversation.specs.declared.phase.Phase.TheVariants.{Closed}
 ghost use Rattle.zk_turns.specs.Past.{Began, Lost, Dropped};
 ghost use Rattle.zk_turns.specs.Rule.{IsOpen, next, says, loss};
 ghost use Rattle.zk_client.specs.Views.{said, fault_view};
-ghost use Rattle.zk_client.specs.Seen.{view_with};
-ghost use Rattle.zk_client.specs.inner.Seen.{while_pending, origin};
-ghost use Rattle.zk_client.specs.Sound.{CoreIsSound};
+ghost use Rattle.zk_client.specs.inner.Seen.{view_with, while_pending, origin};
+ghost use Rattle.zk_client.specs.inner.Sound.{CoreIsSound};
 
 use crate::fault::Fault;
 use crate::machine::{Core, say};

@@ -4,9 +4,8 @@ ghost use Rattle.std.specs.Prelude.{◌≡◌, List, [], ◌++◌, OnOk, IsOk, N
 ghost use Rattle.zk_turns.specs.Turns.{Comes};
 ghost use Rattle.zk_turns.specs.Rule.{IsOpen, after_signals, says_signals};
 ghost use Rattle.zk_client.specs.Views.{said};
-ghost use Rattle.zk_client.specs.Seen.{view_with};
-ghost use Rattle.zk_client.specs.inner.Seen.{origin};
-ghost use Rattle.zk_client.specs.Sound.{CoreIsSound, IsReadingFor};
+ghost use Rattle.zk_client.specs.inner.Seen.{view_with, origin};
+ghost use Rattle.zk_client.specs.inner.Sound.{CoreIsSound, IsReadingFor};
 
 use crate::fault::Fault;
 use crate::machine::Core;

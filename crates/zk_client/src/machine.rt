@@ -6,8 +6,7 @@ ghost use Rattle.zk_cache.specs.Cache.{no_answers, with_good};
 ghost use Rattle.zk_turns.specs.Rule.{forgotten};
 ghost use Rattle.zk_turns.specs.Taken.{longest};
 ghost use Rattle.zk_client.specs.Views.{said, output_view};
-ghost use Rattle.zk_client.specs.Seen.{cache_of, view_with};
-ghost use Rattle.zk_client.specs.inner.Seen.{origin, origin_of};
+ghost use Rattle.zk_client.specs.inner.Seen.{cache_of, view_with, origin, origin_of};
 
 use crate::output::Output;
 use std::alloc::{AllocError, Allocator};

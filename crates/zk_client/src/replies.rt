@@ -21,10 +21,8 @@ ghost use Rattle.zk_turns.specs.Taken.{leaves_watch, taken_of};
 ghost use Rattle.zk_turns.specs.Rule.{next, says, with_node, with_children, keep_node, keep_children, says_there};
 ghost use Rattle.zk_client.specs.inner.Left.{side_left, data_left, children_left, side_in, data_in, children_in};
 ghost use Rattle.zk_client.specs.Views.{said};
-ghost use Rattle.zk_client.specs.Seen.{view_with};
-ghost use Rattle.zk_client.specs.inner.Seen.{while_pending, origin};
-ghost use Rattle.zk_client.specs.Sound.{CoreIsSound};
-ghost use Rattle.zk_client.specs.inner.Sound.{CoreHasArrived, IsLeft};
+ghost use Rattle.zk_client.specs.inner.Seen.{view_with, while_pending, origin};
+ghost use Rattle.zk_client.specs.inner.Sound.{CoreIsSound, CoreHasArrived, IsLeft};
 ghost use Rattle.zk_client.specs.inner.Steps.{closing};
 ghost use Rattle.zk_limits.specs.declared.limits.TheConstants.{MOST_PATHS};
 

@@ -1,8 +1,9 @@
 //! A client, run to the end of its inputs.
 
-ghost use Rattle.std.specs.Prelude.{OnOk, OnErr};
+ghost use Rattle.std.specs.Prelude.{◌≡◌, [], ◌∷◌, IfSome, OnOk, OnErr};
+ghost use Rattle.zk_turns.specs.Turns.{Input, Halts};
 ghost use Rattle.zk_client.specs.Clients.{view_of};
-ghost use Rattle.zk_client.specs.Runs.{RanWhole, RanUntilHalt};
+ghost use Rattle.zk_client.specs.Runs.{Ran};
 
 use crate::client::Client;
 use crate::fault::Halt;
@@ -18,8 +19,12 @@ pub fn run<A: Allocator + Copy, O: Outside<A>>(
     client: &mut Client<A>,
     outside: &mut O,
 ) -> Result<(), Halt>
-    ensures done { OnOk result (RanWhole (view_of client.old) (O.told outside.old) (view_of client.new) (O.told outside.new)) }
-    ensures halt { OnErr result (RanUntilHalt (view_of client.old) (O.told outside.old) (view_of client.new) (O.told outside.new)) }
+    // Each input is one of these turns, and none is left.
+    ensures done { OnOk result (Ran (view_of client.old) (view_of client.new) (O.told outside.old) (O.told outside.new) [] []
+        × IfSome (O.told outside.new) (λ told. told.coming ≡ [])) }
+    // The input that was handed out last is no turn.
+    ensures halt { OnErr result ((input : Input)
+        × Ran (view_of client.old) (view_of client.new) (O.told outside.old) (O.told outside.new) (Halts ∷ []) (input ∷ [])) }
 {
     one_halt();
     while let Some(input) = outside.next() {

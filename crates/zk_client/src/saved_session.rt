@@ -37,9 +37,9 @@ impl<A: Allocator> Model for SavedSession<A> {
 impl<A: Allocator + Copy> SavedSession<A> {
     ghost use Rattle.std.specs.Prelude.{◌≤◌, ◌≤ℤ◌, ◌%◌, pos, length, Err, IfOk, MatchResult, string_bytes};
     ghost use Rattle.zk_limits.specs.declared.limits.TheConstants.{LONGEST_PASSWORD};
-    ghost use Rattle.hex.specs.Hex.{decode_of};
-    ghost use Rattle.zk_client.specs.SavedSessions.{PutAway, CanBePutAway, saved_bytes, saved_text, put_away, bytes_read, text_read, Gives};
-    ghost use Rattle.zk_client.specs.SavedSessions.{GivesLater};
+    ghost use Rattle.hex.specs.Hex.{decode_of, encode_lower};
+    ghost use Rattle.zk_client.specs.SavedSessions.{PutAway, CanBePutAway, saved_bytes, put_away, bytes_read, digits_read};
+    ghost use Rattle.zk_client.specs.SavedSessions.{Gives, GivesLater};
 
     /// A session of these three. What a client says of itself becomes one so:
     /// `let saved = client.saved(); SavedSession::new(alloc, saved.session, saved.password, saved.last_zxid)`, and is never
@@ -118,12 +118,12 @@ impl<A: Allocator + Copy> SavedSession<A> {
     /// digits are looked at, so `Memory` may be told instead of another fault, but never instead of `OddDigits`.
     pub fn from_text(alloc: A, text: &str) -> Result<SavedSession<A>, SavedFault>
         // Which session or fault it is.
-        ensures exact { GivesLater (text_read text.now) result }
+        ensures exact { GivesLater (digits_read (length text.now) (decode_of text.now)) result }
         // What is read is spelled so.
         ensures found { IfOk result (λ saved. decode_of text.now ≡ Ok (saved_bytes saved)) }
         ensures odd { length text.now % 2 ≡ 1 → result ≡ Err (SavedFault.OddDigits (length text.now)) }
         // What is spelled so is read, unless memory runs out.
-        ensures only { (value : PutAway) → CanBePutAway value → text.now ≡ saved_text value
+        ensures only { (value : PutAway) → CanBePutAway value → text.now ≡ encode_lower (saved_bytes value)
             → MatchResult result (λ saved. saved ≡ value) (λ fault. fault ≡ SavedFault.Memory) }
     {
         match hex::decode(alloc, text) {
@@ -155,7 +155,7 @@ impl<A: Allocator + Copy> SavedSession<A> {
     /// The bytes of its record as hexadecimal digits in lower case, one word with no line's end, which
     /// [`SavedSession::from_text`] reads. An error says that memory ran out.
     pub fn to_text(&self, alloc: A) -> Result<String<A>, AllocError>
-        ensures { IfOk result (λ text. string_bytes text ≡ saved_text self.now) }
+        ensures { IfOk result (λ text. string_bytes text ≡ encode_lower (saved_bytes self.now)) }
     {
         let bytes = self.to_bytes(alloc)?;
         hex::encode(alloc, bytes.as_slice())

@@ -5,9 +5,8 @@ ghost use Rattle.zk_session.specs.declared.states.State.TheVariants.{Connected};
 ghost use Rattle.zk_turns.specs.Past.{Pinged};
 ghost use Rattle.zk_turns.specs.Rule.{next, says};
 ghost use Rattle.zk_client.specs.Views.{said};
-ghost use Rattle.zk_client.specs.Seen.{view_with};
-ghost use Rattle.zk_client.specs.inner.Seen.{origin};
-ghost use Rattle.zk_client.specs.Sound.{CoreIsSound};
+ghost use Rattle.zk_client.specs.inner.Seen.{view_with, origin};
+ghost use Rattle.zk_client.specs.inner.Sound.{CoreIsSound};
 
 use crate::machine::{Core, say};
 use crate::output::Output;

@@ -9,9 +9,8 @@ ghost use Rattle.zk_turns.specs.Taken.{NothingIsDue};
 ghost use Rattle.zk_turns.specs.Rule.{IsOpen, after_signals, says_signals};
 ghost use Rattle.zk_client.specs.Views.{said};
 ghost use Rattle.zk_client.specs.inner.Given.{given_view};
-ghost use Rattle.zk_client.specs.Seen.{view_with};
-ghost use Rattle.zk_client.specs.inner.Seen.{origin};
-ghost use Rattle.zk_client.specs.Sound.{CoreIsSound, IsReadingFor};
+ghost use Rattle.zk_client.specs.inner.Seen.{view_with, origin};
+ghost use Rattle.zk_client.specs.inner.Sound.{CoreIsSound, IsReadingFor};
 ghost use Rattle.zk_client.specs.Steps.{IsQuiet};
 
 use crate::calls::known_of_call;

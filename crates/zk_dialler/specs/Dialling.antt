@@ -35,6 +35,11 @@ abbrev pub is_open : Phase → Bool
 is_open Open = true
 is_open _ = false
 
+-- whether there is none, and none is asked for
+abbrev pub is_waiting : Phase → Bool
+is_waiting Waiting = true
+is_waiting _ = false
+
 -- An address is dialled where there is no connection, and none is asked for, and not before its moment. It is the one whose turn it is.
 pub record Dials {A : Type 0} (timeout now : ℕ) (old new : Dialler A) (place its : ℕ) : Type 0 where
   pub waiting : old.phase ≡ Waiting

@@ -4,7 +4,7 @@ ghost use Rattle.std.specs.Prelude.{◌≡◌, ◌≤◌, ◌+◌, Bool, true, f
 ghost use Rattle.std.specs.List.Sorted.{IsPermutation};
 ghost use Rattle.zk_dialler.specs.Backoffs.{connected_at, row_ended};
 ghost use Rattle.zk_dialler.specs.Chances.{next_state, state_after};
-ghost use Rattle.zk_dialler.specs.Dialling.{first_moment, is_due, is_open, Ends, Opens, DialsWell};
+ghost use Rattle.zk_dialler.specs.Dialling.{first_moment, is_due, is_open, is_waiting, Ends, Opens, DialsWell};
 ghost use Rattle.zk_dialler.specs.Moves.{moves_by, order_of, tries_kept};
 ghost use Rattle.zk_dialler.specs.Orders.{numbers, shuffled};
 
@@ -123,21 +123,6 @@ impl<A: Allocator> Dialler<A> {
         })
     }
 
-    /// Another list, of this many addresses, in a new order that goes on with the same random numbers. A connection or an attempt that is
-    /// on goes on, and so does the row of failures. An error means that memory ran out, and nothing has changed then.
-    pub fn set_addresses(&mut self, alloc: A, count: usize) -> Result<(), AllocError>
-        ensures order { OnOk result (self.new.ring.order.items ≡ shuffled self.old.backoff.chance.state count (numbers count)) }
-        ensures each { OnOk result (IsPermutation (numbers count) self.new.ring.order.items) }
-        ensures first { OnOk result (self.new.ring.next ≡ 0) }
-        ensures phase { OnOk result (self.new.phase ≡ self.old.phase) }
-        ensures backoff { OnOk result
-            (self.new.backoff ≡ record self.old.backoff { chance = record { state = state_after count self.old.backoff.chance.state } }) }
-        ensures same { OnErr result (self.new ≡ self.old) }
-    {
-        self.ring = Ring::new(alloc, count, &mut self.backoff.chance)?;
-        Ok(())
-    }
-
     /// What is to be done at this moment: an attempt for a third of the timeout, and for a second at least, or the end of one.
     pub fn due(&mut self, timeout_ms: u32, now: u64) -> Option<DialDue>
         ensures well { DialsWell timeout_ms now self.old self.new result }
@@ -178,6 +163,13 @@ impl<A: Allocator> Dialler<A> {
         ensures { result ≡ is_open self.now.phase }
     {
         matches!(self.phase, Phase::Open)
+    }
+
+    /// Whether there is no connection, and none is asked for.
+    pub fn is_waiting(&self) -> bool
+        ensures { result ≡ is_waiting self.now.phase }
+    {
+        matches!(self.phase, Phase::Waiting)
     }
 
     /// The connection that was asked for is there since this moment. The answer is false where none was asked for, as where the attempt was

@@ -191,7 +191,7 @@ IsAsked (happens.Follow ticket side path) = ⊤
 IsAsked (happens.Unfollow ticket) = ⊤
 IsAsked (happens.FollowTree ticket root most) = ⊤
 IsAsked (happens.UnfollowTree ticket) = ⊤
-IsAsked (happens.Addresses count) = ⊤
+IsAsked (happens.Addresses kept added is_listed) = ⊤
 IsAsked _ = ⊥
 
 -- The program hands the agent an input, at the moment at which it does.

@@ -2,5 +2,6 @@
 pub mod Driving
 pub mod Flowing
 pub mod Noting
+pub mod Places
 pub mod StopText
 pub mod inner

@@ -1,7 +1,7 @@
 //! The driver.
 
-ghost use Rattle.std.specs.Prelude.{◌≡◌, ◌≢◌, ◌≤◌, ◌<ℤ◌, [], None, is_some, length, pos, false, true, unsigned_abs, IfNone, IfOk, OnErr};
-ghost use Rattle.std.specs.Prelude.{OnOk};
+ghost use Rattle.std.specs.Prelude.{◌≡◌, ◌≢◌, ◌≤◌, ◌<ℤ◌, ◌++◌, [], None, is_some, length, pos, false, true, unsigned_abs, IfNone, IfOk};
+ghost use Rattle.std.specs.Prelude.{OnErr, OnOk};
 ghost use Rattle.zk_turns.specs.Turns.{new_start};
 ghost use Rattle.zk_turns.specs.View.{view_at};
 ghost use Rattle.zk_client.specs.Clients.{view_of};
@@ -10,11 +10,13 @@ ghost use Rattle.zk_agent.specs.Telling.{told_by};
 ghost use Rattle.zk_agent.specs.declared.input.AgentInput.TheVariants as happens;
 ghost use Rattle.zk_driver.specs.Driving.{channel_view, closed, course_of, AreFollowed, Extends, Goes, Hands, IsAsked, IsShutAgent};
 ghost use Rattle.zk_driver.specs.Noting.{is_come, notes_of, passed_in, GoesBy};
+ghost use Rattle.zk_driver.specs.Places.{group, is_listed};
 ghost use Rattle.zk_driver.specs.inner.Noting.{notes_of_event};
 ghost use Rattle.zk_driver.specs.Flowing.{flow_of, Flows};
 
 use crate::channel::Attempt;
 use crate::engine::{Engine, MOST_READS};
+use crate::places::{is_among, places_of};
 use crate::reason::{Reason, reason_of};
 use crate::stop::Stop;
 use crate::turn::{Event, Glance, Turn};
@@ -31,8 +33,9 @@ pub struct Driver<'a, A: Allocator + Copy, D: Dial + Drop, C: Clock + Drop> {
     dial: D,
     clock: C,
     addresses: &'a [&'a str],
+    order: Vec<&'a str, A>,
     latest: u64,
-    place: usize,
+    dialled: Option<&'a str>,
     is_announced: bool,
     is_in_row: bool,
 }
@@ -57,8 +60,9 @@ impl<'a, A: Allocator + Copy, D: Dial + Drop, C: Clock + Drop> Driver<'a, A, D, 
             dial,
             clock,
             addresses,
+            order: Vec::new(alloc),
             latest: 0,
-            place: 0,
+            dialled: None,
             is_announced: false,
             is_in_row: false,
         }
@@ -183,17 +187,44 @@ impl<'a, A: Allocator + Copy, D: Dial + Drop, C: Clock + Drop> Driver<'a, A, D, 
         })
     }
 
-    /// Goes on with another list of addresses. A connection that is there stays.
+    /// Goes on with another list of addresses. The session moves to another server if its own is listed no more, and by the chance by
+    /// which the list has grown: as ZooKeeper's own clients do. Else its connection stays, so with a list of the same addresses.
     pub fn set_addresses(&mut self, addresses: &'a [&'a str]) -> Result<(), Stop>
-        ensures hands { OnOk result
-            (Hands (happens.Addresses (length addresses.now)) (course_of self.old.engine None) (course_of self.new.engine None)) }
+        ensures hands { OnOk result (Hands (happens.Addresses (length (group (λ a. a.now) self.old.addresses.now true addresses.now))
+            (length (group (λ a. a.now) self.old.addresses.now false addresses.now))
+            (is_listed (λ a. a.now) self.old.engine.channel.attempt self.old.dialled addresses.now))
+            (course_of self.old.engine None) (course_of self.new.engine None)) }
+        ensures order { OnOk result (self.new.order.items ≡ group (λ a. a.now) self.old.addresses.now true addresses.now
+            ++ group (λ a. a.now) self.old.addresses.now false addresses.now) }
         ensures flows { OnOk result (Flows (flow_of D.Stream.remaining D.Stream.contents D.Stream.far D.Stream.state self.old.engine None)
             (flow_of D.Stream.remaining D.Stream.contents D.Stream.far D.Stream.state self.new.engine None)) }
         ensures kept { Extends (told_by self.old.engine.waiting.items) (told_by self.new.engine.waiting.items) }
         ensures broke { OnErr result (IsBroken self.old.engine.agent self.new.engine.agent) }
     {
+        let is_listed = self.is_listed(addresses);
+        let Ok((order, kept, added)) = places_of(self.alloc, self.addresses, addresses) else {
+            return Err(Stop::Memory);
+        };
+        let input = AgentInput::Addresses {
+            kept,
+            added,
+            is_listed,
+        };
+        let handed = self.hand(input);
         self.addresses = addresses;
-        self.hand(AgentInput::Addresses(addresses.len()))
+        self.order = order;
+        handed
+    }
+
+    /// Whether the list has the address that was dialled last. An attempt that is not made yet is made at its place of this list.
+    fn is_listed(&self, addresses: &[&str]) -> bool
+        ensures { result ≡ is_listed (λ a. a.now) self.now.engine.channel.attempt self.now.dialled addresses.now }
+    {
+        match (self.engine.channel.attempt, self.dialled) {
+            (Some(attempt), _) => attempt.place < addresses.len(),
+            (None, Some(address)) => is_among(addresses, address),
+            (None, None) => true,
+        }
     }
 
     /// Hands in what the program asks for, at the clock's moment; where something is due on the connection, at the last moment before that,
@@ -284,7 +315,7 @@ impl<'a, A: Allocator + Copy, D: Dial + Drop, C: Clock + Drop> Driver<'a, A, D, 
         if self.is_announced {
             return false;
         }
-        self.place = attempt.place;
+        self.dialled = self.address_at(attempt.place);
         self.is_announced = true;
         true
     }
@@ -300,7 +331,16 @@ impl<'a, A: Allocator + Copy, D: Dial + Drop, C: Clock + Drop> Driver<'a, A, D, 
     /// The address that was dialled last, or that is dialled next where [`Turn::Dials`] was told last: that of the connection where there
     /// is one.
     pub fn address(&self) -> Option<&'a str> {
-        self.addresses.get(self.place).copied()
+        self.dialled
+    }
+
+    /// The address at a place that the agent names. The list that the driver began with stands as it is, and each later one in an order of
+    /// its own.
+    fn address_at(&self, place: usize) -> Option<&'a str> {
+        match self.order.get(place) {
+            Some(address) => Some(*address),
+            None => self.addresses.get(place).copied(),
+        }
     }
 
     /// Dials, where an address is to be dialled, and else waits until this moment at most. The answer is the moment that was told, and what
@@ -326,9 +366,9 @@ impl<'a, A: Allocator + Copy, D: Dial + Drop, C: Clock + Drop> Driver<'a, A, D, 
         ensures engine { self.new.engine ≡ self.old.engine }
         ensures latest { self.new.latest ≡ self.old.latest }
     {
-        self.place = attempt.place;
+        self.dialled = self.address_at(attempt.place);
         self.is_announced = false;
-        let Some(address) = self.addresses.get(attempt.place) else {
+        let Some(address) = self.dialled else {
             return Err(Reason::Other);
         };
         match self.dial.dial(address, attempt.within_ms.max(1)) {

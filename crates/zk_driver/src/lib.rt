@@ -12,6 +12,7 @@ mod driver;
 mod engine;
 pub mod laws;
 mod look;
+mod places;
 mod reason;
 mod send;
 mod stop;

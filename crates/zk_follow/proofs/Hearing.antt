@@ -106,7 +106,7 @@ module _ {A : Type 0} (now : ℕ) where
       let first = heard_reading subject output rest.1 in
       ((first.0, subst (λ ticket. Silent ticket outputs) (same_ticket subject output) rest.0), first.1)
 
-  all_heard : (first second : List Output) (subject : Subject A)
+  pub all_heard : (first second : List Output) (subject : Subject A)
       → heard_all now subject (first ++ second) ≡ heard_all now (heard_all now subject first) second
   all_heard [] second subject = refl
   all_heard (output ∷ first) second subject = all_heard first second (heard now subject output)

@@ -17,4 +17,5 @@ pub mod Placing
 pub mod Skipping
 pub mod Counting
 pub mod Finding
+pub mod Taking
 pub mod Again

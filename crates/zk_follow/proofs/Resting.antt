@@ -15,7 +15,6 @@ use Rattle.zk_turns.specs.View.{View, Cache}
 use Rattle.zk_turns.specs.Rule.{RuleAt}
 use Rattle.zk_client.specs.declared.output.Output.{Output as Made}
 use Rattle.zk_client.specs.Views.{output_view, said}
-use Rattle.zk_follow.specs.declared.about.About.{About}
 use Rattle.zk_follow.specs.declared.news.News.{News}
 use Rattle.zk_follow.specs.declared.news.News.TheVariants.{Shown, Refused as Denied}
 use Rattle.zk_follow.specs.declared.progress.Progress.{Progress}
@@ -27,7 +26,7 @@ use Rattle.zk_follow.specs.Following.{is_quiet, told_after, told_of, was_shown, 
 use Rattle.zk_follow.specs.inner.Following.{Asks}
 use Rattle.zk_follow.specs.inner.Places.{AreSameBut}
 use Rattle.zk_follow.specs.Following.{holds, is_due, is_resting, IsVisited}
-use Rattle.zk_follow.specs.inner.Resting.{covers, is_about, is_marked, is_report, tells_fields, AreAtRest, AreDueBut, AreLeft, AreNoted}
+use Rattle.zk_follow.specs.inner.Resting.{is_about, is_report, tells_fields, AreAtRest, AreDueBut, AreLeft}
 use Rattle.zk_follow.specs.inner.Resting.{AreUnmoved}
 use Rattle.zk_follow.proofs.Forgetting.{after_forgetting, holds_still}
 use Rattle.zk_follow.proofs.Staying.{or_false, Stays, stays_at}
@@ -119,9 +118,9 @@ module _ {A : Type 0} (now : ℕ) (view : View) (subject : Subject A) (rest : is
       ap (λ (p : Progress). record subject { progress = woken_progress now p }) due
       ∙ ap (λ (p : Progress). record subject { progress = p }) (sym due)
 
-  module _ (outputs : List Output) (silent : list_any (is_about subject.ticket subject.path) outputs ≡ false) where
-    pub taken_same : taken now outputs subject ≡ subject
-    taken_same = ap (λ (s : Subject A). woken now s) (all_heard_same now subject outputs silent) ∙ woken_same
+  pub unmoved : (outputs : List Output) → list_any (is_about subject.ticket subject.path) outputs ≡ false
+      → (heard_all now subject outputs ≡ subject) × (woken now subject ≡ subject)
+  unmoved outputs silent = (all_heard_same now subject outputs silent, woken_same)
 
 -- A visit that asks nothing may leave a subject as it is.
 pub not_visited : {A : Type 0} (now : ℕ) (view : View) (subject : Subject A) → IsVisited now subject subject
@@ -131,7 +130,7 @@ not_visited now view subject = (view, [], view, inl (refl, refl, inl refl))
 pub left_unmoved : {A : Type 0} (now : ℕ) (view : View) (outputs : List Output) (subjects : List (Subject A)) (places : List ℕ)
     → AreLeft view outputs subjects places → AreUnmoved now outputs subjects places
 left_unmoved now view outputs subjects places left k d within none =
-    let rests = left k d within none in taken_same now view (get_or subjects k d) rests.0 outputs rests.1
+    let rests = left k d within none in unmoved now view (get_or subjects k d) rests.0 outputs rests.1
 
 pub left_rests : {A : Type 0} (view : View) (outputs : List Output) (subjects new : List (Subject A)) (places : List ℕ)
     → length new ≡ length subjects → AreLeft view outputs subjects places → AreSameBut places subjects new → AreAtRest view new places
@@ -218,62 +217,3 @@ module _ {A : Type 0} (view : View) (subject : Subject A) (rest : is_resting vie
 pub quiet_parts : {A : Type 0} (view : View) (subject : Subject A) → is_quiet view subject ≡ true
     → (is_resting view subject ≡ true) × (was_shown subject.told ≡ true)
 quiet_parts view subject e = and_parts (is_resting view subject) (was_shown subject.told) e
-
--- ---- what outputs are about
-
-pub covered_more : {A : Type 0} (old new : About A) (outputs : List (Made A)) (index : ℕ) (item : Made A)
-    → ((other : Output) → covers old other ≡ true → covers new other ≡ true) → covers new (output_view item) ≡ true
-    → index < length outputs → item ≡ get_or outputs index item
-    → ((k : ℕ) (d : Made A) → k < index → covers old (output_view (get_or outputs k d)) ≡ true)
-    → (k : ℕ) (d : Made A) → k < index + 1 → covers new (output_view (get_or outputs k d)) ≡ true
-covered_more {A} old new outputs index item kept more fits is covered k d below = by (k == index) refl
-  where
-    by : (same : Bool) → (k == index) ≡ same → covers new (output_view (get_or outputs k d)) ≡ true
-    by true e =
-        let here : k ≡ index = (Decides-eqb k index).0 e in
-        ap (λ n. covers new (output_view (get_or outputs n d))) here
-        ∙ ap (λ (o : Made A). covers new (output_view o)) (get_or_default outputs index d item fits ∙ sym is) ∙ more
-    by false e =
-        let other : k ≢ index = λ same. let t : (k == index) ≡ true = (Decides-eqb k index).1 same in cc in
-        kept (output_view (get_or outputs k d)) (covered k d (omega arith))
-
-pub all_covered : {A : Type 0} (about : About A) (outputs : List (Made A))
-    → ((k : ℕ) (d : Made A) → k < length outputs → covers about (output_view (get_or outputs k d)) ≡ true) → AreNoted about (said outputs)
-all_covered about [] covered = tt
-all_covered about (output ∷ outputs) covered =
-    (covered 0 output (omega arith), all_covered about outputs (λ k d within. covered (suc k) d (omega (arith, within))))
-
-none_about_one : {A : Type 0} (about : About A) (ticket : ℕ) (path : Text) (output : Output)
-    → covers about output ≡ true → about.is_each ≡ false → is_marked about.answered.items ticket ≡ false
-    → (about.has_report && is_report_of path output) ≡ false → is_about ticket path output ≡ false
-none_about_one about ticket path (Answer its outcome) covered each unmarked unreported =
-    let parts = and_parts (is_marked about.answered.items its) (not (tells_fields outcome) || about.is_each) covered in
-    ap (λ b. b || tells_fields outcome) (by (ticket == its) refl parts.0) ∙ fields (tells_fields outcome) parts.1
-  where
-    by : (same : Bool) → (ticket == its) ≡ same → is_marked about.answered.items its ≡ true → same ≡ false
-    by true e marked =
-        let is : ticket ≡ its = (Decides-eqb ticket its).0 e in
-        sym marked ∙ ap (is_marked about.answered.items) (sym is) ∙ unmarked
-    by false e marked = refl
-
-    fields : (told : Bool) → (not told || about.is_each) ≡ true → told ≡ false
-    fields true e = sym e ∙ each
-    fields false e = refl
-none_about_one about ticket path (Report at side event) covered each unmarked unreported =
-    sym (ap (λ b. b && bytes_eq at path) covered) ∙ unreported
-none_about_one about ticket path (Enters state) covered each unmarked unreported = absurd (let e : true ≡ false = sym covered ∙ each in cc)
-none_about_one about ticket path _ covered each unmarked unreported = refl
-
-pub none_about : {A : Type 0} (about : About A) (ticket : ℕ) (path : Text) (outputs : List Output)
-    → AreNoted about outputs → about.is_each ≡ false → is_marked about.answered.items ticket ≡ false
-    → (about.has_report && is_reported path outputs) ≡ false → list_any (is_about ticket path) outputs ≡ false
-none_about about ticket path [] covered each unmarked unreported = refl
-none_about about ticket path (output ∷ outputs) covered each unmarked unreported =
-    let parts = both about.has_report (is_report_of path output) (is_reported path outputs) unreported in
-    ap (λ b. b || list_any (is_about ticket path) outputs) (none_about_one about ticket path output covered.0 each unmarked parts.0)
-    ∙ none_about about ticket path outputs covered.1 each unmarked parts.1
-  where
-    both : (h a b : Bool) → (h && (a || b)) ≡ false → ((h && a) ≡ false) × ((h && b) ≡ false)
-    both true true b e = absurd cc
-    both true false b e = (refl, e)
-    both false a b e = (refl, refl)

@@ -15,9 +15,9 @@ ghost use Rattle.zk_follow.specs.Following.{AreFollowed, AreQuietBut, AreVisited
 ghost use Rattle.zk_follow.specs.inner.Following.{AreSeen, Asks, Reads};
 ghost use Rattle.zk_follow.specs.Places.{AreFound};
 ghost use Rattle.zk_follow.specs.inner.Places.{AreSameBut, IsAscending};
-ghost use Rattle.zk_follow.specs.inner.Resting.{AreAtRest, AreCovered, AreDueBut, AreLeft, AreUnmoved};
+ghost use Rattle.zk_follow.specs.inner.Resting.{AreAtRest, AreDueBut, AreLeft};
 
-use crate::about::About;
+use crate::heard::take_all;
 use crate::index::{Index, fit_all};
 use crate::news::{News, tell_all};
 use crate::progress::Progress;
@@ -42,48 +42,6 @@ pub struct Follower<A: Allocator + Copy = Global> {
     ghost counted: { All (IsCounted (view_of client)) subjects.items } by { Prim.hlevel props },
     ghost found: { AreFound index subjects.items } by { Prim.hlevel props },
     ghost rest: { AreQuietBut (view_of client) index.count subjects.items awake.items } by { Prim.hlevel props },
-}
-
-/// The subjects at these places take what the client has said at this moment. Others are as they were once they have.
-fn hear_each<A: Allocator + Copy>(
-    subjects: &mut [Subject<A>],
-    places: &[usize],
-    now: u64,
-    about: &About<A>,
-    outputs: &[Output<A>],
-)
-    requires covered { AreCovered about.now (said outputs.now) }
-    requires ascend { IsAscending places.now }
-    requires below { All (λ at. at < length subjects.old) places.now }
-    requires rest { AreUnmoved now (said outputs.now) subjects.old places.now }
-    ensures heard { subjects.new ≡ map (taken now (said outputs.now)) subjects.old }
-    ensures left { AreSameBut places.now subjects.old subjects.new }
-{
-    for place in places {
-        subjects[*place].pass_moment(now, about, outputs);
-    }
-}
-
-/// The same, with what the outputs are about. Where there are no places nothing is done.
-fn hear_listed<A: Allocator + Copy>(
-    alloc: A,
-    subjects: &mut [Subject<A>],
-    places: &[usize],
-    now: u64,
-    outputs: &[Output<A>],
-) -> Result<(), AllocError>
-    requires ascend { IsAscending places.now }
-    requires below { All (λ at. at < length subjects.old) places.now }
-    requires rest { AreUnmoved now (said outputs.now) subjects.old places.now }
-    ensures heard { OnOk result (subjects.new ≡ map (taken now (said outputs.now)) subjects.old) }
-    ensures left { OnOk result (AreSameBut places.now subjects.old subjects.new) }
-{
-    if places.is_empty() {
-        return Ok(());
-    }
-    let about = About::of(alloc, outputs)?;
-    hear_each(subjects, places, now, &about, outputs);
-    Ok(())
 }
 
 /// How many subjects count as being read, if those at these places alone do.
@@ -133,11 +91,12 @@ fn visit_each<A: Allocator + Copy>(
     Ok(())
 }
 
-/// The subjects at these places take what the client has said, and then they are read if they are to be read. Others rest, and the outputs
+/// Each subject takes what the client has said. Those at these places are read then if they are to be read. Others rest, and the outputs
 /// are not about them.
 fn visit_all<A: Allocator + Copy>(
     alloc: A,
     subjects: &mut [Subject<A>],
+    index: &Index<A>,
     places: &[usize],
     client: &mut Client<A>,
     now: u64,
@@ -146,6 +105,9 @@ fn visit_all<A: Allocator + Copy>(
 ) -> Result<(), FollowerStop>
     requires counted { All (λ subject. IsCounted (view_of client.old) (heard_all now subject (said outputs.now))) subjects.old }
     requires goes_on { (view_of client.old).standing.halted ≡ false }
+    requires sized { 0 < length index.now.keys.buckets.items }
+    requires count { index.now.count ≡ length subjects.old }
+    requires found { AreFound index.now subjects.old }
     requires ascend { IsAscending places.now }
     requires below { All (λ at. at < length subjects.old) places.now }
     requires rest { AreLeft (view_of client.old) (said outputs.now) subjects.old places.now }
@@ -158,7 +120,7 @@ fn visit_all<A: Allocator + Copy>(
     ensures visited { OnOk result (AreVisited now (said outputs.now) subjects.old subjects.new) }
     ensures broke { OnErr result (BreaksOff (view_of client.old) (view_of client.new)) }
 {
-    let Ok(()) = hear_listed(alloc, subjects, places, now, outputs) else {
+    let Ok(()) = take_all(alloc, subjects, index, places, now, outputs) else {
         return Err(FollowerStop::Memory);
     };
     let reads = count_reads(subjects, places);
@@ -219,6 +181,7 @@ fn advance_all<A: Allocator + Copy>(
     visit_all(
         alloc,
         subjects,
+        index,
         places.as_slice(),
         client,
         now,

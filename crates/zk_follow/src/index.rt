@@ -6,7 +6,7 @@ ghost use Rattle.zk_nodes.specs.Path.{Text};
 ghost use Rattle.zk_client.specs.Views.{output_view, said};
 ghost use Rattle.zk_follow.specs.inner.Resting.{is_about};
 ghost use Rattle.zk_follow.specs.Places.{has_place, key_of, AreFound};
-ghost use Rattle.zk_follow.specs.inner.Places.{is_named, IsAscending};
+ghost use Rattle.zk_follow.specs.inner.Places.{is_heard_by, is_named, IsAscending};
 ghost use Rattle.zk_follow.specs.Following.{AreQuietBut};
 ghost use Rattle.zk_follow.specs.Following.{is_among};
 ghost use Rattle.zk_turns.specs.View.{View};
@@ -131,6 +131,37 @@ impl<A: Allocator + Copy> Index<A> {
             self.add_named(output, all)?;
         }
         Ok(())
+    }
+
+    /// The places that a key has, in order. An error means that memory ran out.
+    fn places_at(&self, alloc: A, key: u64) -> Result<Vec<usize, A>, AllocError>
+        requires { 0 < length self.now.keys.buckets.items }
+        ensures ascend { IfOk result (λ all. IsAscending all.items) }
+        ensures below { IfOk result (λ all. All (λ at. at < self.now.count) all.items) }
+        ensures has { IfOk result (λ all. (at : ℕ) → at < self.now.count → has_place self.now.keys key at ≡ true
+            → is_among at all.items ≡ true) }
+    {
+        let mut all = Vec::new(alloc);
+        self.keys.add_at(key, self.count, &mut all)?;
+        put_in_order(&mut all);
+        Ok(all)
+    }
+
+    /// The places of those that may hear an output, in order: of all at another state. An error means that memory ran out.
+    pub(crate) fn hearing(&self, alloc: A, output: &Output<A>) -> Result<Vec<usize, A>, AllocError>
+        requires { 0 < length self.now.keys.buckets.items }
+        ensures ascend { IfOk result (λ all. IsAscending all.items) }
+        ensures below { IfOk result (λ all. All (λ at. at < self.now.count) all.items) }
+        ensures hear { IfOk result (λ all. (ticket : ℕ) (path : Text) (at : ℕ) → at < self.now.count
+            → has_place self.now.keys ticket at ≡ true → has_place self.now.keys (key_of path) at ≡ true
+            → is_heard_by ticket path (output_view output.now) ≡ true → is_among at all.items ≡ true) }
+    {
+        match output {
+            Output::Answer { ticket, .. } => self.places_at(alloc, *ticket),
+            Output::Report { path, .. } => self.places_at(alloc, key_of(path.as_str())),
+            Output::State(_) => all_below(alloc, self.count),
+            _ => Ok(Vec::new(alloc)),
+        }
     }
 
     /// The places of these, and of those that outputs name, in order. An error means that memory ran out.

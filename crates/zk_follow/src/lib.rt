@@ -7,6 +7,7 @@
 
 mod about;
 mod follower;
+mod heard;
 mod index;
 mod kept;
 mod news;

@@ -8,15 +8,13 @@ ghost use Rattle.zk_turns.specs.Turns.{Call as Calls, Output as Said};
 ghost use Rattle.zk_turns.specs.Rule.{Rule};
 ghost use Rattle.zk_client.specs.Clients.{view_of};
 ghost use Rattle.zk_client.specs.Views.{output_view, said};
-ghost use Rattle.zk_follow.specs.Following.{fresh, heard, heard_all, is_reading, read_of, rested, taken, due_again, woken};
+ghost use Rattle.zk_follow.specs.Following.{fresh, heard, heard_all, is_reading, read_of, rested, due_again, woken};
 ghost use Rattle.zk_follow.specs.inner.Following.{Asks};
 ghost use Rattle.zk_follow.specs.Following.{BreaksOff, IsAhead, IsBusy, IsCounted, IsFollowed};
 ghost use Rattle.zk_follow.specs.declared.reads.TheConstants.{MOST_READS};
 ghost use Rattle.zk_follow.specs.inner.Following.{VisitsAnd};
 ghost use Rattle.zk_follow.specs.Following.{is_quiet, is_resting};
-ghost use Rattle.zk_follow.specs.inner.Resting.{AreCovered};
 
-use crate::about::About;
 use crate::kept::{holds, is_shown};
 use crate::news::{News, was_shown};
 use crate::progress::{Progress, missing_after, progress_after, there_after};
@@ -73,7 +71,7 @@ impl<A: Allocator> Subject<A> {
     }
 
     /// Takes what an output says of the reads of the subject.
-    fn hear_one(&mut self, now: u64, output: &Output<A>)
+    pub(crate) fn hear_one(&mut self, now: u64, output: &Output<A>)
         ensures { self.new ≡ heard now self.old (output_view output.now) }
     {
         match output {
@@ -104,7 +102,7 @@ impl<A: Allocator> Subject<A> {
     }
 
     /// A refusal is over whose moment has come.
-    fn wake(&mut self, now: u64)
+    pub(crate) fn wake(&mut self, now: u64)
         ensures { self.new ≡ woken now self.old }
     {
         if let Progress::Refused { until, .. } = self.progress {
@@ -124,26 +122,6 @@ impl<A: Allocator> Subject<A> {
 }
 
 impl<A: Allocator + Copy> Subject<A> {
-    /// Hears what the client has said at this moment, where it may be about the subject.
-    fn hear(&mut self, now: u64, about: &About<A>, outputs: &[Output<A>])
-        requires { AreCovered about.now (said outputs.now) }
-        ensures { self.new ≡ heard_all now self.old (said outputs.now) }
-    {
-        if about.leaves(self.ticket, &self.path, outputs) {
-            return;
-        }
-        self.note_outputs(now, outputs);
-    }
-
-    /// Takes what the client has said at this moment.
-    pub(crate) fn pass_moment(&mut self, now: u64, about: &About<A>, outputs: &[Output<A>])
-        requires { AreCovered about.now (said outputs.now) }
-        ensures { self.new ≡ taken now (said outputs.now) self.old }
-    {
-        self.hear(now, about, outputs);
-        self.wake(now);
-    }
-
     /// How many are being read, with this one.
     pub(crate) fn count_read(&self, reads: usize) -> usize
         requires { reads + 1 < 2 ^ 64 }

@@ -17,7 +17,7 @@ pub header_fits : (end : ℕ) (bytes : List ℕ) (found : Value file_header × L
     → IsBytes bytes → reading file_header end bytes ≡ Ok found → Fits file_header found.0
 header_fits end bytes found fits e = ((reads file_header end).takes bytes found fits e).1
 
-header_is : (end : ℕ) (bytes : List ℕ) (m v d : ℤ) → m ≡ magic → v ≡ version
+pub header_is : (end : ℕ) (bytes : List ℕ) (m v d : ℤ) → m ≡ magic → v ≡ version
     → with_header end (Ok ((m, (v, d)), bytes)) ≡ with_entries d (entries_at (length bytes) end (pos 0) bytes)
 header_is end bytes m v d e f =
     subst (λ (x : ℤ). with_header end (Ok ((x, (v, d)), bytes)) ≡ with_entries d (entries_at (length bytes) end (pos 0) bytes)) (sym e)

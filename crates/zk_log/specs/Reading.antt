@@ -1,11 +1,13 @@
 -- Reading from left to right, with the first fault that is met.
 use Rattle.std.specs.Prelude.{◌≡◌, ℕ, zero, suc, ◌-◌, ℤ, pos, int_lt, Bool, true, List, [], ◌∷◌, length, Option, Some, None}
-use Rattle.std.specs.Prelude.{Result, Ok, Err, ◌++◌, map, ◌==◌, if◌then◌else◌}
+use Rattle.std.specs.Prelude.{Result, Ok, Err, ◌+◌, ◌++◌, map, ◌==◌, if◌then◌else◌, FitsSigned, ⊤}
+use Rattle.std.specs.Int.{w64}
 use Rattle.std.specs.List.{list_all, AllByRecursion}
 use Rattle.std.specs.Ordering.{int_eq}
 use Rattle.zk_jute.specs.declared.fault.TakeError.{TakeError}
 use Rattle.zk_jute.specs.declared.fault.TakeError.TheVariants.{Short}
 use Rattle.zk_jute.specs.Layout.{Value}
+use Rattle.zk_jute.specs.Spelling.{HasLength}
 use Rattle.zk_jute.specs.Reading.{place_of, reading}
 use Rattle.zk_log.specs.declared.kind.TxnKind.{TxnKind}
 use Rattle.zk_log.specs.declared.entry_fault.EntryFault.{EntryFault}
@@ -14,7 +16,8 @@ use Rattle.zk_log.specs.declared.log_fault.LogFault.{LogFault}
 use Rattle.zk_log.specs.declared.log_fault.LogFault.TheVariants as log
 use Rattle.zk_log.specs.Kinds.{kind_at, fields}
 use Rattle.zk_log.specs.Checksum.{adler32}
-use Rattle.zk_log.specs.Format.{entry_front, digest, Logged, EntryFits, record_front, file_header, magic, version, log_bytes}
+use Rattle.zk_log.specs.Format.{entry_front, digest, Logged, EntryFits, entry_bytes, record_front, record_bytes}
+use Rattle.zk_log.specs.Format.{file_header, magic, version, log_bytes}
 
 -- ---- an entry
 
@@ -176,9 +179,17 @@ abbrev pub EndsLog : ℕ → List ℕ → Option ℕ → Type 0
 EndsLog end rest None = are_zeros rest ≡ true
 EndsLog end rest (Some place) = (place ≡ place_of end rest) × (record_at place rest ≡ Ok Torn)
 
--- The bytes are the header, records of entries that have a spelling, and what comes after them.
+-- Records from a place on, after a zxid: each begins where the one before ends, its length has a spelling, and the zxids rise.
+abbrev pub StandInOrder : ℕ → ℤ → List Placed → Type 0
+StandInOrder place low [] = ⊤
+StandInOrder place low (one ∷ others) = (one.place ≡ place) × HasLength (entry_bytes one.entry) × (int_lt low one.entry.zxid ≡ true)
+    × StandInOrder (place + length (record_bytes (entry_bytes one.entry))) one.entry.zxid others
+
+-- The bytes are the header, records of entries that have a spelling, in order after its 16 bytes, and what comes after them.
 pub record IsLog (bytes : List ℕ) (log : ReadLog) : Type 0 where
   pub rest : List ℕ
   pub parts : bytes ≡ log_bytes log.dbid (logged log.entries) ++ rest
+  pub dbid : FitsSigned w64 log.dbid
   pub fits : AllByRecursion EntryFits (logged log.entries)
+  pub order : StandInOrder 16 (pos 0) log.entries
   pub ends : EndsLog (length bytes) rest log.torn

@@ -5,7 +5,7 @@ ghost use Rattle.std.specs.Int.{w64};
 ghost use Rattle.zk_jute.specs.Cursor.{bytes_left, payload_len};
 ghost use Rattle.zk_jute.specs.Reading.{reading, Gives};
 ghost use Rattle.zk_log.specs.Format.{file_header};
-ghost use Rattle.zk_log.specs.Reading.{placed_at, entries_at, log_at, with_entries, IsLog};
+ghost use Rattle.zk_log.specs.Reading.{placed_at, entries_at, log_at, with_entries, ReadLog, IsLog};
 ghost use Rattle.zk_log.specs.Views.{placed_of, log_of};
 ghost use Rattle.zk_log.specs.inner.Views.{file_header_of};
 
@@ -167,6 +167,9 @@ impl<'a, A: Allocator + Copy> Log<'a, A> {
     pub fn read(alloc: A, bytes: &'a [u8]) -> Result<Log<'a, A>, LogFault>
         // What is read is spelled so.
         ensures found { IfOk result (λ log. IsLog bytes.entry.now (log_of log)) }
+        // What is spelled so is read, unless memory runs out.
+        ensures only { (log : ReadLog) → IsLog bytes.entry.now log
+            → MatchResult result (λ read. log_of read ≡ log) (λ e. e ≡ LogFault.Memory) }
         // Which log, or which fault it is.
         ensures exact { MatchResult result (λ log. log_at bytes.entry.now ≡ Ok (log_of log))
             (λ e. e ≢ LogFault.Memory → log_at bytes.entry.now ≡ Err e) }

@@ -232,7 +232,7 @@ class KazooClient:
         self._found = forms.hosts(servers + own_path(path))
 
     def set_hosts(self, hosts: forms.HostList, randomize_hosts: Optional[bool] = None) -> None:
-        """Has each dial from now on go to one of these hosts. A connection that there is goes on.
+        """Goes on with these hosts. The session moves to another one where `Client.set_hosts` does.
 
         Raises `ConfigurationError` where the chroot is another one than before.
         """

@@ -82,7 +82,7 @@ impl Engine {
         path: &str,
         call: &CoreCall,
     ) -> Result<(), ErrorKind> {
-        let path = self.chroot.outer(path)?.into_owned();
+        let path = self.chroot.outer(path)?;
         if *call == CoreCall::Close {
             self.closing = Some(ticket);
         }

@@ -16,6 +16,7 @@ impl Engine {
     pub(crate) fn begin_attempt(&mut self) -> Option<Attempt> {
         let attempt = self.wanted.take()?;
         self.dialling = Some(attempt.number);
+        self.server = Some(attempt.host.clone());
         Some(attempt)
     }
 
@@ -55,7 +56,12 @@ impl Engine {
         ));
         self.outbox = Some(outbox);
         self.address = Some(address);
-        self.step(self.clock.now(), Machine::opened)
+        let now = self.clock.now();
+        if let Some(recorder) = &mut self.recorder {
+            recorder.at(now);
+            recorder.opened();
+        }
+        self.step(now, Machine::opened)
     }
 
     /// Hands in bytes of the server, after those that there was no memory for.
@@ -77,6 +83,9 @@ impl Engine {
         self.dispatcher.update.is_left = false;
         if taken.is_err() {
             self.inbox = came.into_owned();
+        } else if let Some(recorder) = &mut self.recorder {
+            recorder.at(now);
+            recorder.bytes(&came);
         }
         self.settle(now, taken)
     }
@@ -103,11 +112,15 @@ impl Engine {
         if self.outbox.is_none() {
             return Ok(());
         }
+        let now = self.clock.now();
+        if let Some(recorder) = &mut self.recorder {
+            recorder.at(now);
+        }
         self.hang_up();
         if matches!(self.phase, Phase::Ended(_) | Phase::Halted(_)) {
             return Ok(());
         }
-        self.step(self.clock.now(), Machine::cut)
+        self.step(now, Machine::cut)
     }
 
     /// Closes the connection, if there is one, and gives up the attempt that the machine asked for.
@@ -123,5 +136,9 @@ impl Engine {
             outbox.end();
             self.outboxes.push(outbox);
         }
+        if let Some(recorder) = &mut self.recorder {
+            recorder.cut();
+        }
+        self.flush_record();
     }
 }

@@ -7,6 +7,7 @@ use crate::fault::{Fault, NoReply};
 use crate::machine::{Machine, State};
 use crate::moment::Moment;
 use crate::outbox::Outbox;
+use crate::recording::Recorder;
 use crate::stats::{ConnectionEnd, Observation};
 use crate::tree_view::FollowedTree;
 use std::mem;
@@ -36,6 +37,9 @@ impl Engine {
 
     /// Does what the machine has said at a step, in its order. It closes the connection if the machine says so, or has halted.
     pub(super) fn settle(&mut self, now: Moment, taken: Result<(), Fault>) -> Result<(), Fault> {
+        if let Some(recorder) = &mut self.recorder {
+            recorder.at(now);
+        }
         let mut update = mem::take(&mut self.dispatcher.update);
         self.ending = update.end().or(self.ending);
         if let Some(fault) = taken.as_ref().err().filter(|fault| fault.is_final()) {
@@ -51,7 +55,7 @@ impl Engine {
         self.note_followed(&mut update);
         self.note(now, &update);
         self.send();
-        if self.end_answered() {
+        if self.end_answered(now) {
             self.ending = Some(ConnectionEnd::Unreadable);
             self.end()?;
         }
@@ -62,6 +66,7 @@ impl Engine {
             self.calls.end_all(&reason);
         }
         self.ask_deletions();
+        self.flush_record();
         taken
     }
 
@@ -89,6 +94,7 @@ impl Engine {
         }
         if update.is_expired {
             self.tally.note(Observation::SessionLost);
+            self.record_renewal();
             self.deletions.clear();
             self.trees.values_mut().for_each(FollowedTree::invalidate);
             if !self.renews {
@@ -110,6 +116,23 @@ impl Engine {
         }
     }
 
+    /// Records that the machine begins another session.
+    fn record_renewal(&mut self) {
+        if let (Some(recorder), Ok(saved)) = (&mut self.recorder, self.machine.saved()) {
+            recorder.begin(self.asked_timeout, Some(saved.for_another().as_bytes()));
+        }
+    }
+
+    /// Writes what was recorded. Where that fails, the record ends, and the session goes on.
+    pub(super) fn flush_record(&mut self) {
+        let flushed = self.recorder.as_mut().map_or(Ok(()), Recorder::flush);
+        if let Err(fault) = flushed {
+            self.recorder = None;
+            let why = fault.to_string();
+            self.tally.note(Observation::RecordEnded { why });
+        }
+    }
+
     /// Ends the session in this phase, unless it has ended before.
     fn finish(&mut self, phase: Phase) {
         if !self.is_over() {
@@ -119,16 +142,17 @@ impl Engine {
     }
 
     /// Hands out answers. Whether one does not parse, so that the connection has to end: its call may have happened.
-    fn end_answered(&mut self) -> bool {
+    fn end_answered(&mut self, now: Moment) -> bool {
         let mut is_end = false;
-        for (ticket, outcome) in mem::take(&mut self.dispatcher.answers) {
+        let mut answers = mem::take(&mut self.dispatcher.answers);
+        for (ticket, outcome) in answers.drain(..) {
             let read = self.calls.read(ticket, outcome, &self.chroot);
             is_end |= read.is_none();
             let outcome = read.unwrap_or(Err(NoReply::ConnectionLoss.into()));
-            self.deletions
-                .call_answered(self.clock.now(), ticket, &outcome);
+            self.deletions.call_answered(now, ticket, &outcome);
             self.calls.end(ticket, outcome);
         }
+        self.dispatcher.answers = answers;
         is_end
     }
 
@@ -144,6 +168,9 @@ impl Engine {
     pub(super) fn write(&mut self, frames: &[u8]) {
         if let Some(outbox) = self.outbox.as_ref().filter(|_| !frames.is_empty()) {
             outbox.put(frames);
+            if let Some(recorder) = &mut self.recorder {
+                recorder.sent(frames);
+            }
             self.tally.note(Observation::BytesOut(frames.len()));
             self.outboxes.push(Arc::clone(outbox));
         }

@@ -85,6 +85,9 @@ impl Engine {
 
     /// Copies the trees that are complete and due.
     pub(crate) fn update_trees(&mut self) {
+        if self.trees.is_empty() {
+            return;
+        }
         self.unfollow_unwanted_trees();
         let (is_over, may_look) = (self.is_over(), self.may_look());
         for tree in self.trees.values_mut() {

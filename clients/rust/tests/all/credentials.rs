@@ -1,10 +1,10 @@
 //! Who a session is, and what servers say to it. At a server that does what each test says, frame by frame.
 
 use crate::jute::{Record, CLOSE_SESSION, GET_CHILDREN_2, GET_DATA};
-use crate::partner::Partner;
+use crate::partner::{Partner, Request};
 use crate::{PATIENCE, TIMEOUT};
 use dirwolleu::{
-    Code, Error, ErrorKind, Event, Mark, NoReply, Request, Session, SessionOptions, State,
+    Code, Error, ErrorKind, Event, Mark, NoReply, Request as Asked, Session, SessionOptions, State,
 };
 use std::sync::mpsc;
 use std::time::{Duration, Instant};
@@ -13,22 +13,28 @@ use std::time::{Duration, Instant};
 const AUTH: i32 = 100;
 const AUTH_XID: i32 = -4;
 
-#[test]
-fn credentials_are_told_first_on_each_connection() {
+/// A server that takes each credential and closes each session, except where the connection ends: at a request of this type on the first one. It
+/// tells the number of the connection and the request.
+fn taking(ends_at: Option<i32>) -> (Partner, mpsc::Receiver<(usize, Request)>) {
     let (sender, told) = mpsc::channel();
     let partner = Partner::start(move |number, mut line| {
         line.admit(10_000);
         while let Some(request) = line.request() {
-            sender
-                .send((number, request.xid, request.kind, request.rest))
-                .unwrap();
+            sender.send((number, request.clone())).unwrap();
             match request.kind {
+                kind if number == 0 && Some(kind) == ends_at => return,
                 AUTH => line.refuse(AUTH_XID, 0),
-                GET_DATA if number == 0 => return,
+                CLOSE_SESSION => line.refuse(request.xid, 0),
                 _ => line.tell_data(request.xid),
             };
         }
     });
+    (partner, told)
+}
+
+#[test]
+fn credentials_are_told_first_on_each_connection() {
+    let (partner, told) = taking(Some(GET_DATA));
     let options = SessionOptions::new(TIMEOUT).auth("digest", b"ann:secret");
     let session = options.open(partner.address).unwrap();
     assert!(session.get("/a").is_ok());
@@ -37,16 +43,18 @@ fn credentials_are_told_first_on_each_connection() {
         let record = Record::new().int(0).text("digest").buffer(secret);
         record.framed()[4..].to_vec()
     };
-    for number in [0, 1] {
-        let (of, xid, kind, rest) = told.recv_timeout(PATIENCE).unwrap();
+    let is_credential = |number, secret| {
+        let (of, request) = told.recv_timeout(PATIENCE).unwrap();
         assert_eq!(
-            (of, xid, kind, rest),
-            (number, AUTH_XID, AUTH, spelled(b"ann:secret"))
+            (of, request.xid, request.kind, request.rest),
+            (number, AUTH_XID, AUTH, spelled(secret))
         );
-        assert_eq!(told.recv_timeout(PATIENCE).unwrap().2, GET_DATA);
+    };
+    for number in [0, 1] {
+        is_credential(number, b"ann:secret");
+        assert_eq!(told.recv_timeout(PATIENCE).unwrap().1.kind, GET_DATA);
     }
-    let (_, xid, kind, rest) = told.recv_timeout(PATIENCE).unwrap();
-    assert_eq!((xid, kind, rest), (AUTH_XID, AUTH, spelled(b"bob:secret")));
+    is_credential(1, b"bob:secret");
 }
 
 #[test]
@@ -125,27 +133,17 @@ fn credentials_that_are_added_and_refused_are_told_to_their_caller() {
 
 #[test]
 fn credentials_wait_for_a_connection_and_go_first() {
-    let (sender, told) = mpsc::channel();
-    let partner = Partner::start(move |number, mut line| {
-        line.admit(10_000);
-        while let Some(request) = line.request() {
-            sender.send((number, request.kind)).unwrap();
-            match request.kind {
-                AUTH if number == 0 => return,
-                AUTH => line.refuse(AUTH_XID, 0),
-                _ => line.tell_data(request.xid),
-            };
-        }
-    });
+    let (partner, told) = taking(Some(AUTH));
     let options = SessionOptions::new(TIMEOUT);
     let session = options.open_lazily(partner.address).unwrap();
-    let node = session.ask(Request::get("/a"));
-    let added = session.ask(Request::auth("digest", b"ann:secret"));
+    let node = session.ask(Asked::get("/a"));
+    let added = session.ask(Asked::auth("digest", b"ann:secret"));
     assert_eq!(added.wait_for(PATIENCE), Ok(()));
     assert!(node.wait_for(PATIENCE).is_ok());
     assert_eq!(session.add_auth("digest", b"ann:secret"), Ok(()));
-    let told: Vec<_> = told.try_iter().filter(|it| it.1 == AUTH).collect();
-    assert_eq!(told, [(0, AUTH), (1, AUTH)], "each connection once");
+    let told = told.try_iter().filter(|(_, asked)| asked.kind == AUTH);
+    let numbers: Vec<_> = told.map(|(number, _)| number).collect();
+    assert_eq!(numbers, [0, 1], "each connection once");
 }
 
 #[test]
@@ -156,36 +154,26 @@ fn a_call_whose_credentials_have_no_answer_ends_at_its_limit() {
         }
     });
     let session = Session::open(partner.address, TIMEOUT).unwrap();
-    let limited = Request::auth("digest", b"ann:secret").within(Duration::from_secs(1));
+    let limited = Asked::auth("digest", b"ann:secret").within(Duration::from_secs(1));
     let late = session.call(limited).map_err(Error::into_kind);
     assert_eq!(late, Err(ErrorKind::TimedOut));
     let nobody = SessionOptions::new(TIMEOUT).open_lazily("127.0.0.1:1");
-    let limited = Request::auth("digest", b"ann:secret").within(Duration::from_secs(1));
+    let limited = Asked::auth("digest", b"ann:secret").within(Duration::from_secs(1));
     let late = nobody.unwrap().call(limited).unwrap_err();
     assert_eq!(late.no_reply(), Some(NoReply::NotConnected));
 }
 
 #[test]
 fn a_session_that_is_renewed_introduces_itself_again() {
-    let (sender, told) = mpsc::channel();
-    let partner = Partner::start(move |number, mut line| {
-        line.admit(10_000);
-        while let Some(request) = line.request() {
-            sender.send((number, request.kind)).unwrap();
-            match request.kind {
-                AUTH => line.refuse(AUTH_XID, 0),
-                CLOSE_SESSION => line.refuse(request.xid, 0),
-                _ => line.tell_data(request.xid),
-            };
-        }
-    });
+    let (partner, told) = taking(None);
     let options = SessionOptions::new(TIMEOUT).auth("digest", b"ann:secret");
     let session = options.open(partner.address).unwrap().shared();
     assert_eq!(session.add_auth("digest", b"bob:secret"), Ok(()));
     session.close().unwrap();
     session.renew().unwrap();
-    assert!(session.call(Request::get("/a").within(PATIENCE)).is_ok());
-    let kinds: Vec<_> = told.try_iter().collect();
+    assert!(session.call(Asked::get("/a").within(PATIENCE)).is_ok());
+    let told = told.try_iter();
+    let kinds: Vec<_> = told.map(|(number, asked)| (number, asked.kind)).collect();
     let first = [(0, AUTH), (0, AUTH), (0, CLOSE_SESSION)];
     assert_eq!(kinds[..3], first);
     assert_eq!(kinds[3..], [(1, AUTH), (1, AUTH), (1, GET_DATA)]);

@@ -82,7 +82,7 @@ fn one_that_polls_keeps_one_waker_and_none_once_it_is_gone() {
 
 /// Refuses the first read, says that there is a node, and then has data.
 fn deny_once(mut line: Line, reads: &mpsc::Sender<()>) {
-    line.admit(3_000);
+    line.admit(60_000); // so no ping is late, however long a test polls
     let mut is_denied = false;
     while let Some(request) = line.request() {
         match request.kind {

@@ -6,9 +6,9 @@ use dirwolleu::{
     Barrier, Code, Counter, ErrorKind, LocalSession, LockNames, Mode, Queue, Semaphore, Session,
     ANY_VERSION,
 };
-use std::sync::atomic::{AtomicUsize, Ordering};
+use std::sync::Mutex;
 use std::thread::{scope, sleep};
-use std::time::Duration;
+use std::time::{Duration, Instant};
 
 /// How often the connection ends at another place, and after how many bytes each time.
 const PLACES: std::ops::Range<usize> = 0..14;
@@ -139,20 +139,26 @@ fn a_queue_gives_each_entry_to_one() {
         assert_eq!(queue.take(), Ok(Some(data.into())));
     }
     assert_eq!(queue.is_empty(), Ok(true));
-    let taken = AtomicUsize::new(0);
+    let taken = Mutex::new(Vec::new());
+    let until = Instant::now() + PATIENCE;
     scope(|scope| {
         for session in [&session, &other] {
             let taken = &taken;
             scope.spawn(move || {
                 let queue = Queue::new(session, "/queue");
-                while let Ok(Some(_)) = queue.take_within(Duration::from_secs(2)) {
-                    taken.fetch_add(1, Ordering::SeqCst);
+                while taken.lock().unwrap().len() < 40 && Instant::now() < until {
+                    let entry = queue.take_within(Duration::from_millis(50)).unwrap();
+                    taken.lock().unwrap().extend(entry);
                 }
             });
         }
         (0..40).for_each(|number| drop(queue.put(&[number]).unwrap()));
     });
-    assert_eq!(taken.load(Ordering::SeqCst), 40);
+    let mut taken = taken.into_inner().unwrap();
+    taken.sort_unstable();
+    let all: Vec<_> = (0..40).map(|number| vec![number]).collect();
+    assert_eq!(taken, all);
+    assert_eq!(queue.is_empty(), Ok(true));
 }
 
 #[test]

@@ -168,11 +168,13 @@ fn events_that_nobody_takes_are_bounded() {
 fn the_example_goes_on_where_a_read_is_refused() {
     let mut codes = vec![-127, -118, -112, -4];
     let partner = Partner::answering(move |line, request| {
-        match (request.kind, codes.pop()) {
-            (GET_DATA, Some(code)) => line.refuse(request.xid, code),
-            (GET_DATA, None) => line.tell_data(request.xid),
-            _ => line.refuse(request.xid, 0),
-        };
+        if request.kind != GET_DATA {
+            line.refuse(request.xid, 0); // a ping, which takes no code away
+        } else if let Some(code) = codes.pop() {
+            line.refuse(request.xid, code);
+        } else {
+            line.tell_data(request.xid);
+        }
     });
     let begun = Instant::now();
     let mut command = Command::new(example::follow());

@@ -279,12 +279,12 @@ fn nobody_answers_where_there_is_no_server() {
     assert_eq!(kind_of(nobody), NoReply::NotConnected.into());
 }
 
-/// Asks a server that answers with random bytes.
+/// Asks a server that answers with random bytes. The timeout is short, since calls wait for it, and long enough for a busy server to admit a session.
 fn try_hostile(seed: &str) {
     let Some(server) = Server::start(&["--hostile", seed]) else {
         return;
     };
-    let session = session_at(&server, 100);
+    let session = session_at(&server, 1_000);
     for _ in 0..2 {
         let begun = Instant::now();
         let _ = session.call(Request::get("/a").watched());

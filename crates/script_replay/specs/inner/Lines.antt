@@ -5,7 +5,7 @@ use Rattle.zk_conversation.specs.Calls.{Call, Exists, GetData, GetChildren, SetD
 use Rattle.zk_conversation.specs.Views.{mode_number}
 use Rattle.script_replay.specs.declared.call_line.Wish.{Wish}
 use Rattle.script_replay.specs.declared.drive_line.DriveLine.{DriveLine}
-use Rattle.script_replay.specs.ReplayLines.{DriveValue, OpenedLine, BytesLine, ClientValueLine}
+use Rattle.script_replay.specs.ReplayLines.{DriveValue, OpenedLine, BytesLine, SentLine, ClientValueLine}
 use Rattle.script_replay.specs.Lines.{client_value_of}
 use Rattle.script_replay.specs.declared.call_line.Wish.TheVariants as wish
 use Rattle.script_replay.specs.declared.drive_line.DriveLine.TheVariants as drive
@@ -22,4 +22,5 @@ asks_of (wish.Delete version) = λ path bytes. Delete path version
 abbrev pub drive_value_of : {A : Type 0} → DriveLine A → DriveValue
 drive_value_of drive.Opened = OpenedLine
 drive_value_of (drive.Bytes bytes) = BytesLine bytes.items
+drive_value_of drive.Sent = SentLine
 drive_value_of (drive.Client line) = ClientValueLine (client_value_of line)

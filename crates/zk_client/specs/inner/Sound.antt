@@ -11,7 +11,17 @@ use Rattle.zk_conversation.specs.Arriving.{Arrived, Connected, Replied, Watches_
 use Rattle.zk_watches.specs.Lists.{Lists, count_of}
 use Rattle.zk_client.specs.declared.machine.Core.{Core}
 use Rattle.zk_limits.specs.declared.limits.TheConstants.{LONGEST_PASSWORD, MOST_PATHS}
-use Rattle.zk_client.specs.Sound.{HasRoom}
+use Rattle.zk_frames.specs.Held.{Held}
+use Rattle.zk_turns.specs.Taken.{longest}
+use Rattle.zk_client.specs.Sound.{HasRoom, IsSound, IsReading}
+
+-- what is true of a machine
+abbrev pub CoreIsSound : {A : Type 0} → Core A → Type 0
+CoreIsSound core = IsSound core.session core.conversation core.registry
+
+-- the limit is that of the machine, as it stands
+abbrev pub IsReadingFor : {A : Type 0} → Core A → Held → Type 0
+IsReadingFor core held = IsReading (longest core.limits core.session.state) held
 
 -- What arrived took its request out of what was pending.
 abbrev pub IsLeft : Arrived → List Pending → List Pending → Type 0

@@ -1,5 +1,5 @@
 -- What contracts of private functions say of places: nobody has to believe it.
-use Rattle.std.specs.Prelude.{◌≡◌, ◌<◌, ◌==◌, ℕ, Bool, false, List, length, bytes_eq, slice_index_or}
+use Rattle.std.specs.Prelude.{◌≡◌, ◌<◌, ◌==◌, ℕ, Bool, true, false, List, length, bytes_eq, slice_index_or}
 use Rattle.zk_nodes.specs.Path.{Text}
 use Rattle.zk_turns.specs.Turns.{Output}
 use Rattle.zk_turns.specs.Turns as turns
@@ -14,6 +14,13 @@ abbrev pub is_named : ℕ → Text → Output → Bool
 is_named ticket path (turns.Answer its outcome) = ticket == its
 is_named ticket path (turns.Report at side event) = bytes_eq at path
 is_named ticket path _ = false
+
+-- whether an output may change a subject of this ticket and this path
+abbrev pub is_heard_by : ℕ → Text → Output → Bool
+is_heard_by ticket path (turns.Answer its outcome) = ticket == its
+is_heard_by ticket path (turns.Report at side event) = bytes_eq at path
+is_heard_by ticket path (turns.Enters state) = true
+is_heard_by ticket path _ = false
 
 -- Those are as they were whose places are not among these.
 abbrev pub AreSameBut : {X : Type 0} → (places : List ℕ) → (old new : List X) → Type 0

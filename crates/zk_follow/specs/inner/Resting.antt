@@ -1,16 +1,14 @@
 -- What contracts of private functions say of subjects that rest: nobody has to believe it.
-use Rattle.std.specs.Prelude.{◌≡◌, ◌<◌, ◌+◌, ◌-◌, ◌*◌, ◌^◌, ◌%◌, ◌==◌, ◌&&◌, ◌||◌, not, min, ℕ, Bool, true, false, List, length}
+use Rattle.std.specs.Prelude.{◌≡◌, ◌<◌, ◌==◌, ◌||◌, ℕ, Bool, true, false, List, length}
 use Rattle.std.specs.Prelude.{slice_index_or, bytes_eq}
-use Rattle.std.specs.List.{list_any, AllByRecursion}
+use Rattle.std.specs.List.{list_any}
 use Rattle.zk_nodes.specs.Path.{Text}
 use Rattle.zk_conversation.specs.Results.{Found}
 use Rattle.zk_turns.specs.Turns.{Outcome, Replied, Enters, Output}
 use Rattle.zk_turns.specs.Turns as turns
 use Rattle.zk_turns.specs.View.{View}
-use Rattle.zk_follow.specs.declared.about.About.{About}
 use Rattle.zk_follow.specs.declared.subject.Subject.{Subject}
-use Rattle.zk_follow.specs.Following.{is_among, is_due, is_quiet, is_reported, is_resting, taken}
-use Rattle.zk_follow.specs.inner.Reported.{AreReported}
+use Rattle.zk_follow.specs.Following.{heard_all, is_among, is_due, is_quiet, is_reported, is_resting, woken}
 
 -- ---- what outputs are about
 
@@ -43,11 +41,12 @@ abbrev pub AreAtRest : {A : Type 0} → View → List (Subject A) → (places : 
 AreAtRest {A} view subjects places =
     (k : ℕ) (d : Subject A) → k < length subjects → is_among k places ≡ false → is_resting view (slice_index_or subjects k d) ≡ true
 
--- Whose place is not among these is as it was once it has taken what was said.
+-- Whose place is not among these is as it was once it has heard what was said, and has no refusal whose moment has come.
 abbrev pub AreUnmoved : {A : Type 0} → (now : ℕ) → List Output → List (Subject A) → (places : List ℕ) → Type 0
 AreUnmoved {A} now outputs subjects places =
     (k : ℕ) (d : Subject A) → k < length subjects → is_among k places ≡ false
-    → taken now outputs (slice_index_or subjects k d) ≡ slice_index_or subjects k d
+    → (heard_all now (slice_index_or subjects k d) outputs ≡ slice_index_or subjects k d)
+    × (woken now (slice_index_or subjects k d) ≡ slice_index_or subjects k d)
 
 -- Whose place is not among these is due.
 abbrev pub AreDueBut : {A : Type 0} → List (Subject A) → (places : List ℕ) → Type 0
@@ -64,24 +63,3 @@ AreTold {A} view outputs subjects places =
 abbrev pub is_report : Output → Bool
 is_report (turns.Report at side event) = true
 is_report _ = false
-
--- how many remainders are told apart for a number of outputs
-abbrev pub slots : ℕ → ℕ
-slots outputs = min (min (outputs * 8) (2 ^ 64 - 1) + 16) (2 ^ 64 - 1)
-
-abbrev pub is_marked : List Bool → ℕ → Bool
-is_marked marks ticket = slice_index_or marks (ticket % length marks) false
-
--- whether it is noted that an output may be about subjects
-abbrev pub covers : {A : Type 0} → About A → Output → Bool
-covers about (turns.Answer ticket outcome) = is_marked about.answered.items ticket && (not (tells_fields outcome) || about.is_each)
-covers about (turns.Report at side event) = about.has_report
-covers about (Enters state) = about.is_each
-covers about _ = true
-
-abbrev pub AreNoted : {A : Type 0} → About A → List Output → Type 0
-AreNoted about outputs = AllByRecursion (λ output. covers about output ≡ true) outputs
-
--- that, and which paths they report
-abbrev pub AreCovered : {A : Type 0} → About A → List Output → Type 0
-AreCovered about outputs = AreNoted about outputs × AreReported about.reported outputs

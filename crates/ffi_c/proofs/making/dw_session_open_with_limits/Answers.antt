@@ -5,8 +5,10 @@ use Rattle.zk_frames.specs.declared.limits.FrameLimits.{FrameLimits}
 use Rattle.zk_frames.proofs.SameLimits.{same_limits}
 use Rattle.zk_turns.specs.Turns.{new_start}
 use Rattle.ffi_device.specs.Refused.{RefusesTimeout}
-use Rattle.ffi_device.specs.Steps.{within}
+use Rattle.ffi_device.specs.Steps.{Dials, within}
+use Rattle.ffi_device.specs.declared.device.Device.{Device}
 use Rattle.ffi_c.specs.Held.{Makes}
+use Rattle.ffi_c.proofs.Made.{made_so}
 use Rattle.ffi_c.proofs.making.dw_session_open_with_limits.Goals as goal
 
 pub returns-in-Ok-clause-makes : goal.returns-in-Ok-clause-makes
@@ -20,3 +22,8 @@ returns-in-Ok-clause-makes c limits comes goes =
 
 pub returns-in-Ok-clause-refused : goal.returns-in-Ok-clause-refused
 returns-in-Ok-clause-refused c refused = absurd (refused c.in-Some.ensures.0)
+
+pub returns-in-Ok-clause-dials : goal.returns-in-Ok-clause-dials
+returns-in-Ok-clause-dials c =
+    made_so (λ (d : Device). Dials c.args.addresses c.args.seed d.agent.dialler) c.hold.new.handle.slot.held
+    c.closed.result.slot.held c.in-Ok.session c.hold.ensures c.closed.ensures c.in-Ok.ensures.dials

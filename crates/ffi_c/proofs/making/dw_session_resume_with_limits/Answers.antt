@@ -6,9 +6,11 @@ use Rattle.zk_frames.specs.declared.limits.FrameLimits.{FrameLimits}
 use Rattle.zk_frames.proofs.SameLimits.{same_limits}
 use Rattle.ffi_device.specs.Refused.{RefusesTimeout}
 use Rattle.ffi_device.specs.Sessions.{put_start}
-use Rattle.ffi_device.specs.Steps.{within}
+use Rattle.ffi_device.specs.Steps.{Dials, within}
+use Rattle.ffi_device.specs.declared.device.Device.{Device}
 use Rattle.ffi_c.specs.Held.{Makes}
 use Rattle.ffi_c.proofs.Saved.{not_memory}
+use Rattle.ffi_c.proofs.Made.{made_so}
 use Rattle.ffi_c.proofs.making.dw_session_resume_with_limits.Goals as goal
 
 pub returns-in-Ok-clause-makes : goal.returns-in-Ok-clause-makes
@@ -28,3 +30,8 @@ returns-in-Ok-clause-broken c fault reads =
 pub returns-in-Ok-clause-unread : goal.returns-in-Ok-clause-unread
 returns-in-Ok-clause-unread c fault may reads apart above =
     absurd (true≢false (ap is_ok (c.in-Ok.ensures.unread fault reads apart c.in-Ok.ensures.accepted)))
+
+pub returns-in-Ok-clause-dials : goal.returns-in-Ok-clause-dials
+returns-in-Ok-clause-dials c =
+    made_so (λ (d : Device). Dials c.args.addresses c.args.seed d.agent.dialler) c.hold.new.handle.slot.held
+    c.closed.result.slot.held c.in-Ok.session c.hold.ensures c.closed.ensures c.in-Ok.ensures.dials

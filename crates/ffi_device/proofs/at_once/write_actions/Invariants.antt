@@ -7,8 +7,8 @@ use Rattle.ffi_device.proofs.at_once.write_actions.Given as goal
 -- what is written and what is left make up the whole
 abbrev pub invariant-loop-action : goal.invariant-loop-action
 invariant-loop-action l = record {
-  whole : l.text.items ++ flat_map output_bytes (map action_output (drop l.action-index l.actions))
-      ≡ l.fn.text.items ++ flat_map output_bytes (map action_output l.actions);
+  whole : l.text.bytes.items ++ flat_map output_bytes (map action_output (drop l.action-index l.actions))
+      ≡ l.fn.text.bytes.items ++ flat_map output_bytes (map action_output l.actions);
   fits : AllByRecursion FitsOutput (map action_output (drop l.action-index l.actions))
       → AllByRecursion FitsOutput (map action_output l.actions);
 }

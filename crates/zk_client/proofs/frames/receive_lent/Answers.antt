@@ -11,7 +11,7 @@ use Rattle.zk_turns.specs.Turns.{Output, Comes}
 use Rattle.zk_turns.specs.Rule.{IsOpen, after_signals, says_signals}
 use Rattle.zk_turns.proofs.Pieces.{unheard_view, unheard_says}
 use Rattle.zk_client.specs.Views.{said}
-use Rattle.zk_client.specs.Seen.{view_with}
+use Rattle.zk_client.specs.inner.Seen.{view_with}
 use Rattle.zk_client.proofs.Heard.{whole-view, whole-says}
 use Rattle.zk_client.proofs.frames.receive_lent.Goals as goal
 

@@ -14,7 +14,7 @@ use Rattle.zk_turns.specs.Rule.{IsOpen, after_signals, says_signals, says, next}
 use Rattle.zk_turns.specs.Taken.{longest_of}
 use Rattle.zk_turns.proofs.Fed.{arrival}
 use Rattle.zk_client.specs.Views.{said}
-use Rattle.zk_client.specs.Seen.{view_with}
+use Rattle.zk_client.specs.inner.Seen.{view_with}
 use Rattle.zk_turns.proofs.Pieces.{unheard_view, unheard_says}
 use Rattle.zk_client.proofs.Heard.{stands-there, stays, frame-view, frame-says, bad-view, bad-says, rest-view, rest-says}
 use Rattle.zk_client.proofs.frames.take_frames.Goals as goal

@@ -4,9 +4,8 @@ use Rattle.std.proofs.Common.{◌≡◌, [], ◌++◌, map, None, false, length}
 use Rattle.zk_turns.specs.Turns.{Comes}
 use Rattle.zk_turns.specs.Rule.{after_signals, says_signals}
 use Rattle.zk_client.specs.Views.{said}
-use Rattle.zk_client.specs.Seen.{view_with}
-use Rattle.zk_client.specs.inner.Seen.{origin}
-use Rattle.zk_client.specs.Sound.{CoreIsSound}
+use Rattle.zk_client.specs.inner.Seen.{view_with, origin}
+use Rattle.zk_client.specs.inner.Sound.{CoreIsSound}
 use Rattle.zk_client.proofs.frames.take_frames.Given as goal
 
 abbrev pub invariant-loop-reader : goal.invariant-loop-reader

@@ -7,7 +7,7 @@ use Rattle.zk_turns.specs.Past.{Lost}
 use Rattle.zk_turns.specs.Taken.{if_open}
 use Rattle.zk_turns.specs.Rule.{IsOpen}
 use Rattle.zk_client.specs.Views.{said}
-use Rattle.zk_client.specs.Seen.{view_with}
+use Rattle.zk_client.specs.inner.Seen.{view_with}
 use Rattle.zk_client.proofs.Turning.{turns-view, turns-says, one-says, open-causes}
 use Rattle.zk_client.proofs.turn.cut.Goals as goal
 

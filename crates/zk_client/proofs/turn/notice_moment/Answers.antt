@@ -9,7 +9,7 @@ use Rattle.zk_client.specs.Views.{said}
 use Rattle.zk_client.specs.Sound.{IsReading}
 use Rattle.zk_session.specs.SessionView.{SessionView}
 use Rattle.zk_turns.specs.Taken.{longest, longest_of}
-use Rattle.zk_client.specs.Seen.{view_with}
+use Rattle.zk_client.specs.inner.Seen.{view_with}
 use Rattle.zk_client.proofs.Turning.{one-says, tick-view, tick-says}
 use Rattle.zk_client.proofs.turn.notice_moment.Goals as goal
 

@@ -8,7 +8,7 @@ use Rattle.zk_turns.specs.Taken.{opens}
 use Rattle.zk_turns.specs.View.{View}
 use Rattle.zk_turns.specs.Rule.{next, says}
 use Rattle.zk_client.specs.Views.{said}
-use Rattle.zk_client.specs.Seen.{view_with}
+use Rattle.zk_client.specs.inner.Seen.{view_with}
 use Rattle.zk_client.proofs.Turning.{turns-view, turns-says, one-says, two-says, open-begins, either-open}
 use Rattle.zk_client.proofs.turn.opened.Goals as goal
 

@@ -3,7 +3,7 @@ use Rattle.std.proofs.Common.{ℕ, [], ap, sym, subst, ◌∙◌}
 use Rattle.std.proofs.lemmas.Result.{on_ok_weaker}
 use Rattle.zk_conversation.specs.Views.{call_view}
 use Rattle.zk_turns.specs.Taken.{longest_of, refusal}
-use Rattle.zk_client.specs.Seen.{view_with}
+use Rattle.zk_client.specs.inner.Seen.{view_with}
 use Rattle.zk_client.specs.Sound.{IsReading}
 use Rattle.zk_client.proofs.Asked.{asked-longest}
 use Rattle.zk_client.proofs.turn.turn.Goals as goal

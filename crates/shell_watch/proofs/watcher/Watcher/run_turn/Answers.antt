@@ -1,6 +1,6 @@
 -- One turn is heard (`heard_so`) and printed as the driver then is (`same_tells`): clock, print and note change nothing of the engine.
-use Rattle.std.proofs.Common.{◌≡◌, ◌∙◌, ap, subst, sym}
-use Rattle.std.specs.Prelude.{string_bytes, ◌||◌}
+use Rattle.std.proofs.Common.{◌≡◌, ◌∙◌, Result, Ok, Err, ap, subst, sym}
+use Rattle.std.specs.Prelude.{string_bytes, ◌||◌, IfErr, IsErrAnd}
 use Rattle.zk_client.specs.Clients.{view_of}
 use Rattle.zk_agent.specs.Telling.{told_by}
 use Rattle.shell_watch.specs.declared.plan.Style.{Style}
@@ -10,6 +10,14 @@ use Rattle.shell_watch.specs.Watching.{accepts, TellsTurn}
 use Rattle.shell_watch.specs.inner.Watching.{stand_of, Heard}
 use Rattle.shell_watch.proofs.Printing.{heard_so, same_tells}
 use Rattle.shell_watch.proofs.watcher.Watcher.run_turn.Goals as goal
+
+-- what is so of the error that there is
+err_so : {T E : Type 0} (result : Result T E) (P : E → Type 0) → IsErrAnd result P → IfErr result P
+err_so (Ok value) P is = tt
+err_so (Err fault) P is = is
+
+pub returns-in_err-text-clause-err : goal.returns-in_err-text-clause-err
+returns-in_err-text-clause-err g c = err_so c.from_residual-in_err-text.result _ c.from_residual-in_err-text.ensures.1
 
 pub returns-clause-ok : goal.returns-clause-ok
 returns-clause-ok g c =

@@ -2,7 +2,6 @@
 -- What was said is noted of the trees at last. Each other clause is what `take` ensures.
 use Rattle.std.proofs.Common.{[], List, ap, subst, ◌∙◌}
 use Rattle.zk_client.specs.Clients.{view_of}
-use Rattle.zk_dialler.specs.declared.dialler.Dialler.{Dialler}
 use Rattle.zk_trees.specs.declared.tree.Trees.{Trees}
 use Rattle.zk_dialler.specs.Dialling.{is_open}
 use Rattle.zk_agent.specs.Agents.{moves_of, trail_of, Comes}
@@ -27,9 +26,9 @@ returns-clause-comes g c =
     (subst (λ items. Comes now [] (old items) grown) c.requires c.in_ok-judged.ensures.comes)
     (made (is_open c.take.new.self.dialler.phase) now c.args.input c.args.self.now c.replace-credentials.result c.as_slice-told.result.now
     c.in_ok-judged.judged.items
-    (papers_of c.prepare.new.credentials) c.prepare.new.self.dialler.phase grown new c.replace-credentials.ensures.value
+    (papers_of c.prepare.new.credentials) c.prepare.new.self.dialler grown new c.replace-credentials.ensures.value
     c.as_slice-told.ensures.value c.in_ok-judged.ensures.judged c.in_ok-judged.ensures.papers
-    (ap (λ (d : Dialler g.row.A.Denot). d.phase) c.prepare.ensures.dialler) c.in_ok-take.ensures.comes)
+    c.prepare.ensures.dialler c.in_ok-take.ensures.comes)
 
 pub returns-clause-trees : goal.returns-clause-trees
 returns-clause-trees g c =
@@ -45,9 +44,9 @@ returns-clause-trees g c =
           c.in_ok-judged.ensures.grows);
       rest = made (is_open c.take.new.self.dialler.phase) now c.args.input c.args.self.now c.replace-credentials.result
           c.as_slice-told.result.now c.in_ok-judged.judged.items
-          (papers_of c.prepare.new.credentials) c.prepare.new.self.dialler.phase grown new c.replace-credentials.ensures.value
+          (papers_of c.prepare.new.credentials) c.prepare.new.self.dialler grown new c.replace-credentials.ensures.value
           c.as_slice-told.ensures.value c.in_ok-judged.ensures.judged c.in_ok-judged.ensures.papers
-          (ap (λ (d : Dialler g.row.A.Denot). d.phase) c.prepare.ensures.dialler) c.in_ok-take.ensures.comes;
+          c.prepare.ensures.dialler c.in_ok-take.ensures.comes;
       noted = c.note_all.ensures.all
           ∙ ap (λ (l : List (Action g.row.A.Denot)). noted_by l c.prepare.new.trees.all.items) c.as_slice.ensures.value;
       next = c.note_all.ensures.next;

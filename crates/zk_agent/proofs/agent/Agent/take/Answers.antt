@@ -22,7 +22,7 @@ use Rattle.zk_agent.proofs.agent.Agent.take.Goals as goal
 pub returns-clause-comes : goal.returns-clause-comes
 returns-clause-comes g c =
     let now = c.args.now in
-    let given = given_of c.args.self.now.dialler.phase now c.args.input in
+    let given = given_of c.args.self.now.dialler now c.args.input in
     let first = trail_of c.apply_happening.new.self c.apply_happening.new.actions.items in
     let old = trail_of c.args.self.now c.args.actions.now.items in
     let new = trail_of c.settle.new.self c.settle.new.actions.items in
@@ -96,7 +96,7 @@ returns-clause-answers g c =
 pub returns-in_err-renew-clause-broke : goal.returns-in_err-renew-clause-broke
 returns-in_err-renew-clause-broke g c =
     let now = c.args.now in
-    let given = given_of c.args.self.now.dialler.phase now c.args.input in
+    let given = given_of c.args.self.now.dialler now c.args.input in
     let old = trail_of c.args.self.now c.args.actions.now.items in
     let happened = trail_of c.apply_happening.new.self c.apply_happening.new.actions.items in
     let first = c.in_ok-apply_happening.ensures.comes in
@@ -106,7 +106,7 @@ returns-in_err-renew-clause-broke g c =
 pub returns-in_err-give_up-clause-broke : goal.returns-in_err-give_up-clause-broke
 returns-in_err-give_up-clause-broke g c =
     let now = c.args.now in
-    let given = given_of c.args.self.now.dialler.phase now c.args.input in
+    let given = given_of c.args.self.now.dialler now c.args.input in
     let old = trail_of c.args.self.now c.args.actions.now.items in
     let happened = trail_of c.apply_happening.new.self c.apply_happening.new.actions.items in
     let first = c.in_ok-apply_happening.ensures.comes in
@@ -119,7 +119,7 @@ returns-in_err-give_up-clause-broke g c =
 pub returns-in_err-send-clause-broke : goal.returns-in_err-send-clause-broke
 returns-in_err-send-clause-broke g c =
     let now = c.args.now in
-    let given = given_of c.args.self.now.dialler.phase now c.args.input in
+    let given = given_of c.args.self.now.dialler now c.args.input in
     let old = trail_of c.args.self.now c.args.actions.now.items in
     let happened = trail_of c.apply_happening.new.self c.apply_happening.new.actions.items in
     let first = c.in_ok-apply_happening.ensures.comes in
@@ -133,7 +133,7 @@ returns-in_err-send-clause-broke g c =
 pub returns-in_err-tire-clause-broke : goal.returns-in_err-tire-clause-broke
 returns-in_err-tire-clause-broke g c =
     let now = c.args.now in
-    let given = given_of c.args.self.now.dialler.phase now c.args.input in
+    let given = given_of c.args.self.now.dialler now c.args.input in
     let old = trail_of c.args.self.now c.args.actions.now.items in
     let happened = trail_of c.apply_happening.new.self c.apply_happening.new.actions.items in
     let first = c.in_ok-apply_happening.ensures.comes in
@@ -149,7 +149,7 @@ returns-in_err-tire-clause-broke g c =
 pub returns-in_err-settle-clause-broke : goal.returns-in_err-settle-clause-broke
 returns-in_err-settle-clause-broke g c =
     let now = c.args.now in
-    let given = given_of c.args.self.now.dialler.phase now c.args.input in
+    let given = given_of c.args.self.now.dialler now c.args.input in
     let old = trail_of c.args.self.now c.args.actions.now.items in
     let happened = trail_of c.apply_happening.new.self c.apply_happening.new.actions.items in
     let first = c.in_ok-apply_happening.ensures.comes in

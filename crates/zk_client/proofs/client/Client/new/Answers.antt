@@ -16,7 +16,7 @@ invariant_of-result g c =
     let begun = begins (new_start (unsigned_abs c.args.timeout_ms)) (longest c.standard.result c.new.result.state) c.new.result
     c.new-2.result c.new-3.result c.new-5.result (omega arith)
     (rw timeout at c.new.ensures) c.new-2.ensures c.new-3.ensures c.new-5.ensures in
-    record { sound = λ e. begun.0; short = begun.0.tied.short; reading = λ e. begun.1 }
+    record { sound = λ e. begun.0; short = begun.0.short; reading = λ e. begun.1 }
 
 pub returns-clause-view : goal.returns-clause-view
 returns-clause-view g c =

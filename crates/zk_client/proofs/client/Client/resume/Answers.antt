@@ -15,7 +15,7 @@ invariant_of-result g c =
     let begun = begins (saved_start c.args.timeout_ms c.args.saved.now) (longest c.standard.result c.in_ok-resume.field-0.state)
     c.in_ok-resume.field-0 c.new.result c.new-2.result c.new-4.result
     c.requires.password (rw timeout at c.in_ok-resume.ensures) c.new.ensures c.new-2.ensures c.new-4.ensures in
-    record { sound = λ e. begun.0; short = begun.0.tied.short; reading = λ e. begun.1 }
+    record { sound = λ e. begun.0; short = begun.0.short; reading = λ e. begun.1 }
 
 pub returns-clause-view : goal.returns-clause-view
 returns-clause-view g c =

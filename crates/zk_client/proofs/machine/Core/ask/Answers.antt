@@ -8,7 +8,7 @@ use Rattle.zk_client.proofs.Asked.{asked-sound}
 use Rattle.zk_client.proofs.machine.Core.ask.Goals as goal
 
 pub send-requires-clause-talking : goal.send-requires-clause-talking
-send-requires-clause-talking g c = let free = (c.in_default.ensures []).0 in c.requires.sound.tied.phase ∙ ap phase_of free.talks
+send-requires-clause-talking g c = let free = (c.in_default.ensures []).0 in c.requires.sound.phase ∙ ap phase_of free.talks
 
 pub send-requires-clause-fits : goal.send-requires-clause-fits
 send-requires-clause-fits g c =

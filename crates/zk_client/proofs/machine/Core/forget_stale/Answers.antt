@@ -1,7 +1,7 @@
 -- The cache with its good answers alone is the forgotten one: `good-kept`, inside the view.
 use Rattle.std.proofs.Common.{ap}
 use Rattle.zk_turns.specs.View.{View, Cache}
-use Rattle.zk_client.specs.Seen.{view_with}
+use Rattle.zk_client.specs.inner.Seen.{view_with}
 use Rattle.zk_client.proofs.CacheLemmas.{good-kept}
 use Rattle.zk_client.proofs.machine.Core.forget_stale.Goals as goal
 

@@ -4,7 +4,7 @@ use Rattle.std.proofs.lemmas.Result.{on_ok_weaker}
 use Rattle.zk_turns.specs.Turns.{Output, Drop}
 use Rattle.zk_turns.specs.Rule.{losses}
 use Rattle.zk_client.specs.Views.{said, fault_view}
-use Rattle.zk_client.specs.Seen.{view_with}
+use Rattle.zk_client.specs.inner.Seen.{view_with}
 use Rattle.zk_client.proofs.machine.Core.give_up.Goals as goal
 
 pub returns-clause-says : goal.returns-clause-says

@@ -7,17 +7,16 @@ use Rattle.zk_watches.specs.Lists.{fires}
 use Rattle.zk_client.specs.Views.{said}
 use Rattle.zk_client.specs.Sound.{HasRoom}
 use Rattle.zk_client.proofs.Reports.{said_both}
-use Rattle.zk_client.proofs.Rooms.{fired-room, tied-talking}
+use Rattle.zk_client.proofs.Rooms.{fired-room, sound-with, tied-talking}
 use Rattle.zk_client.proofs.machine.Core.notice.Goals as goal
 
 pub returns-clause-sound : goal.returns-clause-sound
 returns-clause-sound g c =
     let core = c.args.self.now in
-    on_ok_weaker c.report-2.result (λ _. record {
-      tied = tied-talking core.session core.conversation c.requires.phase c.requires.comes c.requires.short;
-      room = rw c.fire-on_data.ensures.lists (fired-room core.registry c.args.event c.args.path.now core.conversation.pending
-          (subst (HasRoom core.registry) c.requires.left c.requires.room));
-    }) c.report-2.ensures
+    on_ok_weaker c.report-2.result (λ _. sound-with
+    (tied-talking core.session core.conversation c.requires.phase c.requires.comes c.requires.short)
+    (rw c.fire-on_data.ensures.lists (fired-room core.registry c.args.event c.args.path.now core.conversation.pending
+    (subst (HasRoom core.registry) c.requires.left c.requires.room)))) c.report-2.ensures
 
 pub returns-clause-says : goal.returns-clause-says
 returns-clause-says g c =

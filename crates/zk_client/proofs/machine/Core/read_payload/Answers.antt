@@ -11,7 +11,7 @@ use Rattle.zk_turns.specs.Taken.{taken_of}
 use Rattle.zk_turns.specs.View.{View}
 use Rattle.zk_turns.specs.Rule.{next, says}
 use Rattle.zk_client.specs.Views.{said}
-use Rattle.zk_client.specs.Seen.{shown, view_with}
+use Rattle.zk_client.specs.inner.Seen.{shown, view_with}
 use Rattle.zk_client.specs.inner.Sound.{IsLeft}
 use Rattle.zk_client.proofs.Came.{comes, arrives, before-it}
 use Rattle.zk_client.proofs.machine.Core.read_payload.Goals as goal

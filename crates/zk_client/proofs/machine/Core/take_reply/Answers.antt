@@ -10,7 +10,7 @@ use Rattle.zk_watches.specs.Lists.{Lists}
 use Rattle.zk_client.specs.inner.Left.{side_left}
 use Rattle.zk_client.specs.Sound.{HasRoom}
 use Rattle.zk_client.proofs.Answered.{left-view, closed-view, left-lists}
-use Rattle.zk_client.proofs.Rooms.{room-for, reply-room, tied-talking}
+use Rattle.zk_client.proofs.Rooms.{room-for, reply-room, sound-with, tied-talking}
 use Rattle.zk_client.proofs.machine.Core.take_reply.Goals as goal
 
 -- what three facts of a success give, and what five do
@@ -52,13 +52,12 @@ returns-in-None-clause-sound g c =
     let arrived = c.requires in
     let lists = left-lists _ _ (question_view c.args.question) (result_view c.args.found.now) core.registry
     (rw c.in-None.is at c.left_by.ensures.data) (rw c.in-None.is at c.left_by.ensures.child) in
-    record {
-      tied = rw c.saw.ensures
-          (tied-talking (session.next (session.Sees _) core.session) core.conversation arrived.phase arrived.comes arrived.short);
-      room = subst (λ (l : Lists). HasRoom l core.conversation.pending) (sym lists)
-          (reply-room arrived.left.0 c.args.ticket (question_view c.args.question) (result_view c.args.found.now) core.registry
-          core.conversation.pending (subst (HasRoom core.registry) arrived.left.1 arrived.room));
-    }
+    sound-with
+    (rw c.saw.ensures (tied-talking (session.next (session.Sees _) core.session) core.conversation arrived.phase arrived.comes
+    arrived.short))
+    (subst (λ (l : Lists). HasRoom l core.conversation.pending) (sym lists)
+    (reply-room arrived.left.0 c.args.ticket (question_view c.args.question) (result_view c.args.found.now) core.registry
+    core.conversation.pending (subst (HasRoom core.registry) arrived.left.1 arrived.room)))
 
 pub returns-in-None-clause-next : goal.returns-in-None-clause-next
 returns-in-None-clause-next g c =
@@ -75,13 +74,12 @@ returns-in-Some-clause-sound g c =
     let arrived = c.requires in
     let left = left-lists _ _ (question_view c.args.question) (result_view c.args.found.now) core.registry
     (rw c.in-Some.is at c.left_by.ensures.data) (rw c.in-Some.is at c.left_by.ensures.child) in
-    on_ok_weaker c.keep.result (λ lists. record {
-      tied = rw c.saw.ensures
-          (tied-talking (session.next (session.Sees _) core.session) core.conversation arrived.phase arrived.comes arrived.short);
-      room = subst (λ (l : Lists). HasRoom l core.conversation.pending) (sym (lists ∙ left))
-          (reply-room arrived.left.0 c.args.ticket (question_view c.args.question) (result_view c.args.found.now) core.registry
-          core.conversation.pending (subst (HasRoom core.registry) arrived.left.1 arrived.room));
-    }) c.keep.ensures.lists
+    on_ok_weaker c.keep.result (λ lists. sound-with
+    (rw c.saw.ensures (tied-talking (session.next (session.Sees _) core.session) core.conversation arrived.phase arrived.comes
+    arrived.short))
+    (subst (λ (l : Lists). HasRoom l core.conversation.pending) (sym (lists ∙ left))
+    (reply-room arrived.left.0 c.args.ticket (question_view c.args.question) (result_view c.args.found.now) core.registry
+    core.conversation.pending (subst (HasRoom core.registry) arrived.left.1 arrived.room)))) c.keep.ensures.lists
 
 pub returns-in-Some-clause-next : goal.returns-in-Some-clause-next
 returns-in-Some-clause-next g c =
