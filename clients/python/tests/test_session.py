@@ -243,10 +243,6 @@ class SessionTest(unittest.TestCase):
             session._read(of_session._fields_of_output(library._Output(kind=library.REFUSED, detail=99)), b"")
 
 
-if __name__ == "__main__":
-    unittest.main()
-
-
 @unittest.skipUnless(platform.libc_ver()[0] == "glibc", "another C library keeps memory by rules of its own")
 class MemoryTest(unittest.TestCase):
     def test_the_memory_of_long_answers_serves_the_next_ones(self) -> None:
@@ -258,3 +254,7 @@ class MemoryTest(unittest.TestCase):
             self.assertEqual(len(answers.pop()), 100_000)
             del answers
         self.assertLess(faults[-1] - faults[0], 100)  # where it goes back to the system they are 500 each time
+
+
+if __name__ == "__main__":
+    unittest.main()

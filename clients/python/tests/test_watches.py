@@ -502,7 +502,7 @@ class StateTest(BothCase):
 
 def load_tests(loader: unittest.TestLoader, *_: Any) -> unittest.TestSuite:
     """The rules are no test by themselves."""
-    tests = ThreadsWatchTest, AioWatchTest, ThreadsFreshTest, AioFreshTest, FollowChildrenTest, FutureTest, StateTest, TaskTest
+    tests = ThreadsWatchTest, AioWatchTest, ThreadsFreshTest, AioFreshTest, FollowChildrenTest, FutureTest, StateTest, TaskTest, LookTest
     return unittest.TestSuite(loader.loadTestsFromTestCase(one) for one in tests)
 
 
