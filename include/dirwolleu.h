@@ -72,7 +72,7 @@ enum dw_result DW_AS_INT32 {
                      dw_session_resume. */
   DW_NO_MEMORY = -2, /* no memory for what was given */
   DW_CLOSED = -3, /* the handle holds no session */
-  DW_NOT_TEXT = -4, /* the path, or the scheme of a credential, is no UTF-8 */
+  DW_NOT_TEXT = -4, /* the path, or the scheme of a credential, or a guid, is no UTF-8 */
   DW_NOT_PATH = -5, /* the text is no path of a node */
   DW_BAD_TIMEOUT = -6, /* the timeout is not above 0 */
   DW_NO_SUCH_MODE = -7,
@@ -112,11 +112,16 @@ enum dw_kind DW_AS_INT32 {
   DW_KIND_RENEWED = 9,
   DW_KIND_SHOWN = 10,
   DW_KIND_REFUSED = 11,
-  DW_KIND_TAKEN_ON = 12,
-  DW_KIND_LET_GO = 13,
-  DW_KIND_BOUNDED = 14,
-  DW_KIND_WHOLE = 15,
-  DW_KIND_CREDENTIAL = 16
+  DW_KIND_MEMBER_ADDED = 12,
+  DW_KIND_MEMBER_REMOVED = 13,
+  DW_KIND_TREE_BOUNDED = 14,
+  DW_KIND_TREE_COMPLETE = 15,
+  DW_KIND_CREDENTIAL = 16,
+  DW_KIND_WAITS = 17,
+  DW_KIND_HOLDS = 18,
+  DW_KIND_LOST = 19,
+  DW_KIND_PAUSES = 20,
+  DW_KIND_GIVEN_UP = 21
 };
 enum dw_state DW_AS_INT32 {
   DW_STATE_IDLE = 0,
@@ -165,12 +170,13 @@ enum dw_cause DW_AS_INT32 {
   DW_CAUSE_WATCHES_REFUSED = 5
 };
 
-/* Why a session's read of what is followed was refused. */
+/* Why a session's read of what is followed, or a call of a contender, was refused. */
 enum dw_refusal DW_AS_INT32 {
   DW_REFUSAL_CODE = 1, /* by the server, with a code */
   DW_REFUSAL_TOO_MANY_WATCHES = 2, /* 65,536 paths of the side are watched */
   DW_REFUSAL_TOO_LARGE = 3, /* the path is too long for a request */
-  DW_REFUSAL_CLOSED = 4 /* the session is being closed */
+  DW_REFUSAL_CLOSED = 4, /* the session is being closed */
+  DW_REFUSAL_NUMBERS_USED_UP = 5 /* of a contender: the directory has had 2,147,483,647 names */
 };
 
 /* Errors of the server. It may answer with a number that this list does not name: so a code is an int32_t. */
@@ -209,16 +215,22 @@ enum dw_code DW_AS_INT32 {
  *   DW_KIND_REFUSED   a read of the subject with this ticket was refused: refusal says why, with the code of DW_REFUSAL_CODE. It is read
  *                     again after a second, and this is told once for each new reason.
  * It says these of trees, each in its place among the others:
- *   DW_KIND_TAKEN_ON  a side of a node is followed for the tree with the ticket tree, by this ticket: side; the text is the path.
- *   DW_KIND_LET_GO    what this ticket follows for that tree is followed no more: there is no such node, or the tree is followed no more.
- *   DW_KIND_BOUNDED   whether the tree with this ticket has more nodes than its bound is another than before: is_bounded. While it has, no more of
+ *   DW_KIND_MEMBER_ADDED  a side of a node is followed for the tree with the ticket tree, by this ticket: side; the text is the path.
+ *   DW_KIND_MEMBER_REMOVED    what this ticket follows for that tree is followed no more: there is no such node, or the tree is followed no more.
+ *   DW_KIND_TREE_BOUNDED   whether the tree with this ticket has more nodes than its bound is another than before: is_bounded. While it has, no more of
  *                     it is taken on.
- *   DW_KIND_WHOLE     nothing is lacking of the tree with this ticket, and it may be another one than when that was told last: look it up by
+ *   DW_KIND_TREE_COMPLETE     nothing is lacking of the tree with this ticket, and it may be another one than when that was told last: look it up by
  *                     dw_session_subtree, which judges whether it is of one moment.
  * And this of credentials, after all else of a step but their frames and DW_KIND_DIAL:
  *   DW_KIND_CREDENTIAL  the server has answered the credential at this place of those that were handed in, from 0 on, on this connection. Code 0
  *                     accepts it. Another one refuses it, as -115 does, and the server ends the connection: take dw_session_free, since each
- *                     later connection would be introduced so again. */
+ *                     later connection would be introduced so again.
+ * And these of contenders, after all else of a step, each where it is another than what was told of the contender with this ticket last:
+ *   DW_KIND_WAITS     another one is before it, and is watched.
+ *   DW_KIND_HOLDS     it holds. Its token is zxid, that of the making of its place: whoever the lock protects refuses a smaller one than it has seen.
+ *   DW_KIND_LOST      it holds no more: its place is gone, or the session has expired, and it contends on by another place; or it was given up.
+ *   DW_KIND_PAUSES    a call of it was refused: refusal says why, with the code of DW_REFUSAL_CODE. It is asked again after a second.
+ *   DW_KIND_GIVEN_UP  it is given up, or the session is closed, and no node of it is there. It is told of no more. */
 typedef struct dw_output {
   enum dw_kind kind;
   union {
@@ -226,7 +238,7 @@ typedef struct dw_output {
     enum dw_event event; /* of a report */
     enum dw_state state; /* of a state */
     enum dw_cause cause; /* of a drop */
-    enum dw_refusal refusal; /* of a refused read */
+    enum dw_refusal refusal; /* of a refused read, and of a contender that pauses */
   };
   union {
     enum dw_reply reply; /* of an answer that is a reply */
@@ -234,7 +246,7 @@ typedef struct dw_output {
   };
   int32_t code; /* one of enum dw_code, or another number */
   union {
-    uint64_t ticket; /* of a call, a subject or a tree */
+    uint64_t ticket; /* of a call, a subject, a tree or a contender */
     uint64_t within_ms; /* of a dial */
   };
   int64_t zxid;
@@ -400,6 +412,43 @@ enum dw_result dw_session_follow_tree(dw_session *handle, uint64_t now_ms, uint6
 /* The tree of this ticket is followed no more, nor is any node that was taken on for it. Where there is none, the moment alone is noticed. */
 enum dw_result dw_session_unfollow_tree(dw_session *handle, uint64_t now_ms, uint64_t ticket);
 
+/* How the places of contenders are named: a prefix, the guid, a marker and ten digits. All contenders of one lock use names of one family. Each waits
+ * for every other one, and a reader for locks and writers alone. */
+enum dw_naming DW_AS_INT32 {
+  DW_NAMING_KAZOO = 0, /* of kazoo, guid and __lock__: a lock, an election, a writer */
+  DW_NAMING_KAZOO_READER = 1, /* guid and __rlock__ */
+  DW_NAMING_CURATOR_LOCK = 2, /* _c_, guid and -lock- */
+  DW_NAMING_CURATOR_LATCH = 3, /* _c_, guid and -latch- */
+  DW_NAMING_CURATOR_WRITER = 4, /* _c_, guid and -__WRIT__ */
+  DW_NAMING_CURATOR_READER = 5 /* _c_, guid and -__READ__ */
+};
+
+/* A contender for a lock or an election joins in a directory, which is made where it is not there. It makes its place, an ephemeral sequential node with
+ * these data, null where is_null; watches the last rival before it, and no other; and tells how it stands:
+ *     char guid[32]; // hexadecimal digits, from the random numbers of the system
+ *     dw_session_contend(&session, now(), 7, "/locks/job", 10, DW_NAMING_KAZOO, guid, 32, (const uint8_t *)"", 0, true, false);
+ *     ..
+ *     while (dw_session_next(&session, &said) == DW_OK)
+ *       switch (said.kind) {
+ *       case DW_KIND_HOLDS: begin_work(said.ticket, said.zxid); break; // each write of it takes the token along
+ *       case DW_KIND_LOST: stop_work(said.ticket); break; // another one may hold; ours contends on
+ *       case DW_KIND_GIVEN_UP: forget(said.ticket); break; // of dw_session_give_up, or as the session is closed
+ *       ..
+ *       }
+ * The guid is a text that no other contender has: 32 hexadecimal digits for names of kazoo, a UUID for names of Curator. may_be_there says that this
+ * session may have made a place with it before, as after dw_session_resume: then the place is looked for first, as it is after each create whose
+ * answer was lost. After DW_KIND_RENEWED it contends again, and holds by the old place no more. Where another contender has the ticket, the moment alone is
+ * noticed. Contenders ask calls of tickets from 3 * 2^62 on, whose answers are not told; reports of the nodes that they watch are told too.
+ * It is a step. Also DW_NO_MEMORY; DW_NOT_TEXT for the directory or the guid; DW_NOT_PATH where the directory is none, or no place in it has a path; and
+ * DW_NO_SUCH_MODE where the naming is none of enum dw_naming: no step was made. */
+enum dw_result dw_session_contend(dw_session *handle, uint64_t now_ms, uint64_t ticket, const char *directory,
+                                  size_t directory_length, uint32_t naming, const char *guid, size_t guid_length,
+                                  const uint8_t *bytes, size_t length, bool is_null, bool may_be_there);
+
+/* The contender of this ticket is given up: its places are deleted, through any number of connections, and DW_KIND_GIVEN_UP is told once none is left. It
+ * is a step. Where there is no such contender, the moment alone is noticed. */
+enum dw_result dw_session_give_up(dw_session *handle, uint64_t now_ms, uint64_t ticket);
+
 /* Writes what is told next of the last step. DW_OK, DW_NONE where all was told, DW_CLOSED; then out is as it was. */
 enum dw_result dw_session_next(dw_session *handle, dw_output *out);
 
@@ -446,8 +495,8 @@ int64_t dw_session_last_zxid(dw_session *handle);
 /* The timeout of the session in milliseconds: the one that a server granted last, or the one to ask for. Or DW_CLOSED. */
 int64_t dw_session_timeout_ms(dw_session *handle);
 
-/* Writes the first moment at which something is due: a ping, the end of an attempt, a dial, a read, a limit, a tree that is to be tended. It may be
- * past. DW_OK, DW_NONE where nothing will be due, DW_CLOSED; then 0 is written. */
+/* Writes the first moment at which something is due: a ping, the end of an attempt, a dial, a read, a limit, a tree that is to be tended, the end of a
+ * contender's pause. It may be past. DW_OK, DW_NONE where nothing will be due, DW_CLOSED; then 0 is written. */
 enum dw_result dw_session_deadline(dw_session *handle, uint64_t *first_ms);
 
 /* Writes the moment at which the server was heard last, on any connection. What is kept and good was so on the server when
@@ -578,6 +627,19 @@ enum dw_result dw_session_standing(dw_session *handle, const char *directory, si
 enum dw_result dw_session_holder(dw_session *handle, const char *directory, size_t directory_length, const char *prefix,
                                  size_t prefix_length, const char *path, size_t path_length, int64_t *token);
 
+/* Tells whether the session holds by the contender of this ticket.
+ *   DW_OK    it holds at dw_session_last_zxid: no rival is before its place in a listing that was answered since it came there, and the place is kept
+ *            good and is this session's. The token is written. While there is no connection it stays so: it may be lost by now, which
+ *            dw_session_heard_at bounds and the token settles.
+ *   DW_NONE  that is not shown, or there is no such contender.
+ * Also DW_CLOSED. The token is 0 unless it answers DW_OK. It takes no memory. It is proved that this is what the session's client shows by the listing
+ * that the contender has; that this listing is one that the session was answered is not proved yet of a whole session. */
+enum dw_result dw_session_held(dw_session *handle, uint64_t ticket, int64_t *token);
+
+/* Copies the path of the place of the contender of this ticket, as many bytes as there is room for, and writes how many it has. DW_OK; DW_NONE where it
+ * is not known, or there is no such contender; DW_CLOSED. Unless it answers DW_OK, the count is 0 and nothing is copied. */
+enum dw_result dw_session_place(dw_session *handle, uint64_t ticket, char *out, size_t room, size_t *count);
+
 /* Forgets all stale answers, which take memory until their paths are read again or the session is over. It takes no memory, is no step, and leaves
  * what was said. DW_OK, DW_CLOSED. */
 enum dw_result dw_session_forget(dw_session *handle);
@@ -595,7 +657,7 @@ static inline const char *dw_result_words(enum dw_result result) {
   case DW_NOT_TEXT: return "the path is no UTF-8";
   case DW_NOT_PATH: return "the text is no path";
   case DW_BAD_TIMEOUT: return "the timeout is not 1 to 2147483647 milliseconds";
-  case DW_NO_SUCH_MODE: return "the mode is no sum of DW_MODE_EPHEMERAL and DW_MODE_SEQUENTIAL";
+  case DW_NO_SUCH_MODE: return "the mode is no sum of DW_MODE_EPHEMERAL and DW_MODE_SEQUENTIAL, or the naming none of enum dw_naming";
   case DW_NOT_SAVED: return "the bytes are no saved session";
   case DW_NOT_WHOLE: return "some of what is asked for is not kept, or not good";
   case DW_TOO_MANY: return "the subtree has more nodes than were asked for";

@@ -148,9 +148,9 @@ static void note(const dw_output *output)
     switch (output->kind) {
     case DW_KIND_ANSWER: note_answer(output); break;
     case DW_KIND_SHOWN: note_shown(output->ticket); break;
-    case DW_KIND_TAKEN_ON: told.taken_on++; break;
-    case DW_KIND_LET_GO: told.let_go++; break;
-    case DW_KIND_WHOLE: told.whole++; break;
+    case DW_KIND_MEMBER_ADDED: told.taken_on++; break;
+    case DW_KIND_MEMBER_REMOVED: told.let_go++; break;
+    case DW_KIND_TREE_COMPLETE: told.whole++; break;
     case DW_KIND_DIAL: is_dialled = true; break;
     case DW_KIND_STATE: is_connected = output->state == DW_STATE_CONNECTED; break;
     case DW_KIND_REPORT: break;

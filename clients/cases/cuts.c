@@ -401,7 +401,7 @@ static void look(const struct subject *subject, struct lines *lines)
     }
 }
 
-/* A subject is good. Of a tree that is told by DW_KIND_WHOLE, and other tickets are of its nodes. */
+/* A subject is good. Of a tree that is told by DW_KIND_TREE_COMPLETE, and other tickets are of its nodes. */
 static void show(uint64_t ticket, bool is_tree)
 {
     if (ticket < subject_count && (strcmp(subjects[ticket].name, "tree") == 0) == is_tree) {
@@ -423,7 +423,7 @@ static void do_action(const dw_output *action)
     switch (action->kind) {
     case DW_KIND_SEND: carry(action->length); break;
     case DW_KIND_SHOWN: show(action->ticket, false); break;
-    case DW_KIND_WHOLE: show(action->ticket, true); break;
+    case DW_KIND_TREE_COMPLETE: show(action->ticket, true); break;
     case DW_KIND_DIAL: dial(action->place); break;
     case DW_KIND_HANG_UP: hang_up(); break;
     case DW_KIND_RENEWED:
@@ -437,8 +437,8 @@ static void do_action(const dw_output *action)
         }
         break;
     case DW_KIND_REPORT:
-    case DW_KIND_TAKEN_ON:
-    case DW_KIND_LET_GO: break;
+    case DW_KIND_MEMBER_ADDED:
+    case DW_KIND_MEMBER_REMOVED: break;
     default: fail("an action of kind %d is told", (int)action->kind);
     }
 }

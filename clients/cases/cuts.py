@@ -12,7 +12,7 @@ HERE = pathlib.Path(__file__).resolve().parent
 sys.path.insert(0, str(HERE.parent / "python"))
 
 from dirwolleu import _library as library  # noqa: E402
-from dirwolleu._session import Dial, LetGo, Session, Shown, Sign, TakenOn, Whole  # noqa: E402
+from dirwolleu._session import Dial, MemberAdded, MemberRemoved, Session, Shown, Sign, TreeComplete  # noqa: E402
 from dirwolleu.testing import _library as bench  # noqa: E402
 from dirwolleu.types import DataStat  # noqa: E402
 
@@ -261,7 +261,7 @@ class Play:
         elif isinstance(action, Shown) and action.ticket < len(self.subjects):
             if self.subjects[action.ticket][0] != "tree":
                 self.shown[action.ticket] = self.look(action.ticket)
-        elif isinstance(action, Whole):
+        elif isinstance(action, TreeComplete):
             self.shown[action.tree] = self.look(action.tree)
         elif isinstance(action, Dial):
             if link.is_there or link.dialled is not None:
@@ -274,7 +274,7 @@ class Play:
         elif isinstance(action, library.StateChange):
             if action.state == library.CONNECTED:
                 link.admit()
-        elif not isinstance(action, (library.Report, Shown, TakenOn, LetGo)):
+        elif not isinstance(action, (library.Report, Shown, MemberAdded, MemberRemoved)):
             raise Fault(f"{action} is told")
 
     def _go_on(self) -> bool:

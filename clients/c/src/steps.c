@@ -198,11 +198,16 @@ static void dws_take(dws_session *s, const dw_output *action)
         break;
     case DW_KIND_SHOWN: dws_take_shown(s, action->ticket); break;
     case DW_KIND_REFUSED: dws_take_refusal(s, action); break;
-    case DW_KIND_TAKEN_ON:
-    case DW_KIND_LET_GO:
-    case DW_KIND_BOUNDED:
-    case DW_KIND_WHOLE: dws_take_of_tree(s, action); break;
+    case DW_KIND_MEMBER_ADDED:
+    case DW_KIND_MEMBER_REMOVED:
+    case DW_KIND_TREE_BOUNDED:
+    case DW_KIND_TREE_COMPLETE: dws_take_of_tree(s, action); break;
     case DW_KIND_CREDENTIAL: dws_take_introduction(s, action->place, action->code); break;
+    case DW_KIND_WAITS:
+    case DW_KIND_HOLDS:
+    case DW_KIND_LOST:
+    case DW_KIND_PAUSES:
+    case DW_KIND_GIVEN_UP: break; /* nobody contends by this session's machine */
     }
 }
 

@@ -188,7 +188,7 @@ void dws_free_members(struct dws_members *members)
 /* What is said of a tree. */
 void dws_take_of_tree(dws_session *s, const dw_output *told)
 {
-    bool is_of_node = told->kind == DW_KIND_TAKEN_ON || told->kind == DW_KIND_LET_GO;
+    bool is_of_node = told->kind == DW_KIND_MEMBER_ADDED || told->kind == DW_KIND_MEMBER_REMOVED;
     uint64_t ticket = is_of_node ? told->tree : told->ticket;
     dws_tree *tree = s->trees;
     while (tree != NULL && tree->ticket != ticket) {
@@ -197,11 +197,11 @@ void dws_take_of_tree(dws_session *s, const dw_output *told)
     if (tree == NULL) {
         return;
     }
-    if (told->kind == DW_KIND_TAKEN_ON) {
+    if (told->kind == DW_KIND_MEMBER_ADDED) {
         dws_take_on(s, &tree->members, told);
-    } else if (told->kind == DW_KIND_LET_GO) {
+    } else if (told->kind == DW_KIND_MEMBER_REMOVED) {
         dws_let_member_go(tree, told->ticket);
-    } else if (told->kind == DW_KIND_BOUNDED) {
+    } else if (told->kind == DW_KIND_TREE_BOUNDED) {
         tree->fault = told->is_bounded ? DWS_REFUSED - (int32_t)DW_TOO_MANY : 0;
         tree->must_weigh = true;
     } else {

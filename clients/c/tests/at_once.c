@@ -199,7 +199,7 @@ int main(void)
     ask();
     follow();
     end();
-    EXPECT_NUMBER((UINT32_C(1) << (DW_KIND_WHOLE + 1)) - (UINT32_C(1) << DW_KIND_SEND), kinds);
+    EXPECT_NUMBER((UINT32_C(1) << (DW_KIND_TREE_COMPLETE + 1)) - (UINT32_C(1) << DW_KIND_SEND), kinds);
     EACH((dw_session_free(s), DW_OK));
     return EXIT_SUCCESS;
 }

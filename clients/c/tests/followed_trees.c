@@ -18,7 +18,7 @@ static void expect_shown(dw_session *session, uint64_t ticket)
 /* A side of a node is taken on for the tree, by this ticket. */
 static void expect_taken_on(dw_session *session, uint64_t ticket, enum dw_side side, const char *path)
 {
-    dw_output told = expect_next(session, DW_KIND_TAKEN_ON);
+    dw_output told = expect_next(session, DW_KIND_MEMBER_ADDED);
     EXPECT(told.ticket == ticket);
     EXPECT_NUMBER(TREE, told.tree);
     EXPECT_NUMBER(side, told.side);
@@ -28,7 +28,7 @@ static void expect_taken_on(dw_session *session, uint64_t ticket, enum dw_side s
 
 static void expect_let_go(dw_session *session, uint64_t ticket)
 {
-    dw_output told = expect_next(session, DW_KIND_LET_GO);
+    dw_output told = expect_next(session, DW_KIND_MEMBER_REMOVED);
     EXPECT(told.ticket == ticket);
     EXPECT_NUMBER(TREE, told.tree);
     EXPECT_NUMBER(0, told.length);
@@ -36,7 +36,7 @@ static void expect_let_go(dw_session *session, uint64_t ticket)
 
 static void expect_whole(dw_session *session)
 {
-    EXPECT_NUMBER(TREE, expect_next(session, DW_KIND_WHOLE).ticket);
+    EXPECT_NUMBER(TREE, expect_next(session, DW_KIND_TREE_COMPLETE).ticket);
 }
 
 /* A step is due at once, in which the tree is tended. */
@@ -195,12 +195,12 @@ static void uproot(dw_session *session)
 static void follow_less(dw_session *session)
 {
     EXPECT_NUMBER(DW_OK, dw_session_follow_tree(session, 80, TREE + 1, "/t", 2, MOST - 1));
-    EXPECT_NUMBER(TREE + 1, expect_next(session, DW_KIND_TAKEN_ON).tree);
-    EXPECT_NUMBER(TREE + 1, expect_next(session, DW_KIND_TAKEN_ON).tree);
+    EXPECT_NUMBER(TREE + 1, expect_next(session, DW_KIND_MEMBER_ADDED).tree);
+    EXPECT_NUMBER(TREE + 1, expect_next(session, DW_KIND_MEMBER_ADDED).tree);
     expect_shown(session, TREE + 1);
     expect_shown(session, FIRST + 7);
     tend(session, 80);
-    dw_output told = expect_next(session, DW_KIND_BOUNDED);
+    dw_output told = expect_next(session, DW_KIND_TREE_BOUNDED);
     EXPECT_NUMBER(TREE + 1, told.ticket);
     EXPECT(told.is_bounded);
     expect_no_more(session);

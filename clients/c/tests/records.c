@@ -8,6 +8,8 @@
 #include <string.h>
 #include <unistd.h>
 
+#define NO_SUCH_MODE "the mode is no sum of DW_MODE_EPHEMERAL and DW_MODE_SEQUENTIAL, or the naming none of enum dw_naming"
+
 
 /* The most bytes of frames after their lengths, where options name none and as these tests raise them; and of an answer besides its data. */
 enum { LONGEST_REQUEST = 1048575, LONGEST_ANSWER = 4194304, RAISED = 5000000, OF_HEADER = 8, OF_ANSWER = 16 + 4 + 68 };
@@ -133,9 +135,9 @@ static void refuse_nodes(void)
         {DW_OPERATION_CREATE2, "/a//", DW_MODE_SEQUENTIAL, DW_NOT_PATH, "/a// is no path: an empty name"},
         {DW_OPERATION_CREATE2, "a/", DW_MODE_SEQUENTIAL, DW_NOT_PATH, "a/ is no path: no slash at its beginning"},
         {DW_OPERATION_CREATE2, "", DW_MODE_SEQUENTIAL, DW_NOT_PATH, "\"\" is no path: it is empty"},
-        {DW_OPERATION_CREATE2, "/a", 4, DW_NO_SUCH_MODE, "the mode is no sum of DW_MODE_EPHEMERAL and DW_MODE_SEQUENTIAL: /a"},
+        {DW_OPERATION_CREATE2, "/a", 4, DW_NO_SUCH_MODE, NO_SUCH_MODE ": /a"},
         {DW_OPERATION_CREATE_CONTAINER, "/c/", 0, DW_NOT_PATH, "/c/ is no path: an empty name"},
-        {DW_OPERATION_CREATE_TTL, "/t", DW_MODE_EPHEMERAL, DW_NO_SUCH_MODE, "the mode is no sum of DW_MODE_EPHEMERAL and DW_MODE_SEQUENTIAL: /t"},
+        {DW_OPERATION_CREATE_TTL, "/t", DW_MODE_EPHEMERAL, DW_NO_SUCH_MODE, NO_SUCH_MODE ": /t"},
     };
     open_below("");
     for (size_t i = 0; i < sizeof rows / sizeof rows[0]; i++) {

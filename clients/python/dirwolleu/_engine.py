@@ -27,18 +27,18 @@ from dirwolleu._process import this_process
 from dirwolleu._recording import Path, Recorder
 from dirwolleu._root import Root
 from dirwolleu._session import (
-    Bounded,
     CredentialAnswer,
     Dial,
-    LetGo,
     Limits,
+    MemberAdded,
+    MemberRemoved,
     Refused,
     Session,
     Shown,
     Sign,
-    TakenOn,
     TimedOut,
-    Whole,
+    TreeBounded,
+    TreeComplete,
     unbegun,
 )
 from dirwolleu.exceptions import ConnectionClosedError, ConnectionLoss, SessionExpiredError, ZookeeperError
@@ -234,9 +234,9 @@ Engine._takers = {
     TimedOut: Engine._time_out,
     Shown: Engine._show,
     Refused: Engine._refuse,
-    TakenOn: Engine._hear_of_tree,
-    LetGo: Engine._hear_of_tree,
-    Bounded: Engine._hear_of_tree,
-    Whole: Engine._hear_of_tree,
+    MemberAdded: Engine._hear_of_tree,
+    MemberRemoved: Engine._hear_of_tree,
+    TreeBounded: Engine._hear_of_tree,
+    TreeComplete: Engine._hear_of_tree,
     CredentialAnswer: Engine._hear_of_credential,
 }

@@ -49,11 +49,16 @@ TIMED_OUT = 8
 RENEWED = 9
 SHOWN = 10
 REFUSED = 11
-TAKEN_ON = 12
-LET_GO = 13
-BOUNDED = 14
-WHOLE = 15
+MEMBER_ADDED = 12
+MEMBER_REMOVED = 13
+TREE_BOUNDED = 14
+TREE_COMPLETE = 15
 CREDENTIAL = 16
+CONTENDER_WAITS = 17
+CONTENDER_HOLDS = 18
+CONTENDER_LOST = 19
+CONTENDER_PAUSES = 20
+CONTENDER_GIVEN_UP = 21
 
 IDLE = 0
 CONNECTING = 1
@@ -96,6 +101,7 @@ READ_CODE = 1
 READ_TOO_MANY_WATCHES = 2
 READ_TOO_LARGE = 3
 READ_CLOSED = 4
+NUMBERS_USED_UP = 5
 
 CONNECTION_LOSS = -4
 UNIMPLEMENTED = -6
@@ -125,6 +131,13 @@ MULTI_READ = 22
 GET_EPHEMERALS = 103
 GET_ALL_CHILDREN_NUMBER = 104
 WHO_AM_I = 107
+
+KAZOO = 0
+KAZOO_READER = 1
+CURATOR_LOCK = 2
+CURATOR_LATCH = 3
+CURATOR_WRITER = 4
+CURATOR_READER = 5
 
 GOOD = 1
 STALE = 2
@@ -245,6 +258,11 @@ _FUNCTIONS: dict[str, tuple[Any, tuple[Any, ...]]] = {
     "dw_session_unfollow": (c_int32, (_HANDLE, c_uint64, c_uint64)),
     "dw_session_follow_tree": (c_int32, (_HANDLE, c_uint64, c_uint64, c_void_p, c_size_t, c_size_t)),
     "dw_session_unfollow_tree": (c_int32, (_HANDLE, c_uint64, c_uint64)),
+    "dw_session_contend": (
+        c_int32,
+        (_HANDLE, c_uint64, c_uint64, c_void_p, c_size_t, c_uint32, c_void_p, c_size_t, c_void_p, c_size_t, c_bool, c_bool),
+    ),
+    "dw_session_give_up": (c_int32, (_HANDLE, c_uint64, c_uint64)),
     "dw_session_next": (c_int32, (_HANDLE, POINTER(_Output))),
     "dw_session_copy": (c_size_t, (_HANDLE, c_size_t, c_void_p, c_size_t)),
     "dw_session_name": (c_size_t, (_HANDLE, c_size_t, c_void_p, c_size_t)),
@@ -276,6 +294,8 @@ _FUNCTIONS: dict[str, tuple[Any, tuple[Any, ...]]] = {
         c_int32,
         (_HANDLE, c_void_p, c_size_t, c_void_p, c_size_t, c_void_p, c_size_t, POINTER(c_int64)),
     ),
+    "dw_session_held": (c_int32, (_HANDLE, c_uint64, POINTER(c_int64))),
+    "dw_session_place": (c_int32, (_HANDLE, c_uint64, c_void_p, c_size_t, POINTER(c_size_t))),
     "dw_session_forget": (c_int32, (_HANDLE,)),
 }
 

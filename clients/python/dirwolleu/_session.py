@@ -86,7 +86,7 @@ class Refused(NamedTuple):
     code: int
 
 
-class TakenOn(NamedTuple):
+class MemberAdded(NamedTuple):
     """A side of a node is followed for a tree, by a ticket: that of the tree, or one from 2^63 on."""
 
     tree: int
@@ -95,21 +95,21 @@ class TakenOn(NamedTuple):
     path: str
 
 
-class LetGo(NamedTuple):
+class MemberRemoved(NamedTuple):
     """What this ticket follows for a tree is followed no more: there is no such node, or the tree is followed no more."""
 
     tree: int
     ticket: int
 
 
-class Bounded(NamedTuple):
+class TreeBounded(NamedTuple):
     """Whether a tree has more nodes than its bound is another one than before. Where it has, no more of it is followed."""
 
     tree: int
     is_bounded: bool
 
 
-class Whole(NamedTuple):
+class TreeComplete(NamedTuple):
     """Nothing is lacking of a tree, and it may be another one than when that was told last: `subtree` judges whether it is of one moment."""
 
     tree: int
@@ -132,7 +132,7 @@ class Limits(NamedTuple):
     longest_request: int = LONGEST_REQUEST
 
 
-Action = Union[library.Output, Dial, Sign, TimedOut, Shown, Refused, TakenOn, LetGo, Bounded, Whole, CredentialAnswer]
+Action = Union[library.Output, Dial, Sign, TimedOut, Shown, Refused, MemberAdded, MemberRemoved, TreeBounded, TreeComplete, CredentialAnswer]
 
 
 @functools.cache
@@ -378,14 +378,14 @@ class Session(LookUps):
             return Shown(ticket)
         if kind == library.REFUSED:
             return Refused(ticket, known("refusal", detail, _REFUSALS), code)
-        if kind == library.TAKEN_ON:
-            return TakenOn(place, ticket, known("side", result, _SIDES), self._root.read(told))
-        if kind == library.LET_GO:
-            return LetGo(place, ticket)
-        if kind == library.BOUNDED:
-            return Bounded(ticket, was_sent)
-        if kind == library.WHOLE:
-            return Whole(ticket)
+        if kind == library.MEMBER_ADDED:
+            return MemberAdded(place, ticket, known("side", result, _SIDES), self._root.read(told))
+        if kind == library.MEMBER_REMOVED:
+            return MemberRemoved(place, ticket)
+        if kind == library.TREE_BOUNDED:
+            return TreeBounded(ticket, was_sent)
+        if kind == library.TREE_COMPLETE:
+            return TreeComplete(ticket)
         if kind == library.CREDENTIAL:
             return CredentialAnswer(place, code)
         return _SIGNS[known("output", kind, _SIGNS)]

@@ -13,7 +13,7 @@ from dirwolleu._clock import moment
 from dirwolleu._handle import Lacking, SubtreeNode
 from dirwolleu._library import NotWhole, TooManyNodes
 from dirwolleu._retry import is_passing
-from dirwolleu._session import Bounded, LetGo, TakenOn, Whole
+from dirwolleu._session import MemberAdded, MemberRemoved, TreeBounded, TreeComplete
 from dirwolleu.exceptions import ConnectionClosedError, NoNodeError, ZookeeperError
 from dirwolleu.tree import TreeNode, TreeSnapshot
 from dirwolleu.types import Kept
@@ -23,7 +23,7 @@ logger = logging.getLogger("dirwolleu.tree")
 SHARE = 10
 """A look at a whole tree takes at most this part of the time: after one that took long, the next one waits."""
 
-TreeNews = Union[TakenOn, LetGo, Bounded, Whole]
+TreeNews = Union[MemberAdded, MemberRemoved, TreeBounded, TreeComplete]
 
 _ALL = 0
 """The ticket by which is noted what keeps all of a tree from being shown. Nothing is followed by it."""
@@ -74,12 +74,12 @@ class TreeView:
 
     def hear(self, news: TreeNews) -> None:
         """The session tells news of the tree."""
-        if isinstance(news, TakenOn):
+        if isinstance(news, MemberAdded):
             self._paths[news.ticket] = news.path
-        elif isinstance(news, LetGo):
+        elif isinstance(news, MemberRemoved):
             self._paths.pop(news.ticket, None)
             self._note(news.ticket, None)
-        elif isinstance(news, Bounded):
+        elif isinstance(news, TreeBounded):
             self._note(_ALL, self._too_many() if news.is_bounded else None)
         else:
             self._must_look = True

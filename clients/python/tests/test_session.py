@@ -18,16 +18,16 @@ from dirwolleu._root import Root
 from dirwolleu._session import (
     NO_LIMIT,
     Action,
-    Bounded,
     Dial,
-    LetGo,
+    MemberAdded,
+    MemberRemoved,
     Refused,
     Session,
     Shown,
     Sign,
-    TakenOn,
     TimedOut,
-    Whole,
+    TreeBounded,
+    TreeComplete,
 )
 
 EXPIRED = frame(struct.pack(">iiq", 0, 0, 0) + buffer(bytes(16)) + b"\0")
@@ -171,19 +171,19 @@ class SessionTest(unittest.TestCase):
 
     def test_a_tree_is_followed_as_its_names_come(self) -> None:
         session = self.connected(Root("/app"))
-        tree = [TakenOn(5, 5, library.DATA_SIDE, "/a"), TakenOn(5, FIRST, library.CHILDREN_SIDE, "/a")]
+        tree = [MemberAdded(5, 5, library.DATA_SIDE, "/a"), MemberAdded(5, FIRST, library.CHILDREN_SIDE, "/a")]
         reads: list[Action] = [read(1, "/app/a", True), asked(2, 12, "/app/a", b"\1")]
         self.assertEqual(session.follow_tree(200, 5, "/a", 2), [*tree, *reads])
         self.assertEqual(session.received(300, reply(1, 9, 0, buffer(b"one") + STAT_BYTES)), [Shown(5)])
         reads = [read(3, "/app/a/b", True), asked(4, 12, "/app/a/b", b"\1")]
-        below = [TakenOn(5, FIRST + 1, library.DATA_SIDE, "/a/b"), TakenOn(5, FIRST + 2, library.CHILDREN_SIDE, "/a/b")]
+        below = [MemberAdded(5, FIRST + 1, library.DATA_SIDE, "/a/b"), MemberAdded(5, FIRST + 2, library.CHILDREN_SIDE, "/a/b")]
         self.assertEqual(session.received(400, reply(2, 9, 0, names("b"))), [Shown(FIRST)])
         self.assertEqual(session.deadline(), 400)
         self.assertEqual(session.moment(400), [*below, *reads])
         self.assertEqual(session.received(500, reply(3, 9, 0, buffer(b"two") + STAT_BYTES)), [Shown(FIRST + 1)])
         self.assertEqual(session.received(600, reply(4, 9, 0, names())), [Shown(FIRST + 2)])
-        self.assertEqual(session.moment(600), [Whole(5)])
-        gone = [LetGo(5, ticket) for ticket in (5, FIRST, FIRST + 1, FIRST + 2)]
+        self.assertEqual(session.moment(600), [TreeComplete(5)])
+        gone = [MemberRemoved(5, ticket) for ticket in (5, FIRST, FIRST + 1, FIRST + 2)]
         self.assertEqual(session.unfollow_tree(700, 5), gone)
         with self.assertRaises(ValueError):
             session.follow_tree(800, 6, "a", 2)
@@ -193,7 +193,7 @@ class SessionTest(unittest.TestCase):
         session.follow_tree(200, 5, "/a", 1)
         session.received(300, reply(1, 9, 0, buffer(b"one") + STAT_BYTES))
         self.assertEqual(session.received(400, reply(2, 9, 0, names("b"))), [Shown(FIRST)])
-        self.assertEqual(session.moment(400), [Bounded(5, True)])
+        self.assertEqual(session.moment(400), [TreeBounded(5, True)])
 
     def test_a_connection_is_given_up(self) -> None:
         session = self.connected()

@@ -18,7 +18,7 @@ from dirwolleu import _requests as requests
 from dirwolleu import _tree_view as tree_view
 from dirwolleu._engine import Engine
 from dirwolleu._library import READ_TOO_MANY_WATCHES, Halted, NoMemory, NotWhole, TooManyNodes
-from dirwolleu._session import Action, Refused, Session, TakenOn
+from dirwolleu._session import Action, MemberAdded, Refused, Session
 from dirwolleu._tree_view import SHARE, TreeView
 
 CHANGED, CHILD = 3, 4
@@ -166,7 +166,7 @@ class GrowingTest(unittest.TestCase):
 
         def refused(session: Session, now: int) -> list[Action]:
             actions = moment(session, now)
-            tickets = [action.ticket for action in actions if isinstance(action, TakenOn)]
+            tickets = [action.ticket for action in actions if isinstance(action, MemberAdded)]
             return [*actions, *(Refused(ticket, READ_TOO_MANY_WATCHES, 0) for ticket in tickets[:1])]
 
         with mock.patch.object(Session, "moment", autospec=True, side_effect=refused):

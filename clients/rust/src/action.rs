@@ -144,7 +144,7 @@ pub enum Action<'a> {
         reason: Refusal,
     },
     /// A side of a node is followed for a tree.
-    TakenOn {
+    MemberAdded {
         /// The number that the tree was given.
         tree: u64,
         /// The number of what is followed: that of the tree, or one from 2^63 on.
@@ -155,14 +155,14 @@ pub enum Action<'a> {
         path: Text<'a>,
     },
     /// What was followed for a tree is followed no more: there is no such node, or the tree is followed no more.
-    LetGo {
+    MemberRemoved {
         /// The number that the tree was given.
         tree: u64,
         /// The number of what was followed.
         ticket: u64,
     },
     /// Whether a tree has more nodes than its bound is another one than before.
-    Bounded {
+    TreeBounded {
         /// The number that the tree was given.
         tree: u64,
         /// Whether it has: then no more of it is followed.
@@ -170,7 +170,7 @@ pub enum Action<'a> {
     },
     /// Nothing is lacking of a tree, and it may be another one than when that was told last: look it up by [`subtree`](Machine::subtree),
     /// which judges whether it is of one moment.
-    Whole {
+    TreeComplete {
         /// The number that the tree was given.
         tree: u64,
     },
@@ -276,21 +276,21 @@ impl<'a> Action<'a> {
     fn of_tree(flat: &ffi::Output, bytes: Bytes<'a>) -> Result<Action<'a>, UnknownNumber> {
         let ticket = flat.ticket;
         Ok(match flat.kind {
-            kind::TAKEN_ON => Action::TakenOn {
+            kind::MEMBER_ADDED => Action::MemberAdded {
                 tree: flat.names as u64,
                 ticket,
                 side: Side::try_from(flat.result)?,
                 path: Text::of(bytes),
             },
-            kind::LET_GO => Action::LetGo {
+            kind::MEMBER_REMOVED => Action::MemberRemoved {
                 tree: flat.names as u64,
                 ticket,
             },
-            kind::BOUNDED => Action::Bounded {
+            kind::TREE_BOUNDED => Action::TreeBounded {
                 tree: ticket,
                 is_bounded: flat.is_null,
             },
-            kind::WHOLE => Action::Whole { tree: ticket },
+            kind::TREE_COMPLETE => Action::TreeComplete { tree: ticket },
             other => return Err(UnknownNumber::of("output", other)),
         })
     }
@@ -352,10 +352,10 @@ mod tests {
             ..flat(kind)
         };
         let told = [
-            r#"TakenOn { tree: 7, ticket: 9, side: Children, path: "" }"#,
-            "LetGo { tree: 7, ticket: 9 }",
-            "Bounded { tree: 9, is_bounded: true }",
-            "Whole { tree: 9 }",
+            r#"MemberAdded { tree: 7, ticket: 9, side: Children, path: "" }"#,
+            "MemberRemoved { tree: 7, ticket: 9 }",
+            "TreeBounded { tree: 9, is_bounded: true }",
+            "TreeComplete { tree: 9 }",
         ];
         assert_eq!(printed([12, 13, 14, 15].map(of_tree)), told);
     }

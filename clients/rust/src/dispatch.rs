@@ -139,19 +139,19 @@ impl Dispatcher {
             Action::Refused { ticket, reason } => {
                 self.update_subject(ticket, SubjectUpdate::Refused(reason));
             }
-            Action::TakenOn {
+            Action::MemberAdded {
                 tree, ticket, path, ..
             } => {
                 let path = self.chroot.inner(String::from(path));
                 self.update_tree(tree, TreeUpdate::MemberAdded { ticket, path });
             }
-            Action::LetGo { tree, ticket } => {
+            Action::MemberRemoved { tree, ticket } => {
                 self.update_tree(tree, TreeUpdate::MemberRemoved { ticket });
             }
-            Action::Bounded { tree, is_bounded } => {
+            Action::TreeBounded { tree, is_bounded } => {
                 self.update_tree(tree, TreeUpdate::BoundReached { is_bounded });
             }
-            Action::Whole { tree } => self.update_tree(tree, TreeUpdate::Complete),
+            Action::TreeComplete { tree } => self.update_tree(tree, TreeUpdate::Complete),
             Action::Credential { place, code } => self.update.credentials.push((place, code)),
         }
     }

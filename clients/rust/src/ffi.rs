@@ -92,6 +92,8 @@ extern "C" {
     fn dw_session_unfollow(handle: *mut Raw, now_ms: u64, ticket: u64) -> i32;
     fn dw_session_follow_tree(handle: *mut Raw, now_ms: u64, ticket: u64, path: *const u8, path_length: usize, most: usize) -> i32;
     fn dw_session_unfollow_tree(handle: *mut Raw, now_ms: u64, ticket: u64) -> i32;
+    fn dw_session_contend(handle: *mut Raw, now_ms: u64, ticket: u64, directory: *const u8, directory_length: usize, naming: u32, guid: *const u8, guid_length: usize, bytes: *const u8, length: usize, is_null: bool, may_be_there: bool) -> i32;
+    fn dw_session_give_up(handle: *mut Raw, now_ms: u64, ticket: u64) -> i32;
     fn dw_session_next(handle: *mut Raw, out: *mut Output) -> i32;
     fn dw_session_copy(handle: *mut Raw, from: usize, out: *mut u8, room: usize) -> usize;
     fn dw_session_name(handle: *mut Raw, index: usize, out: *mut u8, room: usize) -> usize;
@@ -114,6 +116,8 @@ extern "C" {
     fn dw_session_snapshot(handle: *mut Raw, nodes: *const u8, nodes_length: usize, parents: *const u8, parents_length: usize, out: *mut u8, room: usize, count: *mut usize) -> i32;
     fn dw_session_standing(handle: *mut Raw, directory: *const u8, directory_length: usize, name: *const u8, name_length: usize, names: *const u8, names_length: usize, listed: i64, markers: *const u8, markers_length: usize, token: *mut i64, out: *mut u8, room: usize, count: *mut usize) -> i32;
     fn dw_session_holder(handle: *mut Raw, directory: *const u8, directory_length: usize, prefix: *const u8, prefix_length: usize, path: *const u8, path_length: usize, token: *mut i64) -> i32;
+    fn dw_session_held(handle: *mut Raw, ticket: u64, token: *mut i64) -> i32;
+    fn dw_session_place(handle: *mut Raw, ticket: u64, out: *mut u8, room: usize, count: *mut usize) -> i32;
     fn dw_session_forget(handle: *mut Raw) -> i32;
 }
 // end of what is made

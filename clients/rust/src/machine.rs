@@ -293,7 +293,7 @@ impl Machine {
 
     /// Follows all nodes at and below a path, of which no more are taken on where there are more than `most`. The data of its root have the
     /// ticket, and all else has tickets from 2^63 on, which are used for nothing else. What becomes of it is told by
-    /// [`Action::TakenOn`](crate::Action::TakenOn) and those after it. Where there is no root, that is [shown](crate::Action::Shown), and
+    /// [`Action::MemberAdded`](crate::Action::MemberAdded) and those after it. Where there is no root, that is [shown](crate::Action::Shown), and
     /// its making is waited for.
     ///
     /// # Errors

@@ -38,11 +38,16 @@ pub(crate) mod kind {
     pub(crate) const RENEWED: i32 = 9;
     pub(crate) const SHOWN: i32 = 10;
     pub(crate) const REFUSED: i32 = 11;
-    pub(crate) const TAKEN_ON: i32 = 12;
-    pub(crate) const LET_GO: i32 = 13;
-    pub(crate) const BOUNDED: i32 = 14;
-    pub(crate) const WHOLE: i32 = 15;
+    pub(crate) const MEMBER_ADDED: i32 = 12;
+    pub(crate) const MEMBER_REMOVED: i32 = 13;
+    pub(crate) const TREE_BOUNDED: i32 = 14;
+    pub(crate) const TREE_COMPLETE: i32 = 15;
     pub(crate) const CREDENTIAL: i32 = 16;
+    pub(crate) const CONTENDER_WAITS: i32 = 17;
+    pub(crate) const CONTENDER_HOLDS: i32 = 18;
+    pub(crate) const CONTENDER_LOST: i32 = 19;
+    pub(crate) const CONTENDER_PAUSES: i32 = 20;
+    pub(crate) const CONTENDER_GIVEN_UP: i32 = 21;
 }
 
 pub(crate) mod brought {
@@ -72,6 +77,7 @@ pub(crate) mod refusal {
     pub(crate) const READ_TOO_MANY_WATCHES: i32 = 2;
     pub(crate) const READ_TOO_LARGE: i32 = 3;
     pub(crate) const READ_CLOSED: i32 = 4;
+    pub(crate) const NUMBERS_USED_UP: i32 = 5;
 }
 
 pub(crate) mod mode {
@@ -92,6 +98,15 @@ pub(crate) mod operation {
     pub(crate) const GET_EPHEMERALS: i32 = 103;
     pub(crate) const GET_ALL_CHILDREN_NUMBER: i32 = 104;
     pub(crate) const WHO_AM_I: i32 = 107;
+}
+
+pub(crate) mod naming {
+    pub(crate) const KAZOO: i32 = 0;
+    pub(crate) const KAZOO_READER: i32 = 1;
+    pub(crate) const CURATOR_LOCK: i32 = 2;
+    pub(crate) const CURATOR_LATCH: i32 = 3;
+    pub(crate) const CURATOR_WRITER: i32 = 4;
+    pub(crate) const CURATOR_READER: i32 = 5;
 }
 
 pub(crate) mod kept {
@@ -338,7 +353,7 @@ pub(crate) mod words {
             -4 => "the path is no UTF-8",
             -5 => "the text is no path",
             -6 => "the timeout is not 1 to 2147483647 milliseconds",
-            -7 => "the mode is no sum of DW_MODE_EPHEMERAL and DW_MODE_SEQUENTIAL",
+            -7 => "the mode is no sum of DW_MODE_EPHEMERAL and DW_MODE_SEQUENTIAL, or the naming none of enum dw_naming",
             -8 => "the bytes are no saved session",
             -9 => "some of what is asked for is not kept, or not good",
             -10 => "the subtree has more nodes than were asked for",

@@ -33,9 +33,9 @@ fn said(mut actions: Actions<'_>) -> Vec<String> {
             Action::Renewed => String::from("renewed"),
             Action::Shown { ticket } => format!("{ticket}: shown"),
             Action::Refused { ticket, reason } => format!("{ticket}: refused, {reason:?}"),
-            Action::TakenOn { ticket, path, .. } => format!("{ticket}: {path} is taken on"),
-            Action::LetGo { ticket, .. } => format!("{ticket}: let go"),
-            Action::Whole { tree } => format!("{tree}: whole"),
+            Action::MemberAdded { ticket, path, .. } => format!("{ticket}: {path} is taken on"),
+            Action::MemberRemoved { ticket, .. } => format!("{ticket}: let go"),
+            Action::TreeComplete { tree } => format!("{tree}: whole"),
             other => format!("{other:?}"),
         });
     }
@@ -165,7 +165,7 @@ fn a_tree_of_more_nodes_than_its_bound_is_told() {
     let _ = machine.bytes(START, &data(1, 5, "one")).unwrap();
     let _ = machine.bytes(START, &names(2, 5, &["b"])).unwrap();
     let mut actions = machine.tick(START).unwrap();
-    let Ok(Some(Action::Bounded { tree, is_bounded })) = actions.next() else {
+    let Ok(Some(Action::TreeBounded { tree, is_bounded })) = actions.next() else {
         panic!("the bound is not told");
     };
     assert_eq!((tree, is_bounded), (7, true));

@@ -38,7 +38,7 @@ fn is_absent(client: &Client, node: &Path) -> bool {
 fn is_of_tree(action: &Action) -> bool {
     matches!(
         action,
-        Action::Tree(TreeNews::Whole { .. } | TreeNews::Bounded { .. })
+        Action::Tree(TreeNews::Complete { .. } | TreeNews::Bounded { .. })
             | Action::Shown { ticket: TICKET }
     )
 }

@@ -5,7 +5,7 @@ use Rattle.std.proofs.Common.{Some, None, map, refl, sym, ap, subst, ◌∙◌, 
 use native.Mathlib.Omega.{arith}
 use Rattle.std.proofs.lemmas.List.{append-nil, map-append, reverse-append}
 use Rattle.std.proofs.lemmas.List.Elements.{filter-append}
-use Rattle.std.specs.Prelude.{◌==◌, Result, Ok, Err, fold, reverse, slice_index_or, unsigned_abs}
+use Rattle.std.specs.Prelude.{◌==◌, ◌||◌, ◌⊎◌, ◌<◌, Result, Ok, Err, fold, reverse, slice_index_or, unsigned_abs}
 use Rattle.std.specs.List.{flat_map, list_any, AllByRecursion, FoldsTo}
 use Rattle.std.specs.declared.alloc.Global.{Global}
 use Rattle.zk_frames.specs.declared.limits.FrameLimits.{FrameLimits}
@@ -48,8 +48,9 @@ use Rattle.zk_agent.specs.Telling.{action_view, news_told, told_by}
 use Rattle.ffi_device.specs.Refused.{RefusesTimeout}
 use Rattle.ffi_device.specs.Sessions.{put_start}
 use Rattle.ffi_device.specs.declared.flat.Flat.{Flat}
-use Rattle.ffi_device.specs.Chains.{Part, TookAll}
-use Rattle.ffi_device.specs.Happenings.{Happening, happening}
+use Rattle.ffi_device.specs.Chains.{first_own, Part, TookAll}
+use Rattle.ffi_device.specs.Happenings.{Happening, given_of, happening, is_contend}
+use Rattle.ffi_device.specs.Happenings as whats
 use Rattle.ffi_device.specs.Taking.{AgentTook}
 use Rattle.ffi_device.specs.Steps.{BeginsWith, Stepped, Stopped, within}
 use Rattle.ffi_device.specs.declared.device.Device.{Device}
@@ -57,9 +58,9 @@ use Rattle.ffi_c.specs.Held.{ForgetsStale, Holds, Makes, Tells, TellsAll}
 use Rattle.ffi_c.specs.Lives.{Use, Opens, Resumes, Steps, Reads, ReadsAll, Forgets, Looks, Frees, Does as Uses_so}
 use Rattle.ffi_c.specs.Lives.{Used, held_after, IsLife, RefusesHappening}
 use Rattle.ffi_c.specs.Pasts.{IsRead, AreHeard, AreLeft, Chapter, with_turns, Moves, Takes, TakesAll, Advances, Breaks}
-use Rattle.ffi_c.specs.Pasts.{CameBy, Came, reported, reported_by, told_reports, asked_by, settled_by, how_many_asked}
-use Rattle.ffi_c.specs.Pasts.{how_many_settled, CoherentForLife}
-use Rattle.ffi_c.proofs.Chains.{calls_told, inputs_own, reported_but}
+use Rattle.ffi_c.specs.Pasts.{CameBy, Came, reported, reported_by, told_reports, asked_by, contended_by, settled_by, how_many_asked}
+use Rattle.ffi_c.specs.Pasts.{has_contended, how_many_settled, CoherentForLife}
+use Rattle.ffi_c.proofs.Chains.{calls_told, inputs_own, reported_but, IsPrograms}
 use Rattle.ffi_c.proofs.Lives.{empty_holds_none, fresh, in_held}
 
 -- ---- lists
@@ -454,31 +455,35 @@ broken_off before after broke chapter stands =
 
 -- ---- one use after the others
 
--- What is so of a session in a handle: the chapter that it has come to, and, while memory has not run out within a step, the reports and
--- the calls.
-record Past (Earlier : Chapter → Type 0) (reports : List Output) (settled asked : ℕ → ℕ) (session : Device) : Type 0 where
+-- What is so of a session in a handle: the chapter that it has come to, and, while memory has not run out within a step, the reports,
+-- whether somebody has contended, and the calls.
+record Past (Earlier : Chapter → Type 0) (reports : List Output) (settled asked : ℕ → ℕ) (contended : Bool) (session : Device)
+    : Type 0 where
   chapter : Chapter
   came : Earlier chapter
   stands : Stands chapter.start chapter.items (view_of session.agent.asker.follower.client)
   told : session.is_over ≡ false → reports ≡ reports_in (outputs_of chapter.items)
-  calls : session.is_over ≡ false → (ticket : ℕ)
+  contends : session.is_over ≡ false → session.is_contending ≡ contended
+  calls : session.is_over ≡ false → (ticket : ℕ) → (ticket < first_own) ⊎ (contended ≡ false)
       → how_many ticket session.agent.asker.line.entries.items + settled ticket ≡ asked ticket
 
-abbrev PastIn : (Earlier : Chapter → Type 0) → List Output → (settled asked : ℕ → ℕ) → Option Device → Type 0
-PastIn Earlier reports settled asked held = (session : Device) → held ≡ Some session → Past Earlier reports settled asked session
+abbrev PastIn : (Earlier : Chapter → Type 0) → List Output → (settled asked : ℕ → ℕ) → Bool → Option Device → Type 0
+PastIn Earlier reports settled asked contended held =
+    (session : Device) → held ≡ Some session → Past Earlier reports settled asked contended session
 
 begun : (start : Start) (session : Device) (Earlier : Chapter → Type 0) → Earlier (record { start = start; items = [] })
-    → BeginsWith (view_at start []) session → Past Earlier [] (λ ticket. 0) (λ ticket. 0) session
+    → BeginsWith (view_at start []) session → Past Earlier [] (λ ticket. 0) (λ ticket. 0) false session
 begun start session Earlier earlier begins = record {
   chapter = record { start = start; items = [] };
   came = earlier;
   stands = subst (Stands start []) (sym begins.client) (fresh start);
   told = λ on. refl;
-  calls = λ on ticket. ap (λ entries. how_many ticket entries + 0) begins.calls;
+  contends = λ on. begins.no_contender;
+  calls = λ on ticket ours. ap (λ entries. how_many ticket entries + 0) begins.calls;
 }
 
 made : (Refuses : ℤ → Type 0) (start : Start) (Earlier : Chapter → Type 0) → Earlier (record { start = start; items = [] }) → (code : ℤ)
-    (after : Option Device) → Makes Refuses start code after → PastIn Earlier [] (λ ticket. 0) (λ ticket. 0) after
+    (after : Option Device) → Makes Refuses start code after → PastIn Earlier [] (λ ticket. 0) (λ ticket. 0) false after
 made Refuses start Earlier earlier (pos zero) after makes session is =
     begun start session Earlier earlier (in_held (BeginsWith (view_at start [])) session after makes is)
 made Refuses start Earlier earlier (pos (suc n)) after makes session is = empty_holds_none session after makes.1 is
@@ -486,7 +491,7 @@ made Refuses start Earlier earlier (negsuc n) after makes session is = empty_hol
 
 resumed : (limits : FrameLimits) (timeout : ℤ) (saved : List ℕ) (code : ℤ) (before after : Option Device) (Earlier : Chapter → Type 0)
     (read : Result PutAway SavedFault) → bytes_read saved ≡ read → Uses_so before (Resumes limits timeout saved code) after
-    → PastIn (CameBy (Resumes limits timeout saved code) before after Earlier) [] (λ ticket. 0) (λ ticket. 0) after
+    → PastIn (CameBy (Resumes limits timeout saved code) before after Earlier) [] (λ ticket. 0) (λ ticket. 0) false after
 resumed limits timeout saved code before after Earlier (Ok put) reads does session is =
     made (RefusesTimeout timeout) (within limits (put_start timeout put)) (CameBy (Resumes limits timeout saved code) before after Earlier)
     (put, reads, refl) code
@@ -513,21 +518,46 @@ asked_so ticket moment (happens.Unfollow its) n = omega arith
 asked_so ticket moment (happens.FollowTree its root most) n = omega arith
 asked_so ticket moment (happens.UnfollowTree its) n = omega arith
 
+-- of a contender the agent is asked nothing
+asked_as : (ticket moment n : ℕ) (what : Happening)
+    → asked_by ticket (Steps moment (given_of what) (pos zero)) n ≡ asked_by ticket (Steps moment what (pos zero)) n
+asked_as ticket moment n whats.Opened = refl
+asked_as ticket moment n whats.Failed = refl
+asked_as ticket moment n whats.Cut = refl
+asked_as ticket moment n whats.Moment = refl
+asked_as ticket moment n (whats.Bytes bytes) = refl
+asked_as ticket moment n (whats.Addressed kept added is_listed) = refl
+asked_as ticket moment n (whats.Calls its asked until) = refl
+asked_as ticket moment n (whats.Introduces frame) = refl
+asked_as ticket moment n (whats.Follows its side path) = refl
+asked_as ticket moment n (whats.Unfollows its) = refl
+asked_as ticket moment n (whats.FollowsTree its root most) = refl
+asked_as ticket moment n (whats.UnfollowsTree its) = refl
+asked_as ticket moment n (whats.Contends its directory naming guid bytes may_be_there) = refl
+asked_as ticket moment n (whats.GivesUp its) = refl
+
+-- where nobody has contended, nobody had before
+earlier_too : {X : Type 0} (contends before : Bool) → X ⊎ ((contends || before) ≡ false) → X ⊎ (before ≡ false)
+earlier_too contends before (inl below) = inl below
+earlier_too true before (inr none) = absurd (let e : true ≡ false = none in cc)
+earlier_too false before (inr none) = inr none
+
 balances : (there told before asked settled all : ℕ) → there + told ≡ before + asked → before + settled ≡ all
     → there + (told + settled) ≡ asked + all
 balances there told before asked settled all first second = omega (arith, first, second)
 
-module _ (Earlier : Chapter → Type 0) (reports : List Output) (settled asked : ℕ → ℕ) where
+module _ (Earlier : Chapter → Type 0) (reports : List Output) (settled asked : ℕ → ℕ) (contended : Bool) where
   abbrev Was : Device → Type 0
-  Was session = Past Earlier reports settled asked session
+  Was session = Past Earlier reports settled asked contended session
 
   abbrev WasIn : Option Device → Type 0
-  WasIn held = PastIn Earlier reports settled asked held
+  WasIn held = PastIn Earlier reports settled asked contended held
 
   -- what is so once this was used
   abbrev IsOne : Use → (before after : Option Device) → Device → Type 0
   IsOne used before after session = Past (CameBy used before after Earlier) (reported_by used after reports)
-      (λ ticket. settled_by ticket used after (settled ticket)) (λ ticket. asked_by ticket used (asked ticket)) session
+      (λ ticket. settled_by ticket used after (settled ticket)) (λ ticket. asked_by ticket used (asked ticket))
+      (contended_by used contended) session
 
   abbrev IsThen : Use → (before after : Option Device) → Type 0
   IsThen used before after = (session : Device) → after ≡ Some session → IsOne used before after session
@@ -539,6 +569,8 @@ module _ (Earlier : Chapter → Type 0) (reports : List Output) (settled asked :
       let parts : List Part = record { given = does.given; said = took.said } ∷ took.own in
       let led = all_go moment parts old.agent now.agent took.took reports was.chapter
       (record { stands = was.stands; asks = refl; told = was.told took.went_on }) in
+      let contends : now.is_contending ≡ (is_contend what || contended)
+      = does.contends ∙ ap (λ b. is_contend what || b) (was.contends took.went_on) in
       record {
         chapter = led.0;
         came = (
@@ -555,17 +587,24 @@ module _ (Earlier : Chapter → Type 0) (reports : List Output) (settled asked :
               own = map (λ part. part.given) took.own;
               takes = led.1;
               are_own = inputs_own took.own took.are_own;
-              alone = ap (map (λ (part : Part). part.given)) took.alone.0;
+              alone = λ none. ap (map (λ (part : Part). part.given)) (took.alone none).0;
             },
           ),
         );
         stands = led.2;
         told = λ on. reported_but (flat_map (λ part. part.said) parts) now.said.items took.told reports ∙ led.3;
-        calls = λ on ticket. balances (how_many ticket now.agent.asker.line.entries.items) _ _ _ _ _
-            (calls_told moment ticket does.given old now took (inr took.alone)) (was.calls took.went_on ticket)
+        contends = λ on. contends;
+        calls = λ on ticket ours. balances (how_many ticket now.agent.asker.line.entries.items) _ _ _ _ _
+            (calls_told moment ticket does.given old now took (programs ticket contends ours))
+            (was.calls took.went_on ticket (earlier_too (is_contend what) contended ours))
             ∙ sym (asked_so ticket moment does.given (asked ticket))
-            ∙ ap (λ w. asked_by ticket (Steps moment w (pos zero)) (asked ticket)) does.is;
+            ∙ ap (λ w. asked_by ticket (Steps moment w (pos zero)) (asked ticket)) does.is ∙ asked_as ticket moment (asked ticket) what;
       }
+    where
+      programs : (ticket : ℕ) → now.is_contending ≡ (is_contend what || contended)
+          → (ticket < first_own) ⊎ ((is_contend what || contended) ≡ false) → IsPrograms ticket does.took
+      programs ticket contends (inl below) = inl below
+      programs ticket contends (inr none) = inr (does.took.alone (contends ∙ none))
 
   halted : (moment : ℕ) (what : Happening) (old now : Device) → Was old → Stopped old now
       → IsOne (Steps moment what (negsuc zero)) (Some old) (Some now) now
@@ -576,7 +615,8 @@ module _ (Earlier : Chapter → Type 0) (reports : List Output) (settled asked :
         came = (old, now, refl, refl, (was.chapter, was.came, off.1));
         stands = off.2;
         told = λ on. absurd (let e : true ≡ false = sym does.over ∙ on in cc);
-        calls = λ on ticket. absurd (let e : true ≡ false = sym does.over ∙ on in cc);
+        contends = λ on. absurd (let e : true ≡ false = sym does.over ∙ on in cc);
+        calls = λ on ticket ours. absurd (let e : true ≡ false = sym does.over ∙ on in cc);
       }
 
   done : (moment : ℕ) (what : Happening) (old : Device) (after : Option Device) → Was old
@@ -607,14 +647,17 @@ module _ (Earlier : Chapter → Type 0) (reports : List Output) (settled asked :
       refused (RefusesHappening what (negsuc (suc n))) old after (past old refl) does
 
   -- nothing else became of a session than what was read of it
-  kept : (old session : Device) → session.agent ≡ old.agent → session.is_over ≡ old.is_over → Was old → Was session
-  kept old session same over was = record {
+  kept : (old session : Device) → session.agent ≡ old.agent → session.is_over ≡ old.is_over
+      → session.is_contending ≡ old.is_contending → Was old → Was session
+  kept old session same over contends was = record {
     chapter = was.chapter;
     came = was.came;
     stands = subst (λ (a : Agent _). Stands was.chapter.start was.chapter.items (view_of a.asker.follower.client)) (sym same) was.stands;
     told = λ on. was.told (sym over ∙ on);
-    calls = λ on. subst (λ (a : Agent _). (ticket : ℕ) → how_many ticket a.asker.line.entries.items + settled ticket ≡ asked ticket)
-        (sym same) (was.calls (sym over ∙ on));
+    contends = λ on. contends ∙ was.contends (sym over ∙ on);
+    calls = λ on ticket ours. subst
+        (λ (a : Agent _). how_many ticket a.asker.line.entries.items + settled ticket ≡ asked ticket)
+        (sym same) (was.calls (sym over ∙ on) ticket ours);
   }
 
   reads : (room told : Flat) (code : ℤ) (before after : Option Device)
@@ -622,14 +665,14 @@ module _ (Earlier : Chapter → Type 0) (reports : List Output) (settled asked :
   reads room told code None after past does session is = empty_holds_none session after does.empty is
   reads room told code (Some old) after past does session is =
       let tells = in_held (λ s. Tells old room code told s) session after does is in
-      kept old session tells.agent tells.over (past old refl)
+      kept old session tells.agent tells.over tells.contends (past old refl)
 
   reads_all : (room written : List ℕ) (count : ℕ) (code : ℤ) (before after : Option Device)
       → WasIn before → Uses_so before (ReadsAll room written count code) after → WasIn after
   reads_all room written count code None after past does session is = empty_holds_none session after does.empty is
   reads_all room written count (pos zero) (Some old) after past does session is =
       let tells = in_held (TellsAll old room written count (pos zero)) session after does is in
-      kept old session tells.agent tells.over (past old refl)
+      kept old session tells.agent tells.over tells.contends (past old refl)
   reads_all room written count (pos (suc n)) (Some old) after past does session is =
       past session (ap Some (sym (in_held (TellsAll old room written count (pos (suc n))) session after does is).3))
   reads_all room written count (negsuc n) (Some old) after past does session is =
@@ -648,8 +691,9 @@ module _ (Earlier : Chapter → Type 0) (reports : List Output) (settled asked :
         stands = subst (Stands was.chapter.start items) (sym gone.view)
             (forget_stands was.chapter.start was.chapter.items (view_of old.agent.asker.follower.client) was.stands);
         told = λ on. was.told (sym gone.over ∙ on);
-        calls = λ on ticket. ap (λ (line : Line _). how_many ticket line.entries.items + settled ticket) gone.calls
-            ∙ was.calls (sym gone.over ∙ on) ticket;
+        contends = λ on. gone.contends ∙ was.contends (sym gone.over ∙ on);
+        calls = λ on ticket ours. ap (λ (line : Line _). how_many ticket line.entries.items + settled ticket) gone.calls
+            ∙ was.calls (sym gone.over ∙ on) ticket ours;
       }
 
   one : (used : Use) (before after : Option Device) → WasIn before → Uses_so before used after → IsThen used before after
@@ -670,11 +714,11 @@ module _ (Earlier : Chapter → Type 0) (reports : List Output) (settled asked :
 
 past_of : (uses : List Used) → IsLife uses
     → PastIn (Came uses) (told_reports uses) (λ ticket. how_many_settled ticket uses) (λ ticket. how_many_asked ticket uses)
-    (held_after uses)
+    (has_contended uses) (held_after uses)
 past_of [] lived session is = absurd (let e : None ≡ Some session = is in cc)
 past_of (used ∷ earlier) lived session is =
     one (Came earlier) (told_reports earlier) (λ ticket. how_many_settled ticket earlier) (λ ticket. how_many_asked ticket earlier)
-    used.use_of (held_after earlier) used.held (past_of earlier lived.1) lived.0 session is
+    (has_contended earlier) used.use_of (held_after earlier) used.held (past_of earlier lived.1) lived.0 session is
 
 -- the client of a session stands where turns by the rule have led
 pub stands_in : (uses : List Used) (session : Device) → IsLife uses → held_after uses ≡ Some session
@@ -691,5 +735,6 @@ coherent_for_life uses session lived is =
       came = past.came;
       holds = holds_here past.chapter.start past.chapter.items (view_of session.agent.asker.follower.client) past.stands;
       reports = past.told;
+      contends = past.contends;
       calls = past.calls;
     }

@@ -4,8 +4,8 @@ use Rattle.std.specs.Prelude.{IsSome, IfSome}
 use Rattle.zk_frames.specs.declared.limits.FrameLimits.{FrameLimits}
 use Rattle.zk_turns.specs.Turns.{Start}
 use Rattle.zk_turns.specs.View.{view_at}
-use Rattle.zk_agent.specs.Agents.{NothingAt}
 use Rattle.ffi_device.specs.AtOnce.{WritesOutputs}
+use Rattle.ffi_device.specs.Contending.{NothingDue}
 use Rattle.ffi_device.specs.Outputs.{next_of, read_after}
 use Rattle.ffi_device.specs.Refused.{RefusesMemory}
 use Rattle.ffi_device.specs.Steps.{BeginsWith, Forgot, within}
@@ -52,12 +52,15 @@ MakesWithin incoming outgoing Refuses start code held =
 
 -- The next action is told. Nothing else changes than that one more was read.
 pub record Tells (before : Device) (room : Flat) (code : ℤ) (told : Flat) (after : Device) : Type 0 where
-  pub tells : TellsOf (next_of before.said.items before.read) room code told
+  pub tells : TellsOf (next_of before.said.items before.news.items before.read) room code told
   pub agent : after.agent ≡ before.agent
   pub said : after.said ≡ before.said
-  pub read : after.read ≡ read_after (next_of before.said.items before.read) before.read
+  pub read : after.read ≡ read_after (next_of before.said.items before.news.items before.read) before.read
   pub over : after.is_over ≡ before.is_over
   pub number : after.revision ≡ before.revision
+  pub contenders : after.contenders ≡ before.contenders
+  pub contends : after.is_contending ≡ before.is_contending
+  pub news : after.news ≡ before.news
 
 -- All that waits is told at once, with 0, where there is room for all; and where memory ran out, as the number says, nothing is written or
 -- told.
@@ -73,8 +76,8 @@ pub record ForgetsStale (before : Device) (code : ℤ) (after : Device) : Type 0
 -- The first moment at which something is due, with 0; or that nothing will be due, with 1.
 abbrev pub FirstDue : Device → ℤ → ℕ → Type 0
 FirstDue session (pos zero) first =
-    ((moment : ℕ) → moment < 2 ^ 64 → moment < first → NothingAt session.agent moment) × ¬ (NothingAt session.agent first)
-FirstDue session (pos (suc zero)) first = (moment : ℕ) → moment < 2 ^ 64 → NothingAt session.agent moment
+    ((moment : ℕ) → moment < 2 ^ 64 → moment < first → NothingDue session moment) × ¬ (NothingDue session first)
+FirstDue session (pos (suc zero)) first = (moment : ℕ) → moment < 2 ^ 64 → NothingDue session moment
 FirstDue session code first = ⊥
 
 -- A moment, with 0; or that there is none, with 1, and then 0 is written.

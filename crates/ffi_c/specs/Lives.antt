@@ -11,7 +11,7 @@ use Rattle.zk_client.specs.declared.saved_fault.SavedFault.{SavedFault}
 use Rattle.zk_agent.specs.Agents.{IsLed}
 use Rattle.zk_agent.specs.Calls.{IsInTime, IsServed}
 use Rattle.zk_conclusions.specs.Revisions.{IsUnchanged}
-use Rattle.ffi_device.specs.Refused.{RefusesCreate, RefusesMemory, RefusesNothing, RefusesPath, RefusesTimeout}
+use Rattle.ffi_device.specs.Refused.{RefusesContender, RefusesCreate, RefusesMemory, RefusesNothing, RefusesPath, RefusesTimeout}
 use Rattle.ffi_device.specs.Sessions.{put_start}
 use Rattle.ffi_device.specs.declared.flat.Flat.{Flat}
 use Rattle.ffi_device.specs.Credentials.{RefusesCredential}
@@ -24,9 +24,9 @@ use Rattle.ffi_device.specs.declared.device.Device.{Device}
 use Rattle.ffi_c.specs.Held.{Holds, IsClosed, Makes, Tells, TellsAll, ForgetsStale}
 
 -- A function that was called on a handle, with what was handed in, and the number that it answered. `Steps` is that of each input, call,
--- subject and tree, `Reads` that of dw_session_next, `ReadsAll` that of dw_session_outputs, `Forgets` that of dw_session_forget; `Looks` is
--- that of those that leave the handle as it is, and of dw_session_raw with a number that no operation has which a caller may spell; `Frees`
--- is also that of dw_session_open_with_limits with limits that no session may have.
+-- subject, tree and contender, `Reads` that of dw_session_next, `ReadsAll` that of dw_session_outputs, `Forgets` that of
+-- dw_session_forget; `Looks` is that of those that leave the handle as it is, and of dw_session_raw with a number that no operation has
+-- which a caller may spell; `Frees` is also that of dw_session_open_with_limits with limits that no session may have.
 pub data Use : Type 0 where
   Opens : FrameLimits → (timeout code : ℤ) → Use
   Resumes : FrameLimits → (timeout : ℤ) → (saved : List ℕ) → (code : ℤ) → Use
@@ -54,6 +54,7 @@ RefusesHappening (happens.Calls ticket asked until) = RefusesCall asked
 RefusesHappening (happens.Introduces frame) = λ code. (scheme secret : List ℕ) × RefusesCredential scheme secret code
 RefusesHappening (happens.Follows ticket side path) = RefusesPath path
 RefusesHappening (happens.FollowsTree ticket root most) = RefusesPath root
+RefusesHappening (happens.Contends ticket directory naming guid bytes may_be_there) = RefusesContender directory naming guid
 RefusesHappening _ = RefusesNothing
 
 -- A closed handle stays closed, which is told; of one that holds a session this is so.

@@ -1,5 +1,5 @@
 -- What the client of a session's handle has come through, use by use, and what was told of it meanwhile.
-use Rattle.std.specs.Prelude.{◌≡◌, ◌⊎◌, ◌+◌, ◌==◌, ℕ, zero, ℤ, pos, negsuc, Bool, true, false, List, [], ◌∷◌, ◌++◌, fold, max}
+use Rattle.std.specs.Prelude.{◌≡◌, ◌⊎◌, ◌+◌, ◌==◌, ◌||◌, ◌<◌, ℕ, zero, ℤ, pos, negsuc, Bool, true, false, List, [], ◌∷◌, ◌++◌, fold, max}
 use Rattle.std.specs.Prelude.{Option, Some, Ok, unsigned_abs, if◌then◌else◌}
 use Rattle.std.specs.List.{filter, list_any, AllByRecursion, FoldsTo}
 use Rattle.std.specs.declared.alloc.Global.{Global}
@@ -27,8 +27,8 @@ use Rattle.zk_agent.specs.Replies.{is_lost}
 use Rattle.zk_agent.specs.Telling.{Told, Says, Begins, told_by}
 use Rattle.ffi_device.specs.Sessions.{put_start}
 use Rattle.ffi_device.specs.Happenings as happens
-use Rattle.ffi_device.specs.Happenings.{Happening, happening}
-use Rattle.ffi_device.specs.Chains.{IsOwn}
+use Rattle.ffi_device.specs.Happenings.{Happening, given_of, happening, is_contend}
+use Rattle.ffi_device.specs.Chains.{first_own, IsOwn}
 use Rattle.ffi_device.specs.Steps.{within}
 use Rattle.ffi_device.specs.declared.device.Device.{Device}
 use Rattle.ffi_c.specs.Lives.{Forgets, Frees, IsLife, Opens, Resumes, Steps, Use, Used, held_after}
@@ -100,15 +100,15 @@ TakesAll moment before inputs after =
     before inputs after
 
 -- A step: its agent takes what was handed in, and then nothing but calls of the device's own, none of which brings bytes or begins a
--- connection. So the bytes that the client heard, and when its connections began, are what the caller handed in. No device has asked any
--- such call yet.
+-- connection. So the bytes that the client heard, and when its connections began, are what the caller handed in. A device on which nobody
+-- contends asks none.
 pub record Goes (moment : ℕ) (what : Happening) (before after : Device) (old new : Chapter) : Type 0 where
   pub given : AgentInput Global
-  pub is : happening given ≡ what
+  pub is : happening given ≡ given_of what
   pub own : List (AgentInput Global)
   pub takes : TakesAll moment (before.agent, old) (given ∷ own) (after.agent, new)
   pub are_own : AllByRecursion (λ its. IsOwn (happening its)) own
-  pub alone : own ≡ []
+  pub alone : after.is_contending ≡ false → own ≡ []
 
 -- A step within which memory ran out. The client went on by turns and renewals, and then halted, or stayed as it was.
 abbrev pub Advances : (timeout : ℤ) → Chapter → Advance → Chapter → Type 0
@@ -190,16 +190,33 @@ abbrev pub how_many_settled : (ticket : ℕ) → List Used → ℕ
 how_many_settled ticket [] = 0
 how_many_settled ticket (used ∷ earlier) = settled_by ticket used.use_of used.held (how_many_settled ticket earlier)
 
+-- whether somebody has contended since the handle was opened
+abbrev pub contended_by : Use → Bool → Bool
+contended_by (Opens limits timeout code) before = false
+contended_by (Resumes limits timeout saved code) before = false
+contended_by (Steps moment what (pos zero)) before = is_contend what || before
+contended_by used before = before
+
+abbrev pub has_contended : List Used → Bool
+has_contended [] = false
+has_contended (used ∷ earlier) = contended_by used.use_of (has_contended earlier)
+
+-- A ticket that the program alone has: it is below those of the calls that contenders ask, or nobody has contended.
+abbrev pub IsOfProgram : (ticket : ℕ) → List Used → Type 0
+IsOfProgram ticket uses = (ticket < first_own) ⊎ (has_contended uses ≡ false)
+
 -- ---- the law
 
 -- Its client has all of `holds` for the turns that it has come through. While memory has not run out within a step, each report of these
--- turns was told once, and no other; and each call that was asked was settled once, or waits.
+-- turns was told once, and no other; each call that was asked, by a ticket that the program alone has, was settled once, or waits; and the
+-- session has contenders exactly where somebody has contended.
 pub record IsCoherent (uses : List Used) (session : Device) : Type 0 where
   pub chapter : Chapter
   pub came : Came uses chapter
   pub holds : run.Holds chapter.start chapter.items (view_of session.agent.asker.follower.client)
   pub reports : session.is_over ≡ false → told_reports uses ≡ reports_in (outputs_of chapter.items)
-  pub calls : session.is_over ≡ false → (ticket : ℕ)
+  pub contends : session.is_over ≡ false → session.is_contending ≡ has_contended uses
+  pub calls : session.is_over ≡ false → (ticket : ℕ) → IsOfProgram ticket uses
       → how_many ticket session.agent.asker.line.entries.items + how_many_settled ticket uses ≡ how_many_asked ticket uses
 
 -- THE law of what a session shows: whoever made it by these functions alone, whatever they answered, has one that is coherent.

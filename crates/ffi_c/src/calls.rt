@@ -12,8 +12,8 @@ use crate::handle::DwSession;
 use crate::taking::drive;
 use std::alloc::Global;
 
-// Data, or null.
-fn data_of(bytes: &[u8], is_null: bool) -> Option<&[u8]>
+/// Data, or null.
+pub(crate) fn data_of(bytes: &[u8], is_null: bool) -> Option<&[u8]>
     ensures { option_map (λ s. s.now) result ≡ (if is_null then None else Some bytes.now) }
 {
     if is_null { None } else { Some(bytes) }

@@ -4,6 +4,7 @@
 
 mod calls;
 mod conclusions;
+mod contending;
 mod credentials;
 mod handle;
 mod kept;

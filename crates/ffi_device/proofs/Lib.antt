@@ -2,6 +2,8 @@
 -- are told whole, it begins as its client does, and a step is its agent's.
 pub mod Beginning
 pub mod Chains
+pub mod OwnCalls
+pub mod Deadlines
 pub mod Parents
 pub mod ReadTexts
 pub mod Refusing

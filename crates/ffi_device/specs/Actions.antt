@@ -22,15 +22,15 @@ refusal_flat why.SessionClosed = plain (pos 11) (pos 4)
 
 -- News of a tree as numbers. Where it is about a node, `ticket` is that of the node, and `names` that of the tree.
 abbrev pub news_flat : {A : Type 0} → TreeNews A → Flat
-news_flat (news.TakenOn tree ticket side path) =
+news_flat (news.MemberAdded tree ticket side path) =
     record (plain (pos 12) (pos 0)) { ticket = ticket; names = tree; result = side_number side; length = length path }
-news_flat (news.LetGo tree ticket) = record (plain (pos 13) (pos 0)) { ticket = ticket; names = tree }
+news_flat (news.MemberRemoved tree ticket) = record (plain (pos 13) (pos 0)) { ticket = ticket; names = tree }
 news_flat (news.Bounded tree is_bounded) = record (plain (pos 14) (pos 0)) { ticket = tree; is_null = is_bounded }
-news_flat (news.Whole tree) = record (plain (pos 15) (pos 0)) { ticket = tree }
+news_flat (news.Complete tree) = record (plain (pos 15) (pos 0)) { ticket = tree }
 
 -- the text of what is told of a tree: the path of what is taken on, and else nothing
 abbrev pub news_text : {A : Type 0} → TreeNews A → List ℕ
-news_text (news.TakenOn tree ticket side path) = path
+news_text (news.MemberAdded tree ticket side path) = path
 news_text _ = []
 
 -- An action as numbers. Those that a client says too have the numbers of its outputs.

@@ -1,14 +1,16 @@
 -- All outputs that wait to be told, as bytes.
-use Rattle.std.specs.Prelude.{◌≡◌, ◌≤◌, ◌<◌, ◌++◌, ℕ, ℤ, List, drop, length, map, Some}
+use Rattle.std.specs.Prelude.{◌≡◌, ◌≤◌, ◌<◌, ◌+◌, ◌-◌, ◌++◌, ℕ, ℤ, List, [], drop, length, map, Some}
 use Rattle.std.specs.Int.{w64, cast_signed}
 use Rattle.std.specs.List.{flat_map, AllByRecursion}
 use Rattle.zk_jute.specs.Layout.{Layout, Value, buffer, ustring, boolean, long, int, ◌⨾◌}
 use Rattle.zk_jute.specs.Spelling.{Fits, spelling}
 use Rattle.zk_nodes.specs.StatLayout.{stat}
+use Rattle.zk_contend.specs.declared.status.LockStatus.{LockStatus}
 use Rattle.zk_agent.specs.declared.action.Action.{Action}
 use Rattle.ffi_device.specs.declared.flat.Flat.{Flat}
 use Rattle.ffi_device.specs.declared.flat.FlatStat.{FlatStat}
 use Rattle.ffi_device.specs.Actions.{action_flat, action_text}
+use Rattle.ffi_device.specs.News.{standing_flat}
 use Rattle.ffi_device.specs.Outputs.{names_in, words_of}
 use Rattle.ffi_device.specs.declared.device.Device.{Device}
 
@@ -81,9 +83,13 @@ bytes_of action = action_text action ++ (joined (names_in (Some action)) ++ word
 abbrev pub action_output : {A : Type 0} → Action A → Flat × List ℕ
 action_output action = (action_flat action, bytes_of action)
 
+-- how a contender stands, which has numbers alone
+abbrev pub news_output : ℕ × LockStatus → Flat × List ℕ
+news_output one = (standing_flat one, [])
+
 -- the outputs that wait to be told, in the order in which they are told one at a time
-abbrev pub waiting : {A : Type 0} → (said : List (Action A)) (read : ℕ) → List (Flat × List ℕ)
-waiting said read = map action_output (drop read said)
+abbrev pub waiting : {A : Type 0} → (said : List (Action A)) (news : List (ℕ × LockStatus)) (read : ℕ) → List (Flat × List ℕ)
+waiting said news read = map action_output (drop read said) ++ map news_output (drop (read - length said) news)
 
 -- The bytes are these outputs, one after the other.
 pub record AreOutputs (outputs : List (Flat × List ℕ)) (text : List ℕ) : Type 0 where
@@ -93,13 +99,16 @@ pub record AreOutputs (outputs : List (Flat × List ℕ)) (text : List ℕ) : Ty
 -- Where there is room for all that wait, they are written, at the front, and told. Else nothing is. The count says how much room they want.
 pub record WritesOutputs (before : Device) (room written : List ℕ) (count : ℕ) (after : Device) : Type 0 where
   pub text : List ℕ
-  pub are : AreOutputs (waiting before.said.items before.read) text
+  pub are : AreOutputs (waiting before.said.items before.news.items before.read) text
   pub count_is : count ≡ length text
   pub whole : length text ≤ length room → written ≡ text ++ drop (length text) room
-  pub told : length text ≤ length room → after.read ≡ length before.said.items
+  pub told : length text ≤ length room → after.read ≡ length before.said.items + length before.news.items
   pub short : length room < length text → written ≡ room
   pub untold : length room < length text → after.read ≡ before.read
   pub agent : after.agent ≡ before.agent
   pub said : after.said ≡ before.said
   pub over : after.is_over ≡ before.is_over
   pub number : after.revision ≡ before.revision
+  pub contenders : after.contenders ≡ before.contenders
+  pub contends : after.is_contending ≡ before.is_contending
+  pub news : after.news ≡ before.news

@@ -7,7 +7,7 @@ use Rattle.zk_conversation.specs.Views.{call_view}
 use Rattle.zk_agent.specs.declared.input.AgentInput.{AgentInput}
 use Rattle.zk_agent.specs.declared.input.AgentInput.TheVariants as input
 
--- What a caller hands in, without where it lies in memory.
+-- What a caller hands in, without where it lies in memory. Contenders are the device's own: of them the agent is given the moment alone.
 pub data Happening : Type 0 where
   Opened Failed Cut Moment : Happening
   Bytes : List ℕ → Happening
@@ -18,6 +18,9 @@ pub data Happening : Type 0 where
   Unfollows : (ticket : ℕ) → Happening
   FollowsTree : (ticket : ℕ) → Text → (most : ℕ) → Happening
   UnfollowsTree : (ticket : ℕ) → Happening
+  Contends : (ticket : ℕ) → (directory : Text) → (naming : ℕ) → (guid : Text) → (bytes : Option (List ℕ)) → (may_be_there : Bool)
+      → Happening
+  GivesUp : (ticket : ℕ) → Happening
 
 abbrev pub happening : {A : Type 0} → AgentInput A → Happening
 happening input.Opened = Opened
@@ -32,6 +35,17 @@ happening (input.Follow ticket side path) = Follows ticket side path
 happening (input.Unfollow ticket) = Unfollows ticket
 happening (input.FollowTree ticket root most) = FollowsTree ticket root most
 happening (input.UnfollowTree ticket) = UnfollowsTree ticket
+
+-- what the agent is given of it
+abbrev pub given_of : Happening → Happening
+given_of (Contends ticket directory naming guid bytes may_be_there) = Moment
+given_of (GivesUp ticket) = Moment
+given_of what = what
+
+-- whether a contender joins
+abbrev pub is_contend : Happening → Bool
+is_contend (Contends ticket directory naming guid bytes may_be_there) = true
+is_contend _ = false
 
 -- whether bytes came
 abbrev pub is_bytes : Happening → Bool

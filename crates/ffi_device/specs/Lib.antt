@@ -4,11 +4,13 @@ pub mod Actions
 pub mod AtOnce
 pub mod Chains
 pub mod Codes
+pub mod Contending
 pub mod Credentials
 pub mod Flats
 pub mod Happenings
 pub mod Holders
 pub mod Kept
+pub mod News
 pub mod Outputs
 pub mod Refused
 pub mod Replies

@@ -1,5 +1,5 @@
--- What was said, one action at a time.
-use Rattle.std.specs.Prelude.{ℕ, zero, suc, List, [], Option, Some, None, get_or}
+-- What was said, one action at a time, and then how contenders stand.
+use Rattle.std.specs.Prelude.{ℕ, zero, suc, ◌-◌, List, [], length, Option, Some, None, get_or}
 use Rattle.std.specs.Option.{option_map}
 use Rattle.std.specs.List.{slice_get}
 use Rattle.zk_client.specs.FaultText.{fault_words}
@@ -10,7 +10,9 @@ use Rattle.zk_client.specs.declared.output.Outcome.{Outcome}
 use Rattle.zk_client.specs.declared.output.Outcome.TheVariants as outcome
 use Rattle.zk_agent.specs.declared.action.Action.{Action}
 use Rattle.zk_agent.specs.declared.action.Action.TheVariants as action
+use Rattle.zk_contend.specs.declared.status.LockStatus.{LockStatus}
 use Rattle.ffi_device.specs.Actions.{action_flat, action_text}
+use Rattle.ffi_device.specs.News.{standing_flat}
 use Rattle.ffi_device.specs.declared.flat.Flat.{Flat}
 
 -- how many were read after one was asked for
@@ -18,7 +20,7 @@ abbrev pub read_after : Option Flat → ℕ → ℕ
 read_after None read = read
 read_after (Some flat) read = suc read
 
--- what was told last
+-- what was told last, unless it is how a contender stands
 abbrev pub told : {T : Type 0} → List T → (read : ℕ) → Option T
 told said zero = None
 told said (suc read) = slice_get said read
@@ -33,9 +35,13 @@ abbrev pub outcome_names : {A : Type 0} → Outcome A → List (List ℕ)
 outcome_names (outcome.Replied zxid brought) = result_names brought
 outcome_names _ = []
 
--- what is told next, as numbers
-abbrev pub next_of : {A : Type 0} → List (Action A) → (read : ℕ) → Option Flat
-next_of said read = option_map action_flat (slice_get said read)
+-- what is told next, as numbers: what was said, and after all of it how contenders stand
+abbrev pub next_where : {A : Type 0} → Option (Action A) → List (ℕ × LockStatus) → (read : ℕ) → Option Flat
+next_where (Some action) news read = Some (action_flat action)
+next_where None news read = option_map standing_flat (slice_get news read)
+
+abbrev pub next_of : {A : Type 0} → List (Action A) → List (ℕ × LockStatus) → (read : ℕ) → Option Flat
+next_of said news read = next_where (slice_get said read) news (read - length said)
 
 -- the text of an action, if there is one
 abbrev pub text_if : {A : Type 0} → Option (Action A) → List ℕ

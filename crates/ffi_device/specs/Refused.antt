@@ -1,5 +1,5 @@
 -- When a number is told that is neither 0 nor that of a halt.
-use Rattle.std.specs.Prelude.{⊤, ◌≤ℤ◌, ◌<ℤ◌, ◌<◌, List, ℕ, zero, suc, ℤ, pos, negsuc, IsSome}
+use Rattle.std.specs.Prelude.{⊤, ◌⊎◌, ◌≤ℤ◌, ◌<ℤ◌, ◌<◌, List, ℕ, zero, suc, ℤ, pos, negsuc, IsSome}
 use Rattle.std.specs.Str.{IsUtf8}
 use Rattle.zk_nodes.specs.PathFault.{IsPath, fault_of}
 
@@ -29,6 +29,15 @@ RefusesTimeout timeout code = ⊥
 abbrev pub RefusesCreate : (path : List ℕ) (mode : ℕ) → ℤ → Type 0
 RefusesCreate path mode (negsuc (suc (suc (suc (suc (suc (suc zero))))))) = 3 < mode
 RefusesCreate path mode code = RefusesPath path code
+
+-- A contender: -4 where its directory or its guid is no UTF-8; -5 where the directory is no path, or no place in it has one, which nothing
+-- is promised of; -7 where the number is none of a naming; and -2.
+abbrev pub RefusesContender : (directory : List ℕ) (naming : ℕ) (guid : List ℕ) → ℤ → Type 0
+RefusesContender directory naming guid (negsuc (suc zero)) = ⊤
+RefusesContender directory naming guid (negsuc (suc (suc (suc zero)))) = ¬ (IsUtf8 directory) ⊎ ¬ (IsUtf8 guid)
+RefusesContender directory naming guid (negsuc (suc (suc (suc (suc zero))))) = ⊤
+RefusesContender directory naming guid (negsuc (suc (suc (suc (suc (suc (suc zero))))))) = 5 < naming
+RefusesContender directory naming guid code = ⊥
 
 -- All nodes at and below a path: those of the path, and -9 and -10 where these two are so.
 abbrev pub RefusesNodes : (lacking many : Type 0) (path : List ℕ) → ℤ → Type 0

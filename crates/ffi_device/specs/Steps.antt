@@ -1,5 +1,5 @@
 -- What becomes of an agent's device, by the number that is told.
-use Rattle.std.specs.Prelude.{◌≡◌, ◌^◌, ℕ, zero, ℤ, pos, negsuc, false, true, List, [], ◌∷◌, ◌++◌, Option, Some, None, Result}
+use Rattle.std.specs.Prelude.{◌≡◌, ◌^◌, ◌||◌, ℕ, zero, ℤ, pos, negsuc, false, true, List, [], ◌∷◌, ◌++◌, Option, Some, None, Result}
 use Rattle.std.specs.Prelude.{MatchResult}
 use Rattle.std.specs.List.{flat_map, AllByRecursion}
 use Rattle.std.specs.List.Sorted.{IsPermutation}
@@ -21,21 +21,25 @@ use Rattle.zk_agent.specs.Agents.{IsBroken, IsLed}
 use Rattle.zk_agent.specs.Credentials.{no_papers, papers_of}
 use Rattle.zk_agent.specs.Telling.{told_by}
 use Rattle.zk_conclusions.specs.Revisions.{raised}
+use Rattle.zk_contend.specs.Collections.{asker_of, one_of}
+use Rattle.zk_contend.specs.declared.collection.Contenders.{Contenders}
 use Rattle.ffi_device.specs.Codes.{refusal_code}
 use Rattle.ffi_device.specs.Refused.{RefusesMemory}
 use Rattle.ffi_device.specs.declared.refusal.DeviceRefusal.{DeviceRefusal}
 pub use Rattle.ffi_device.specs.Happenings.{Happening, Opened, Failed, Cut, Moment, Bytes, Addressed, Calls, Introduces, Follows}
-pub use Rattle.ffi_device.specs.Happenings.{Unfollows, FollowsTree, UnfollowsTree}
-pub use Rattle.ffi_device.specs.Happenings.{happening, is_bytes, limit_of}
+pub use Rattle.ffi_device.specs.Happenings.{Unfollows, FollowsTree, UnfollowsTree, Contends, GivesUp}
+pub use Rattle.ffi_device.specs.Happenings.{given_of, happening, is_bytes, is_contend, limit_of}
 pub use Rattle.ffi_device.specs.Taking.{AgentTook, AreFollowed}
 use Rattle.ffi_device.specs.Chains.{IsOwn, Part, TellsAllBut, TookAll}
+use Rattle.ffi_device.specs.Contending.{GoesOnWhere, JoinsBy}
 use Rattle.ffi_device.specs.Revisions.{revised}
 use Rattle.ffi_device.specs.declared.device.Device.{Device}
 
 -- ---- steps
 
 -- The agent took an input that was noticed at a moment, and then, at the same moment, calls of the device's own, each by all that a step of
--- it promises. What was said is told in its order, except answers to such calls, and none of it was read. No device has asked any yet.
+-- it promises. What was said is told in its order, except answers to such calls, and none of it was read. A device on which nobody contends
+-- asks none.
 pub record Took (now : ℕ) (given : AgentInput Global) (before after : Device) : Type 0 where
   pub went_on : before.is_over ≡ false
   pub goes_on : after.is_over ≡ false
@@ -45,20 +49,25 @@ pub record Took (now : ℕ) (given : AgentInput Global) (before after : Device) 
   pub took : TookAll now before.agent (record { given = given; said = said } ∷ own) after.agent
   pub are_own : AllByRecursion (λ part. IsOwn (happening part.given)) own
   pub told : TellsAllBut (said ++ flat_map (λ part. part.said) own) after.said.items
-  pub alone : (own ≡ []) × (after.said.items ≡ said)
+  pub alone : after.is_contending ≡ false → (own ≡ []) × (after.said.items ≡ said)
   pub number : after.revision.number ≡ revised (is_bytes (happening given)) (told_by after.said.items) before.revision.number
 
--- The same of an input that is this.
+-- The same of an input that is this. A contender joins, or is given up, before the agent's step; and after it the contenders go on.
 pub record Stepped (now : ℕ) (what : Happening) (before after : Device) : Type 0 where
   pub given : AgentInput Global
-  pub is : happening given ≡ what
+  pub is : happening given ≡ given_of what
   pub took : Took now given before after
+  pub contends : after.is_contending ≡ (is_contend what || before.is_contending)
+  pub joined : Contenders Global
+  pub joins : JoinsBy what before.contenders joined
+  pub goes : GoesOnWhere after.is_contending now joined took.took.0 took.said took.own after
 
 -- Memory ran out within this step, or within an earlier one: the agent goes on no further, and nothing is told. The revision is the next
 -- one. The agent's client has gone on until then, in one chain from before this step.
 pub record Stopped (before after : Device) : Type 0 where
   pub over : after.is_over ≡ true
   pub silent : after.said.items ≡ []
+  pub no_news : after.news.items ≡ []
   pub number : after.revision.number ≡ raised before.revision.number
   pub broke : IsBroken before.agent after.agent
 
@@ -97,8 +106,11 @@ pub record Forgot (before after : Device) : Type 0 where
   pub read : after.read ≡ before.read
   pub over : after.is_over ≡ before.is_over
   pub number : after.revision ≡ before.revision
+  pub contenders : after.contenders ≡ before.contenders
+  pub contends : after.is_contending ≡ before.is_contending
+  pub news : after.news ≡ before.news
 
--- Nothing was asked, followed, heard or said yet, and the client is this one. The revision is 1.
+-- Nothing was asked, followed, heard or said yet, nobody contends, and the client is this one. The revision is 1.
 pub record BeginsWith (view : View) (device : Device) : Type 0 where
   pub client : view_of device.agent.asker.follower.client ≡ view
   pub subjects : device.agent.asker.follower.subjects.items ≡ []
@@ -112,6 +124,10 @@ pub record BeginsWith (view : View) (device : Device) : Type 0 where
   pub next : device.agent.trees.next ≡ 2 ^ 63
   pub goes_on : device.is_over ≡ false
   pub number : device.revision.number ≡ 1
+  pub nobody : (ticket : ℕ) → one_of device.contenders ticket ≡ None
+  pub no_asker : (call : ℕ) → asker_of device.contenders call ≡ None
+  pub no_contender : device.is_contending ≡ false
+  pub no_news : device.news.items ≡ []
 
 -- a session to begin with, whose payloads have these limits
 abbrev pub within : FrameLimits → Start → Start

@@ -82,19 +82,19 @@ fn news_flat(news: &TreeNews<Global>) -> Flat
     ensures { result ≡ news_flat news.now }
 {
     match news {
-        TreeNews::TakenOn {
+        TreeNews::MemberAdded {
             tree,
             ticket,
             side,
             path,
         } => taken_on_flat(*tree, *ticket, *side, path.as_str().len()),
-        TreeNews::LetGo { tree, ticket } => about_node(plain(13, 0), *tree, *ticket),
+        TreeNews::MemberRemoved { tree, ticket } => about_node(plain(13, 0), *tree, *ticket),
         TreeNews::Bounded { tree, is_bounded } => {
             let mut flat = about(plain(14, 0), *tree);
             flat.is_null = *is_bounded;
             flat
         }
-        TreeNews::Whole { tree } => about(plain(15, 0), *tree),
+        TreeNews::Complete { tree } => about(plain(15, 0), *tree),
     }
 }
 
@@ -103,7 +103,7 @@ fn news_text(news: &TreeNews<Global>) -> &[u8]
     ensures { result.now ≡ news_text news.now }
 {
     match news {
-        TreeNews::TakenOn { path, .. } => path.as_str().as_bytes(),
+        TreeNews::MemberAdded { path, .. } => path.as_str().as_bytes(),
         _ => b"",
     }
 }

@@ -1,19 +1,21 @@
 //! All that waits to be told, at once.
 
-ghost use Rattle.std.specs.Prelude.{◌≡◌, ◌++◌, [], IfOk, OnErr, OnOk, Some, drop, map};
+ghost use Rattle.std.specs.Prelude.{◌≡◌, ◌-◌, ◌++◌, [], IfOk, OnErr, OnOk, Some, drop, length, map};
 ghost use Rattle.std.specs.List.{flat_map, AllByRecursion};
 ghost use Rattle.ffi_device.specs.Outputs.{names_in, words_of};
-ghost use Rattle.ffi_device.specs.AtOnce.{action_output, joined, output_bytes, spelled, waiting};
+ghost use Rattle.ffi_device.specs.AtOnce.{action_output, joined, news_output, output_bytes, spelled, waiting};
 ghost use Rattle.ffi_device.specs.AtOnce.{AreOutputs, FitsOutput, IsSpelled, WritesOutputs};
 
 use crate::actions::{action_flat, action_text};
 use crate::copying::copy_into;
 use crate::device::Device;
 use crate::flat::Flat;
+use crate::news::standing_flat;
 use crate::outputs::outcome_names;
 use std::alloc::{AllocError, Global};
 use std::mem;
 use zk_agent::Action;
+use zk_contend::LockStatus;
 use zk_jute::{BytesRef, PutError, Record, Then};
 
 /// How many bytes an output has besides its own, if these are counted: its numbers, its Stat and the length of its bytes.
@@ -149,6 +151,17 @@ fn write_actions(
     Ok(())
 }
 
+// Writes how these contenders stand at the end of the text.
+fn write_news(alloc: Global, news: &[(u64, LockStatus)], text: &mut Text) -> Result<(), AllocError>
+    ensures ok { OnOk result (text.new.bytes.items ≡ text.old.bytes.items ++ flat_map output_bytes (map news_output news.now)) }
+    ensures fits { OnOk result (AllByRecursion FitsOutput (map news_output news.now)) }
+{
+    for one in news {
+        write_output(alloc, &standing_flat(one), b"", text)?;
+    }
+    Ok(())
+}
+
 impl Device {
     // The actions that were not told yet.
     fn unread_actions(&self) -> &[Action<Global>]
@@ -158,17 +171,27 @@ impl Device {
         &said[self.read.min(said.len())..]
     }
 
+    // How contenders stand, where that was not told yet.
+    fn unread_news_all(&self) -> &[(u64, LockStatus)]
+        ensures { result.now ≡ drop (self.now.read - length self.now.said.items) self.now.news.items }
+    {
+        let news = self.news.as_slice();
+        let read = self.read.saturating_sub(self.said.len());
+        &news[read.min(news.len())..]
+    }
+
     // All that waits to be told.
     fn outputs_text(&self, alloc: Global) -> Result<Text, AllocError>
-        ensures { IfOk result (λ text. AreOutputs (waiting self.now.said.items self.now.read) text.bytes.items) }
+        ensures { IfOk result (λ text. AreOutputs (waiting self.now.said.items self.now.news.items self.now.read) text.bytes.items) }
     {
         let mut text = Text::new(alloc);
         write_actions(alloc, self.unread_actions(), &mut text)?;
+        write_news(alloc, self.unread_news_all(), &mut text)?;
         Ok(text)
     }
 
-    /// Writes all actions of the last step that were not told yet, where there is room for all: then they are told. Else nothing is. Tells
-    /// how many bytes they are. An error says that memory ran out.
+    /// Writes all actions of the last step that were not told yet, and then how contenders stand, if there is room for all: then all is
+    /// told. Else nothing is. Tells how many bytes they are. An error says that memory ran out.
     pub fn outputs(&mut self, alloc: Global, room: &mut [u8]) -> Result<usize, AllocError>
         ensures written { IfOk result (λ count. WritesOutputs self.old room.old room.new count self.new) }
         ensures same { OnErr result ((room.new ≡ room.old) × (self.new ≡ self.old)) }
@@ -179,7 +202,7 @@ impl Device {
             return Ok(wanted);
         }
         copy_into(text.bytes.as_slice(), room);
-        self.read = self.said.len();
+        self.read = self.said.len() + self.news.len();
         Ok(wanted)
     }
 }

@@ -13,7 +13,8 @@ ghost use Rattle.ffi_device.specs.Codes.{code_of};
 ghost use Rattle.ffi_device.specs.Refused.{RefusesMemory, RefusesNothing, RefusesTimeout};
 ghost use Rattle.ffi_device.specs.Sessions.{put_start};
 ghost use Rattle.ffi_device.specs.Happenings.{happening, Addressed, Bytes, Cut, Failed, Moment, Opened};
-ghost use Rattle.zk_agent.specs.Agents.{NothingAt};
+ghost use Rattle.zk_contend.specs.Collections.{sooner};
+ghost use Rattle.ffi_device.specs.Contending.{until_in, NothingDue};
 ghost use Rattle.ffi_device.specs.Steps.{Dials, Forgot, Begins, BeginsWith, Stepped, Steps, Stopped, within};
 
 use crate::refusal::DeviceRefusal;
@@ -23,18 +24,34 @@ use std::alloc::Global;
 use zk_agent::{Action, Agent, AgentInput, Settings};
 use zk_client::{Client, FrameLimits};
 use zk_conclusions::Revision;
+use zk_contend::{Contenders, LockStatus};
 
-/// An agent, what it said at its last step, how much of that was read, whether it goes on no further, since memory ran out within a step,
-/// and a number that rises where what its client shows may change. Its methods stand by what they are about: calls in `calls`, what is
-/// followed in `subjects`, what was said in `outputs`, and here what comes from a connection. What is kept is looked up by functions over
-/// the agent's client, as [`peek_data`](crate::peek_data).
+/// An agent, its contenders, whether one has joined, what was said at its last step and how contenders stand, how much of both was read,
+/// whether it goes on no further, since memory ran out within a step, and a number that rises where what its client shows may change. Its
+/// methods stand by what they are about: calls in `calls`, what is followed in `subjects`, who contends in `contenders`, what was said in
+/// `outputs`, and here what comes from a connection. What is kept is looked up by functions over the agent's client, as
+/// [`peek_data`](crate::peek_data).
 #[derive(Drop)]
 pub struct Device {
     pub agent: Agent<Global>,
+    pub contenders: Contenders<Global>,
+    pub is_contending: bool,
     pub said: Vec<Action<Global>, Global>,
+    pub news: Vec<(u64, LockStatus), Global>,
     pub read: usize,
     pub is_over: bool,
     pub revision: Revision,
+}
+
+// The sooner of two moments.
+fn sooner(first: Option<u64>, other: Option<u64>) -> Option<u64>
+    ensures { result ≡ sooner first other }
+{
+    match (first, other) {
+        (Some(first), Some(other)) => Some(first.min(other)),
+        (Some(first), None) => Some(first),
+        (None, other) => other,
+    }
 }
 
 impl Device {
@@ -105,7 +122,10 @@ impl Device {
         match Agent::new(alloc, client, settings) {
             Ok(agent) => Ok(Device {
                 agent,
+                contenders: Contenders::new(alloc),
+                is_contending: false,
                 said: Vec::new(alloc),
+                news: Vec::new(alloc),
                 read: 0,
                 is_over: false,
                 revision: Revision::new(),
@@ -114,15 +134,17 @@ impl Device {
         }
     }
 
-    // Memory ran out, within this step or an earlier one. Nothing is told.
-    fn stop(&mut self) -> DeviceRefusal
+    /// Memory ran out, within this step or an earlier one. Nothing is told.
+    pub(crate) fn stop(&mut self) -> DeviceRefusal
         ensures halted { result ≡ refusals.Halted }
         ensures over { self.new.is_over ≡ true }
         ensures said { self.new.said.items ≡ [] }
+        ensures news { self.new.news.items ≡ [] }
         ensures number { self.new.revision.number ≡ raised self.old.revision.number }
         ensures agent { self.new.agent ≡ self.old.agent }
     {
         self.said.clear();
+        self.news.clear();
         self.is_over = true;
         self.revision.raise();
         DeviceRefusal::Halted
@@ -144,6 +166,9 @@ impl Device {
         }
         let is_bytes = is_bytes(&input);
         let Ok(()) = self.agent.step_into(now, input, &mut self.said) else {
+            return Err(self.stop());
+        };
+        let Ok(()) = self.go_on(now) else {
             return Err(self.stop());
         };
         revise(&mut self.revision, is_bytes, self.said.as_slice());
@@ -193,15 +218,25 @@ impl Device {
         self.agent.forget_stale();
     }
 
+    // When the first pause of a contender is over, if one may ask then.
+    fn pause(&self) -> Option<u64>
+        ensures { result ≡ until_in self.now }
+    {
+        if !self.is_contending {
+            return None;
+        }
+        self.contenders.deadline(self.agent.client())
+    }
+
     /// The first moment at which something is due: at the latest then a step is to be made, if nothing else happens. It may be past, and
     /// there is none where nothing will be due, as after a close.
     pub fn deadline(&self) -> Option<u64>
-        ensures before { IfSome result (λ first. (moment : ℕ) → moment < 2 ^ 64 → moment < first → NothingAt self.now.agent moment) }
-        ensures due { IfSome result (λ first. ¬ (NothingAt self.now.agent first)) }
-        ensures never { result ≡ None → (moment : ℕ) → moment < 2 ^ 64 → NothingAt self.now.agent moment }
+        ensures before { IfSome result (λ first. (moment : ℕ) → moment < 2 ^ 64 → moment < first → NothingDue self.now moment) }
+        ensures due { IfSome result (λ first. ¬ (NothingDue self.now first)) }
+        ensures never { result ≡ None → (moment : ℕ) → moment < 2 ^ 64 → NothingDue self.now moment }
         ensures closed { (view_of self.now.agent.asker.follower.client).standing.state ≡ Closed → result ≡ None }
     {
-        self.agent.deadline()
+        sooner(self.agent.deadline(), self.pause())
     }
 
     /// The list of addresses is another one: its first ones, as many as `kept`, were in the list before, and as many as `added`, after

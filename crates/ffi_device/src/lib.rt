@@ -6,6 +6,8 @@
 mod actions;
 mod at_once;
 mod calls;
+mod contenders;
+mod contending;
 mod copying;
 mod credentials;
 mod device;
@@ -13,6 +15,7 @@ mod flat;
 mod holders;
 mod kept;
 mod laws;
+mod news;
 mod outputs;
 mod paths;
 mod refusal;

@@ -1,7 +1,9 @@
-//! What was said, one action at a time.
+//! What was said, one action at a time, and then how contenders stand.
 
-ghost use Rattle.std.specs.Prelude.{◌≡◌, ◌++◌, [], IfOk, OnErr, drop, get_or, length, string_bytes, take};
+ghost use Rattle.std.specs.Prelude.{◌≡◌, ◌<◌, ◌+◌, ◌-◌, ◌++◌, [], IfOk, IfSome, OnErr, drop, get_or, length, string_bytes, take};
+ghost use Rattle.std.specs.List.{slice_get};
 ghost use Rattle.std.specs.Option.{option_map};
+ghost use Rattle.ffi_device.specs.News.{standing_flat};
 ghost use Rattle.ffi_device.specs.Kept.{WritesText};
 ghost use Rattle.ffi_device.specs.Outputs.{next_of, outcome_names, read_after, told, told_name, told_names, told_text, told_words};
 ghost use Rattle.ffi_device.specs.Texts.{AreTexts};
@@ -10,10 +12,12 @@ use crate::actions::{action_flat, action_text};
 use crate::copying::copy_into;
 use crate::device::Device;
 use crate::flat::Flat;
+use crate::news::standing_flat;
 use crate::texts::{spelled_texts, text_at};
 use std::alloc::{AllocError, Global};
 use zk_agent::Action;
 use zk_client::{CallResult, Outcome};
+use zk_contend::LockStatus;
 
 /// The names of a listing, each after its length, and nothing where the answer is none. An error says that memory ran out.
 pub(crate) fn outcome_names(alloc: Global, outcome: &Outcome<Global>) -> Result<Vec<u8>, AllocError>
@@ -42,26 +46,58 @@ pub(crate) fn outcome_name(outcome: &Outcome<Global>, index: usize) -> &[u8]
 }
 
 impl Device {
-    /// The next action of the last step, as numbers. The one before is over.
+    /// The next action of the last step, and after all of them how the next contender stands, as numbers. The one before is over.
     pub fn next(&mut self) -> Option<Flat>
-        ensures next { result ≡ next_of self.old.said.items self.old.read }
+        ensures next { result ≡ next_of self.old.said.items self.old.news.items self.old.read }
         ensures agent { self.new.agent ≡ self.old.agent }
         ensures said { self.new.said ≡ self.old.said }
         ensures read { self.new.read ≡ read_after result self.old.read }
         ensures over { self.new.is_over ≡ self.old.is_over }
         ensures number { self.new.revision ≡ self.old.revision }
+        ensures contenders { self.new.contenders ≡ self.old.contenders }
+        ensures contends { self.new.is_contending ≡ self.old.is_contending }
+        ensures news { self.new.news ≡ self.old.news }
+    {
+        let flat = self.unread()?;
+        self.read += 1;
+        Some(flat)
+    }
+
+    // What is told next.
+    fn unread(&self) -> Option<Flat>
+        ensures next { result ≡ next_of self.now.said.items self.now.news.items self.now.read }
+        ensures below { IfSome result (λ flat. self.now.read < length self.now.said.items + length self.now.news.items) }
     {
         match self.said.as_slice().get(self.read) {
-            Some(action) => {
-                let flat = action_flat(action);
-                self.read += 1;
-                Some(flat)
-            }
+            Some(action) => Some(action_flat(action)),
+            None => self.unread_news(),
+        }
+    }
+
+    // How the contender stands that is told next, once all that was said was told.
+    fn unread_news(&self) -> Option<Flat>
+        ensures next { result ≡ option_map standing_flat (slice_get self.now.news.items (self.now.read - length self.now.said.items)) }
+        ensures below { IfSome result
+            (λ flat. self.now.read - length self.now.said.items < length self.now.news.items) }
+    {
+        match self.next_news() {
+            Some(news) => Some(standing_flat(news)),
             None => None,
         }
     }
 
-    // The action that was told last.
+    // The news that are told next, once all that was said was told.
+    fn next_news(&self) -> Option<&(u64, LockStatus)>
+        ensures news { option_map (λ news. news.now) result
+            ≡ slice_get self.now.news.items (self.now.read - length self.now.said.items) }
+        ensures below { IfSome result
+            (λ news. self.now.read - length self.now.said.items < length self.now.news.items) }
+    {
+        let read = self.read.saturating_sub(self.said.len());
+        self.news.as_slice().get(read)
+    }
+
+    // The action that was told last, unless how a contender stands was.
     fn told(&self) -> Option<&Action<Global>>
         ensures { option_map (λ action. action.now) result ≡ told self.now.said.items self.now.read }
     {

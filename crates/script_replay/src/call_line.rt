@@ -4,15 +4,16 @@ ghost use Rattle.std.specs.Prelude.{◌≡◌, map};
 ghost use Rattle.std.specs.Option.{option_map};
 ghost use Rattle.zk_conversation.specs.Views.{call_view};
 ghost use Rattle.script_words.specs.Reads.{Reads};
-ghost use Rattle.script_replay.specs.CallLines.{kind_read, asks_at, content_at, on_path_at, close_at, kind_at, numbered_at, call_at};
+ghost use Rattle.script_replay.specs.CallLines.{kind_read, asks_at, content_at, on_path_at, close_at, operation_at, spelled_at, kind_at};
+ghost use Rattle.script_replay.specs.CallLines.{numbered_at, call_at};
 ghost use Rattle.script_replay.specs.Lines.{asked_of};
 ghost use Rattle.script_replay.specs.inner.Lines.{asks_of};
 
-use crate::reads::{parse_boolean, parse_mode, parse_natural, parse_version};
+use crate::reads::{parse_boolean, parse_bytes, parse_mode, parse_natural, parse_version};
 use script_words::reads::{is_named, parse_data, parse_path, parse_text};
 use script_words::script_fault::ScriptFault;
 use std::alloc::Allocator;
-use zk_conversation::{Call, CreateMode};
+use zk_conversation::{Call, CreateMode, RawOperation};
 use zk_nodes::Path;
 
 /// What a call asks for, by its second word.
@@ -25,6 +26,7 @@ enum CallKind {
     Create,
     Delete,
     Close,
+    Raw,
 }
 
 /// A call, with its caller's number.
@@ -62,6 +64,8 @@ fn kind_named(word: &[u8]) -> Result<CallKind, ScriptFault>
         Ok(CallKind::Delete)
     } else if is_named(word, "close") {
         Ok(CallKind::Close)
+    } else if is_named(word, "raw") {
+        Ok(CallKind::Raw)
     } else {
         Err(ScriptFault::Words)
     }
@@ -77,7 +81,7 @@ fn parse_wish(kind: CallKind, word: &[u8]) -> Result<Wish, ScriptFault>
         CallKind::SetData => Ok(Wish::SetData(parse_version(word)?)),
         CallKind::Create => Ok(Wish::Create(parse_mode(word)?)),
         CallKind::Delete => Ok(Wish::Delete(parse_version(word)?)),
-        CallKind::Close => Err(ScriptFault::Words),
+        CallKind::Close | CallKind::Raw => Err(ScriptFault::Words),
     }
 }
 
@@ -145,6 +149,30 @@ fn parse_close<A: Allocator + Copy>(
     Ok(AskedCall { ticket, call })
 }
 
+/// The operation that the core does not read, by its number.
+#[tactic(auto, unfolding(crate::specs::CallLines::operation_at))]
+fn parse_operation(word: &[u8]) -> Result<RawOperation, ScriptFault>
+    ensures { Reads (λ operation. operation) result (operation_at word.now) }
+{
+    let number = parse_version(word)?;
+    RawOperation::new(number).ok_or(ScriptFault::Number)
+}
+
+fn parse_raw<A: Allocator + Copy>(
+    alloc: A,
+    ticket: &[u8],
+    operation: &[u8],
+    body: &[u8],
+) -> Result<AskedCall<A>, ScriptFault>
+    ensures { Reads asked_of result (spelled_at ticket.now operation.now body.now) }
+{
+    let ticket = parse_natural(ticket)?;
+    let operation = parse_operation(operation)?;
+    let body = parse_bytes(alloc, body)?;
+    let call = Call::Raw { operation, body };
+    Ok(AskedCall { ticket, call })
+}
+
 /// The call of a kind. Some bring data, between their path and their last word.
 fn parse_kind<A: Allocator + Copy>(
     alloc: A,
@@ -156,6 +184,12 @@ fn parse_kind<A: Allocator + Copy>(
 {
     match kind {
         CallKind::Close => parse_close(ticket, words),
+        CallKind::Raw => {
+            let [operation, body] = words else {
+                return Err(ScriptFault::Words);
+            };
+            parse_raw(alloc, ticket, operation, body)
+        }
         CallKind::SetData | CallKind::Create => {
             let [path, bytes, word] = words else {
                 return Err(ScriptFault::Words);

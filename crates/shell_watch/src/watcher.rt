@@ -143,13 +143,13 @@ impl<'a, A: Allocator + Copy, D: Dial + Drop, C: Clock + Drop> Watcher<'a, A, D,
         ensures growth { OnOk result (self.new.growth ≡ grown_by (tree_told news.now) self.old.growth) }
     {
         match news {
-            TreeNews::TakenOn {
+            TreeNews::MemberAdded {
                 ticket,
                 side,
                 path,
                 ..
             } => join(self.alloc, *ticket, *side, path, &mut self.watched),
-            TreeNews::LetGo { ticket, .. } => {
+            TreeNews::MemberRemoved { ticket, .. } => {
                 leave(*ticket, &mut self.watched);
                 Ok(())
             }
@@ -157,7 +157,7 @@ impl<'a, A: Allocator + Copy, D: Dial + Drop, C: Clock + Drop> Watcher<'a, A, D,
                 self.growth.note_bound(*is_bounded);
                 Ok(())
             }
-            TreeNews::Whole { .. } => Ok(()),
+            TreeNews::Complete { .. } => Ok(()),
         }
     }
 

@@ -1,6 +1,6 @@
 -- What is asked later is answered later: the reply to a call that was not asked among earlier items was taken after these, so it is not
 -- below a reply that was told among them.
-use Rattle.std.proofs.Common.{ℕ, ◌≡◌, ◌≤◌, ◌⊎◌, inl, inr, List, [], ◌∷◌, ◌++◌, refl, sym, ap, subst, ◌∙◌, append_assoc}
+use Rattle.std.proofs.Common.{◌≡◌, ◌≤◌, ◌⊎◌, inl, inr, List, [], ◌∷◌, ◌++◌, refl, sym, ap, subst, ◌∙◌, append_assoc}
 use Rattle.zk_nodes.specs.Path.{Text}
 use Rattle.zk_nodes.specs.History.{History, IsHistory, tree_at}
 use Rattle.zk_conversation.specs.Calls.{Call}
@@ -19,8 +19,10 @@ use Rattle.zk_laws.proofs.Outputs.{among_split, given_answers}
 use Rattle.theory_local.specs.LocalSteps.{IsAbout}
 use Rattle.theory_local.specs.LocalServed.{ServedAt, WasSentAt}
 use Rattle.theory_local.specs.LocalHeadline.{AnswersFollow}
-use Rattle.theory_local.proofs.Flow.{IsCalmAt}
-use Rattle.theory_local.proofs.Headlines_at.{stands_here, calm_rest, call_at, reads_follow_at}
+use Rattle.zk_laws.proofs.Matching.{IsCalm}
+use Rattle.zk_laws.proofs.Answered.{calm_before, call_at}
+use Rattle.theory_local.proofs.Local_at.{local}
+use Rattle.theory_local.proofs.Headlines_at.{stands_here, reads_follow_at}
 
 -- a past that has grown
 abbrev IsGrown : Past → Past → Type 0
@@ -68,10 +70,6 @@ onto_base x [] sooner base = refl
 onto_base x (y ∷ later) sooner base = ap (λ l. y ∷ l) (onto_base x later sooner base)
 
 module _ (P : Text → Type 0) (h : History) (is : IsHistory h) (start : Start) where
-  calm_before : (Was : List ℕ → Type 0) (since before : Past) → IsCalmAt P h start Was (since ++ before) → IsCalmAt P h start Was before
-  calm_before Was [] before c = c
-  calm_before Was (x ∷ since) before c = calm_before Was since before (calm_rest P h is start Was x (since ++ before) c)
-
   pub answers_follow_at : (more earlier : List Item) (view : View) → Stands start (more ++ earlier) view
       → ServedAt P h start (more ++ earlier) → AnswersFollow P h start more earlier
   answers_follow_at more earlier view s served first ticket told zxid given result wrote read new plain =
@@ -93,16 +91,16 @@ module _ (P : Text → Type 0) (h : History) (is : IsHistory h) (start : Start) 
       reply : Happening
       reply = Takes_in (Answers_call ticket t.0 zxid result)
 
-      calm : IsCalmAt P h start (WasSentAt served.entries) base
-      calm = calm_before (WasSentAt served.entries) g.0 base
-          (subst (λ past. IsCalmAt P h start (WasSentAt served.entries) past) g.1
+      calm : IsCalm (local P h) start (WasSentAt served.entries) base
+      calm = calm_before (local P h) start (WasSentAt served.entries) g.0 base
+          (subst (λ past. IsCalm (local P h) start (WasSentAt served.entries) past) g.1
           (stands_here P h is start (more ++ earlier) s.asked served).calm)
 
       by : Among reply g.0 ⊎ Among reply base → (from_zero told ≤ from_zero zxid)
           × ((call : Call) × Among (Asked ticket call) (past_of start (more ++ earlier))
           × (IsAbout P call → Reads (tree_at h (from_zero zxid)) (question_of call) result))
       by (inr old) =
-          let c = call_at P h is start (WasSentAt served.entries) base calm ticket t.0 zxid result old in absurd (new c.0 c.1)
+          let c = call_at (local P h) start (WasSentAt served.entries) base calm ticket t.0 zxid result old in absurd (new c.0 c.1)
       by (inl late) =
           let k = parted reply g.0 late in
           let e : past_of start (more ++ earlier) ≡ k.0 ++ reply ∷ (k.1 ++ base) =

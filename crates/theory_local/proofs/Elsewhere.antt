@@ -20,6 +20,7 @@ use Rattle.zk_turns.specs.Meaning.{Among}
 use Rattle.zk_laws.specs.Server.{Notice, Watches, fires_all, leaves_set_all, sets, tree_held, zxid_held, part_tells, part_sets, both}
 use Rattle.zk_laws.specs.Server.{same_side, IsOther}
 use Rattle.zk_laws.specs.Messages.{Message, Replies, Watches_set, Notifies, Request, Restore, Ask}
+use Rattle.zk_laws.proofs.Refusing.{left_refused}
 use Rattle.zk_laws.proofs.Log.{Item, Took, zxid_in, last, good, left_by, leaves, tells_of, Answer, refreshed, answer_of}
 use Rattle.zk_laws.proofs.Steps.{is_behind}
 use Rattle.zk_laws.proofs.Invariant.{IsRight, Ahead, IsCovered, IsSure, IsSettled}
@@ -30,7 +31,7 @@ use Rattle.zk_laws.proofs.Ahead.{IsLess, ahead_more, ahead_right, right_less, to
 use Rattle.zk_laws.proofs.NextMoves.{next_ahead}
 use Rattle.zk_laws.proofs.AnswerMoves.{answer_ahead}
 use Rattle.zk_laws.proofs.PartMoves.{part_ahead}
-use Rattle.zk_laws.proofs.Moving.{refusal}
+use Rattle.zk_laws.proofs.More.{refusal}
 use Rattle.theory_local.specs.LocalSteps.{IsAbout, GivesAt, AreToldAt}
 
 -- ---- notices
@@ -277,12 +278,6 @@ module _ (h : History) (is : IsHistory h) (P : Text → Type 0) (side : Side) (p
           (λ l right end. other_reply rest place watches q r asked e l right end)
 
 -- ---- a reply with the zxid 0 that refuses a call
-
-pub left_refused : (q : Question) (code : ℤ) → left_by q (Refused code) ≡ None
-left_refused (Exists at true) code = refl
-left_refused (GetData at true) code = refl
-left_refused (GetChildren at true) code = refl
-left_refused _ code = refl
 
 module _ (h : History) (side : Side) (path : Text) (rest : List Request) (place : ℕ) (watches : Watches) (q : Call) (code : ℤ) where
   denied_good : (log : List Item) → (good side path (Took (Replies (question_of q) 0 (Refused code)) ∷ log) ≡ None)

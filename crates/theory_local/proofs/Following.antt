@@ -1,6 +1,6 @@
 -- Servers that keep to the model keep to it at each set of paths, entry by entry; and what is free elsewhere: more may be told, and nothing
 -- need be.
-use Rattle.std.proofs.Common.{Bool, true, inl, inr, ◌≡◌, ℕ, List, [], ◌∷◌, ◌++◌, map, refl, sym, ap, subst, ◌∙◌}
+use Rattle.std.proofs.Common.{Bool, true, inl, inr, ◌≡◌, List, [], ◌∷◌, ◌++◌, map, refl, sym, ap, subst, ◌∙◌}
 use Rattle.zk_nodes.specs.Path.{Text}
 use Rattle.zk_nodes.specs.declared.side.Side.TheVariants.{Data, Child}
 use Rattle.zk_records.specs.declared.event.Event.{Event}
@@ -10,29 +10,23 @@ use Rattle.zk_nodes.specs.History.{Tree, History}
 use Rattle.zk_conversation.specs.Calls as call
 use Rattle.zk_conversation.specs.Calls.{Call}
 use Rattle.zk_conversation.specs.Questions.{GetChildren, question_of}
-use Rattle.zk_conversation.specs.Results.{Result, Refused}
 use Rattle.zk_turns.specs.Turns.{Start, Item}
 use Rattle.zk_turns.specs.Past.{Past}
 use Rattle.zk_turns.specs.Taken.{past_of}
 use Rattle.zk_turns.specs.View.{Cache}
-use Rattle.zk_laws.specs.Server.{Notice, AreSent, Gives, fires_all, part_tells, tree_held}
+use Rattle.zk_laws.specs.Server.{Notice, AreSent, fires_all, part_tells, tree_held}
 use Rattle.zk_laws.specs.Messages.{Request}
 use Rattle.zk_laws.specs.ServerSteps.{ServerEnd, ServerStep, Advances, Admits, Refuses, Answers, Restores, Pongs, MayDo, changes_next}
 use Rattle.zk_laws.specs.Served.{Wire, Entry, Goes_on, Serves, items_in, wire_of, unread, MayEnter, IsServing, Served, wire_past, wire_on}
-use Rattle.zk_laws.specs.Server.{HasCode}
 use Rattle.zk_laws.specs.Headline.{IsTrueOf}
 use Rattle.zk_laws.proofs.Basics.{sent_among, Among-left}
-use Rattle.zk_laws.proofs.Moving.{refusal}
+use Rattle.zk_laws.proofs.More.{coded}
 use Rattle.theory_local.specs.LocalSteps.{IsAbout, AreToldAt, MayDoAt}
 use Rattle.theory_local.specs.LocalServed.{LocalEntry, Goes, Steps, Tells, Denies, Fails, items_at, wire_at, MayEnterAt, IsServingAt}
 use Rattle.theory_local.specs.LocalServed.{ServedAt, local_of}
 use Rattle.theory_local.specs.LocalHeadline.{IsTrueAt}
 
 -- ---- the model
-
-coded : (h : History) (place : ℕ) (q : Call) (r : Result) → Gives h place q r → HasCode r
-coded h place q (Refused code) g = (refusal h place q code).0 g
-coded h place q _ g = tt
 
 pub local_items : (entries : List Entry) → items_at (map local_of entries) ≡ items_in entries
 local_items [] = refl

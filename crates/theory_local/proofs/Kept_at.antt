@@ -33,7 +33,8 @@ use Rattle.zk_laws.proofs.Ahead.{ahead_right, ahead_map, ahead_same, right_less,
 use Rattle.zk_laws.proofs.AnswerMoves.{pong_ahead}
 use Rattle.zk_laws.proofs.Joining.{joined}
 use Rattle.theory_local.specs.LocalSteps.{GivesAt, AreToldAt}
-use Rattle.theory_local.proofs.Elsewhere.{told_more, next_at_path, part_at_path, answer_at_path, left_refused, denied_ahead}
+use Rattle.zk_laws.proofs.Refusing.{left_refused}
+use Rattle.theory_local.proofs.Elsewhere.{told_more, next_at_path, part_at_path, answer_at_path, denied_ahead}
 
 -- ---- zxids rise
 

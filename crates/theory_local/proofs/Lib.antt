@@ -2,9 +2,7 @@
 -- nothing ahead of these.
 pub mod Elsewhere
 pub mod Kept_at
-pub mod Flow
-pub mod Taking_at
-pub mod Meeting_at
+pub mod Local_at
 pub mod Moving_at
 pub mod Headlines_at
 pub mod Asking_later

@@ -18,7 +18,7 @@ use Rattle.zk_turns.specs.Turns.{Start}
 use Rattle.zk_turns.specs.Past.{names_of}
 use Rattle.zk_turns.specs.Meaning.{Among}
 use Rattle.zk_turns.specs.Spelled.{HasResult}
-use Rattle.zk_laws.proofs.Moving.{refusal}
+use Rattle.zk_laws.proofs.More.{refusal}
 use Rattle.zk_laws.specs.Server.{Gives, held, tree_held, Fits as FitsView, FitsNames, IsMadeOf}
 use Rattle.zk_laws.specs.Messages.{Ask}
 use Rattle.zk_laws.specs.ServerSteps.{Serving, Answers}

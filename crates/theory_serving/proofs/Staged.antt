@@ -16,13 +16,11 @@ use Rattle.zk_laws.specs.Served.{Sent, Entry, Goes_on, Serves, items_in, Wire, n
 use Rattle.zk_laws.specs.Served.{requests, part_requests, WasSent, IsServing}
 use Rattle.zk_laws.proofs.Log.{Item as Seen}
 use Rattle.zk_laws.proofs.Seen.{seen}
-use Rattle.zk_laws.proofs.Steps.{Connection, Up}
-use Rattle.zk_laws.proofs.Matching.{Letter, messages, connection, Matches}
+use Rattle.zk_laws.proofs.Matching.{messages, connection, Matches}
 use Rattle.zk_laws.proofs.Invariant.{IsOpening, IsKeptUp}
 use Rattle.zk_laws.proofs.Matching.{AllAsked}
 use Rattle.zk_laws.proofs.Moving.{schedule_here}
-use Rattle.zk_laws.proofs.Reaching.{reached_kept}
-use Rattle.zk_laws.proofs.Taking.{up_reached}
+use Rattle.zk_laws.proofs.Reaching.{kept_by_run}
 use Rattle.theory_serving.specs.Wires.{IsFor}
 use Rattle.theory_serving.proofs.Waiting.{first_all}
 
@@ -132,17 +130,17 @@ module _ (h : History) (is : IsHistory h) (start : Start) (entries : List Entry)
   talking e later (Ask call) same = later
   talking e later Ping same = later
 
-  by_state : unread start past wire ≡ first ∷ more → (letters : List Letter) (talks : Bool)
-      → IsKeptUp h (seen start past) (connection start past wire letters) talks → IsFor first.request stage
-  by_state e letters false kept = starting (seen start past) stage (messages letters) wire.server.place (subst (λ (sent : List Sent).
-      IsOpening h (seen start past) stage (map (λ s. s.request) sent) (messages letters) wire.server.place) e kept.opening)
-  by_state e letters true kept = talking e kept.stage first.request refl
+  by_state : unread start past wire ≡ first ∷ more → (messages : List Message) (talks : Bool)
+      → IsKeptUp h (seen start past) (connection talks (map (λ s. s.request) (unread start past wire)) messages wire.server) talks
+      → IsFor first.request stage
+  by_state e messages false kept = starting (seen start past) stage messages wire.server.place (subst (λ (sent : List Sent).
+      IsOpening h (seen start past) stage (map (λ s. s.request) sent) messages wire.server.place) e kept.opening)
+  by_state e messages true kept = talking e kept.stage first.request refl
 
   pub for_stage : AllAsked (items_in entries)
       → IsServing h start entries → is_going past ≡ true → unread start past wire ≡ first ∷ more → IsFor first.request stage
   for_stage asked serving going e =
       let m : Matches h start (WasSent entries) past wire = schedule_here h is start entries asked serving in
       let g = m.going going in
-      let c : Connection = connection start past wire g.0 in
-      by_state e g.0 (is_talking (state_of past)) (reached_kept h (from_zero start.last) (record { log = seen start past; link = Up c }) is
-      (up_reached h start (WasSent entries) past wire m.link g.0 g.1 m.reached))
+      by_state e (messages g.0) (is_talking (state_of past)) (kept_by_run h (from_zero start.last) is (is_talking (state_of past))
+      (seen start past) (map (λ s. s.request) (unread start past wire)) (messages g.0) wire.server g.2.kept)

@@ -103,6 +103,7 @@ pub(crate) fn push_news<A: Allocator>(
 }
 
 /// Adds what a program is told of trees, in order.
+#[inline(always)]
 pub(crate) fn push_trees<A: Allocator>(
     news: Vec<TreeNews<A>, A>,
     actions: &mut Vec<Action<A>, A>,

@@ -42,6 +42,7 @@ impl<A: Allocator + Copy> Agent<A> {
     }
 
     /// Leaves a connection on which a call or a ping has waited for so long.
+    #[inline(always)]
     pub(crate) fn tire(
         &mut self,
         now: u64,

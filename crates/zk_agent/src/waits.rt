@@ -37,6 +37,7 @@ fn end_of<A: Allocator>(patience: u64, line: &VecDeque<u64, A>) -> Option<u64>
 }
 
 /// Adds as many that wait from this moment on.
+#[inline(always)]
 fn add<A: Allocator>(line: &mut VecDeque<u64, A>, count: u64, now: u64) -> Result<(), AllocError>
     ensures { OnOk result (line.new.items ≡ line.old.items ++ replicate count now) }
 {

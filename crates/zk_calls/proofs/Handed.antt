@@ -1,11 +1,13 @@
--- How many calls, the first of them, were handed over: one that is added is behind them, and the next that is handed over is the first of
--- the others.
-use Rattle.std.proofs.Common.{◌≡◌, ◌<◌, ◌≤◌, ◌+◌, ◌++◌, ◌≢◌, nat_lt, ℕ, Bool, true, false, List, [], ◌∷◌, length, get_or, set, refl, ap}
-use Rattle.std.proofs.Common.{◌∙◌, arith}
+-- How many calls, the first of them, were handed over: one that is added is behind them, the next that is handed over is the first of the
+-- others, and where one of them is taken out one less was.
+use Rattle.std.proofs.Common.{◌≡◌, ◌<◌, ◌≤◌, ◌+◌, ◌-◌, ◌++◌, ◌≢◌, nat_lt, ℕ, Bool, true, false, List, [], ◌∷◌, length, get_or, set, refl}
+use Rattle.std.proofs.Common.{◌∙◌, ap, arith}
 use Rattle.std.proofs.Math.ListN.{length-set}
+use Rattle.std.specs.List.{remove}
 use Rattle.std.proofs.lemmas.Bool.Decides.{nat_tests}
 use Rattle.std.proofs.lemmas.Grind.{common_steps}
 use Rattle.std.proofs.lemmas.List.{get_or-set_same, get_or-set_other}
+use Rattle.std.proofs.lemmas.List.Edits.{get_or-remove_above, get_or-remove_below, length-remove}
 use Rattle.zk_calls.specs.declared.entry.Entry.{Entry}
 use Rattle.zk_calls.specs.Lines.{waits_turn}
 use Rattle.zk_calls.specs.Orders.{AreHanded}
@@ -40,3 +42,25 @@ module _ {A : Type 0} (entries : List (Entry A)) where
   handed_next place entry below none its =
       let within : place + 1 ≤ length (set entries place entry) = simp length-set (omega arith) in
       (within, λ k d upto. one_handed place entry below none its k d (nat_lt k place) refl upto)
+
+  -- one of them is taken out
+  one_gone : (count place : ℕ)
+      → place < length entries → place < count → ((k : ℕ) (d : Entry A) → k < count → waits_turn (get_or entries k d) ≡ false)
+      → (k : ℕ) (d : Entry A) (less : Bool) → nat_lt k place ≡ less → k < count - 1
+      → waits_turn (get_or (remove entries place) k d) ≡ false
+  one_gone count place below before are k d true sooner upto =
+      let less : k < place = grind (arith, nat_tests) in
+      let inside : k < count = omega arith in
+      ap waits_turn (get_or-remove_below entries place d k less below) ∙ are k d inside
+  one_gone count place below before are k d false later upto =
+      let from : place ≤ k = grind (arith, nat_tests) in
+      let inside : k + 1 < count = omega arith in
+      ap waits_turn (get_or-remove_above entries place d k from below) ∙ are (k + 1) d inside
+
+  pub handed_removed : (count place : ℕ)
+      → place < length entries → place < count → AreHanded count entries → AreHanded (count - 1) (remove entries place)
+  handed_removed count place below before are =
+      let shorter : length (remove entries place) + 1 ≡ length entries = length-remove entries place below in
+      let long : count ≤ length entries = are.0 in
+      let within : count - 1 ≤ length (remove entries place) = omega arith in
+      (within, λ k d upto. one_gone count place below before are.1 k d (nat_lt k place) refl upto)

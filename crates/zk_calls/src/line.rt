@@ -155,6 +155,9 @@ impl<A: Allocator + Copy> Line<A> {
     fn has_none(&self, ending: Ending) -> bool
         ensures { result ≡ true → ended ending self.now.entries.items ≡ [] }
     {
+        if self.entries.is_empty() {
+            return true;
+        }
         match ending {
             Ending::LostOf(ticket) => {
                 self.tickets_rise && place_of(&self.entries, self.tickets_rise, ticket).is_none()

@@ -31,6 +31,18 @@ pub(crate) fn place_of_next<A: Allocator>(
     None
 }
 
+/// Takes the call at this place out. The first one leaves without a look at the others.
+fn leave<A: Allocator>(entries: &mut VecDeque<Entry<A>, A>, place: usize)
+    requires { place < length entries.old.items }
+    ensures { entries.new.items ≡ remove entries.old.items place }
+{
+    if place == 0 {
+        drop(entries.pop_front());
+        return;
+    }
+    drop(entries.remove(place));
+}
+
 /// Takes a call out, and its limit.
 fn take_out<A: Allocator + Copy>(
     entries: &mut VecDeque<Entry<A>, A>,
@@ -46,7 +58,7 @@ fn take_out<A: Allocator + Copy>(
     ensures limits { AreLimits limits.new entries.new.items }
 {
     limits.take(entries[place].until);
-    let _entry = entries.remove(place);
+    leave(entries, place);
     if place < *handed {
         *handed -= 1;
     }

@@ -278,6 +278,7 @@ impl<A: Allocator + Copy> Client<A> {
     }
 
     /// Takes what is given, and adds the outputs that it makes due.
+    #[inline(always)]
     fn apply(&mut self, given: Given<'_, A>, outputs: &mut Vec<Output<A>, A>) -> Result<(), Halt>
         ensures rule { OnOk result
             (Adds (view_of self.old) (given_view given.entry) (said outputs.old.items) (said outputs.new.items) (view_of self.new)) }

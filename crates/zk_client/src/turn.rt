@@ -36,6 +36,7 @@ pub(crate) fn known_of_given<A: Allocator + Copy>(given: &Given<'_, A>) -> usize
 }
 
 /// Takes what is given.
+#[inline(always)]
 pub(crate) fn turn<A: Allocator + Copy>(
     core: &mut Core<A>,
     reader: &mut FrameReader<A>,

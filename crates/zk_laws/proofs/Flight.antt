@@ -1,18 +1,14 @@
 -- What is between a client and its server: letters in flight to the client, requests that are not processed yet, and what
 -- the client waits for.
-use Rattle.zk_turns.specs.Past.{Asking, For_part, parts_asked, Past}
+use Rattle.zk_turns.specs.Past.{Asking, For_part, parts_asked}
 use Rattle.zk_watches.specs.Lists.{Lists}
 use Rattle.std.proofs.Common.{◌≡◌, ℕ, zero, suc, ◌+◌, ◌≤◌, ℤ, Bool, true, false, cond, List, [], ◌∷◌, ◌++◌, map, drop, length, refl, sym}
 use Rattle.std.proofs.Common.{ap, subst, ◌∙◌, arith, append_assoc}
 use Rattle.std.proofs.lemmas.List.{append-nil, drop-append-le}
-use Rattle.zk_turns.specs.Turns.{Start}
-use Rattle.zk_nodes.specs.History.{History}
 use Rattle.zk_laws.specs.Messages.{Restore, from_zero}
 use Rattle.zk_laws.proofs.Steps.{restores}
-use Rattle.zk_laws.specs.Served.{Sent, part_requests, Wire, is_going}
-use Rattle.zk_laws.proofs.Matching.{Owes, Matches, WaitsFor}
-
--- ---- letters
+use Rattle.zk_laws.specs.Served.{Sent, part_requests}
+use Rattle.zk_laws.proofs.Matching.{Owes, WaitsFor}
 
 -- ---- requests
 
@@ -66,11 +62,3 @@ drop_one (suc n) (y ∷ xs) x more e =
     let r = drop_one n xs x more e in
     let le = r.1 in
     (ap (λ m. drop m (y ∷ xs)) (let f : suc n + 1 ≡ suc (n + 1) = omega arith in f) ∙ r.0, omega arith)
-
--- ---- a client and its server
-
--- with no connection the server does not matter
-pub still : (h : History) (start : Start) (Was : List ℕ → Type 0) (past : Past) (wire other : Wire)
-    → is_going past ≡ false → Matches h start Was past wire → Matches h start Was past other
-still h start Was past wire other off s =
-    record { link = s.link; reached = s.reached; going = λ e. absurd cc; calm = s.calm; counted = s.counted }

@@ -19,6 +19,7 @@ pub mod Flight
 pub mod Taking
 pub mod Meeting
 pub mod Moving
+pub mod Answered
 pub mod Headlines
 pub mod Parsed
 pub mod Found
@@ -32,3 +33,6 @@ pub mod Run
 pub mod Invariant
 pub mod Seen
 pub mod Matching
+pub mod Between
+pub mod Refusing
+pub mod Serving

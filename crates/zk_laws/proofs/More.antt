@@ -1,19 +1,19 @@
 -- The other laws of a run: the last seen zxid never falls, no message is behind, where all is quiet what is good agrees with the server,
 -- and each reply was given by a server somewhere. Each is kept by every move.
-use Rattle.std.proofs.Common.{ℕ, zero, suc, ◌≡◌, ◌≤◌, Bool, true, false, List, [], ◌∷◌, ◌++◌, refl, sym, subst, inl, inr, arith, Option}
+use Rattle.std.proofs.Common.{ℕ, zero, suc, ℤ, ◌≡◌, ◌≤◌, Bool, true, false, List, [], ◌∷◌, ◌++◌, refl, sym, subst, inl, inr, arith, Option}
 use Rattle.std.proofs.Common.{Some, None, if◌then◌else◌, map, take}
 use Rattle.std.specs.Bool.{⊤}
 use Rattle.zk_nodes.specs.DataStats.{data_stat_of}
 use Rattle.zk_nodes.specs.Path.{Text, path_of}
 use Rattle.zk_nodes.specs.History.{tree_at, Tree, Change, Creates, Sets, Deletes, Transaction, History, IsHistory, newest, view}
-use Rattle.zk_conversation.specs.Calls.{Call, Exists, GetData, GetChildren, SetData, Create, Delete}
+use Rattle.zk_conversation.specs.Calls.{Call, Exists, GetData, GetChildren, SetData, Create, Delete, Close, Raw}
 use Rattle.zk_nodes.specs.declared.side.Side.{Side}
 use Rattle.zk_nodes.specs.declared.side.Side.TheVariants.{Data, Child}
 use Rattle.zk_conversation.specs.Questions.{Question, question_of}
-use Rattle.zk_conversation.specs.Results.{Result, NoNode, Found, Read, Listing, Made, Done}
+use Rattle.zk_conversation.specs.Results.{Result, NoNode, Refused, Found, Read, Listing, Made, Done}
 use Rattle.zk_turns.specs.Past.{names_of}
 use Rattle.zk_turns.specs.Meaning.{Among}
-use Rattle.zk_laws.specs.Server.{Reads, FitsNames, Notice, held, tree_held, zxid_held, LastHolds, Gives}
+use Rattle.zk_laws.specs.Server.{Reads, FitsNames, Notice, HasCode, IsOther, held, tree_held, zxid_held, LastHolds, Gives}
 use Rattle.zk_laws.specs.Messages.{Message, Accepted, Expired, Replies, Watches_set, Notifies, Pong, Request, Connect, Restore, Ask, Ping}
 use Rattle.zk_laws.proofs.Log.{Item, Lost, Took, last, good, Answer, Absent, Known, Full, Suits}
 use Rattle.zk_laws.proofs.Steps.{is_behind, ends, Connection, Link, Down, Up, World, Step, Asks, Pings, Joins, Takes, rest_of, MayStep}
@@ -86,7 +86,7 @@ never_behind h is saved moves may = none_behind h (run h moves (start saved)) (r
 
 -- Quiet agreement
 
-not_awaited : (side : Side) (path : Text) (a : Answer) (z : ℕ) (requests : List Request)
+pub not_awaited : (side : Side) (path : Text) (a : Answer) (z : ℕ) (requests : List Request)
     → AreRestored requests → IsAwaited side path a z requests → ⊥
 not_awaited side path a z [] r w = w
 not_awaited side path a z (Restore b x p ∷ rest) r w = r
@@ -239,6 +239,22 @@ among_take (suc n) x (y ∷ ys) (inr a) = inr (among_take n x ys a)
 
 holds_change : (h : History) (n : ℕ) (c : Change) → LastHolds c (held h n) → HasChange h (zxid_held h n) c
 holds_change h n c l = let r = last_holds 0 c (held h n) l in (r.0, among_take n r.0 h.transactions r.1, r.2, r.3)
+
+-- each call is refused with every code that means no other thing
+pub refusal : (h : History) (place : ℕ) (q : Call) (code : ℤ)
+    → (Gives h place q (Refused code) → IsOther code) × (IsOther code → Gives h place q (Refused code))
+refusal h place (Exists a b) code = (λ g. g, λ g. g)
+refusal h place (GetData a b) code = (λ g. g, λ g. g)
+refusal h place (GetChildren a b) code = (λ g. g, λ g. g)
+refusal h place (SetData a b c) code = (λ g. g, λ g. g)
+refusal h place (Create a b c) code = (λ g. g, λ g. g)
+refusal h place (Delete a b) code = (λ g. g, λ g. g)
+refusal h place Close code = (λ g. g, λ g. g)
+refusal h place (Raw a b) code = (λ g. g, λ g. g)
+
+pub coded : (h : History) (place : ℕ) (q : Call) (r : Result) → Gives h place q r → HasCode r
+coded h place q (Refused code) g = (refusal h place q code).0 g
+coded h place q _ g = tt
 
 pub given_write : (h : History) (n : ℕ) (q : Call) (r : Result) → Gives h n q r → IsTrueWrite h q (zxid_held h n) r
 given_write h n (SetData p content v) (Found f) g = holds_change h n (Sets (path_of p) content) g.0

@@ -1,145 +1,150 @@
--- Each happening of a client that is served is a move of a run: happening by happening, by what is first in flight and what waits first.
-use Rattle.zk_laws.proofs.Flight.{awaited_less, awaited_more, owes_append, owes_one, unread_more}
+-- Each happening of a client keeps what is between it and its servers: happening by happening, by what is first in flight and what waits
+-- first.
+use Rattle.std.proofs.Common.{◌≡◌, ℕ, ◌≤◌, ◌<◌, ℤ, pos, negsuc, Bool, true, false, ◌&&◌, List, [], ◌∷◌, ◌++◌, map, drop, length, refl, sym}
+use Rattle.std.proofs.Common.{ap, subst, ◌∙◌, arith, append_assoc}
+use Rattle.std.proofs.lemmas.List.{length-append, append-nil, map-append}
+use Rattle.zk_nodes.specs.History.{History}
 use Rattle.zk_conversation.specs.Calls.{Call, call_payload, ping_payload}
+use Rattle.zk_conversation.specs.Questions.{Question, Close}
+use Rattle.zk_conversation.specs.Results.{Result}
+use Rattle.zk_turns.specs.Turns.{Start, Outcome, Fault, IsAskable}
 use Rattle.zk_turns.specs.Past.{is_open, Asking, For_call, For_part, awaited, pending_for, Past, Began, Came, Dropped, Asked, Denied}
 use Rattle.zk_turns.specs.Past.{Pinged, Ticked, Forgot, is_talking, state_of, held_of, xid_of, answered, questions, Took as Takes_in}
 use Rattle.zk_turns.specs.Past.{Lost as Loses_it, Halted as Halts_now, Replies as Answers_call, Watches_set as Sets_watches}
 use Rattle.zk_turns.specs.Past.{Notifies as Tells, Pong as Echo}
-use Rattle.std.proofs.Common.{◌≡◌, ℕ, ◌≤◌, ◌<◌, ℤ, pos, negsuc, Bool, true, false, cond, ◌&&◌, List, [], ◌∷◌, ◌++◌, map, drop, length, refl}
-use Rattle.std.proofs.Common.{sym, ap, subst, ◌∙◌, arith, append_assoc, inl}
-use Rattle.std.specs.Prelude.{if◌then◌else◌}
-use Rattle.std.proofs.lemmas.List.{length-append, append-nil, map-append}
-use Rattle.zk_turns.specs.Turns.{Start, Outcome, Fault, IsAskable}
-use Rattle.zk_conversation.specs.Questions.{Question, Close}
-use Rattle.zk_conversation.specs.Results.{Result}
 use Rattle.zk_turns.proofs.Stepped.{Counted, counted_next, Waits, waits}
-use Rattle.zk_nodes.specs.History.{History}
 use Rattle.zk_laws.specs.Server.{Notice}
-use Rattle.zk_laws.specs.Messages.{Message, Replies, Watches_set, Notifies, Pong, Request, Ask, Ping, from_zero}
-use Rattle.zk_laws.proofs.Log.{Lost, Took, last}
-use Rattle.zk_laws.proofs.Steps.{Connection, Link, Up, Down, World, Asks, Pings, Takes, is_behind, ends}
-use Rattle.zk_laws.proofs.Run.{Opens, Loses, Halts, Forgets_stale, Goes, opened}
-use Rattle.zk_laws.proofs.Seen.{seen}
+use Rattle.zk_laws.specs.Messages.{Message, Connect, Replies, Watches_set, Notifies, Pong, Request, Ask, Ping, from_zero}
+use Rattle.zk_laws.specs.ServerSteps.{Stage}
 use Rattle.zk_laws.specs.Served.{Sent, requests, unread, Wire, new_wire, is_going}
+use Rattle.zk_laws.proofs.Log.{Opened, Took, last}
+use Rattle.zk_laws.proofs.Steps.{is_behind, ends}
+use Rattle.zk_laws.proofs.Seen.{seen}
 use Rattle.zk_laws.proofs.Seeing.{last_is}
-use Rattle.zk_laws.proofs.Matching.{IsDue, AnswersFirst, IsCalm, Reached, Letter, frames, messages, answers, AreLater, Owes, connection}
-use Rattle.zk_laws.proofs.Matching.{InFlight, Matches, WaitsFor}
-use Rattle.zk_laws.proofs.Reaching.{reach, reach_as}
+use Rattle.zk_laws.proofs.Flight.{awaited_less, awaited_more, owes_append, owes_one, unread_more}
+use Rattle.zk_laws.proofs.Between.{Invariant, IsInvariant}
+use Rattle.zk_laws.proofs.Matching.{Letter, frames, messages, answers, AreLater, Owes, WaitsFor, Tail, Nothing_more, Failure, tail_bytes}
+use Rattle.zk_laws.proofs.Matching.{IsDue, IsAnswered, IsTail, InFlight, IsCalm, Meets}
 
-module _ (h : History) (start : Start) (Was : List ℕ → Type 0) where
+module _ (h : History) (start : Start) (v : Invariant) (keeps : IsInvariant h (from_zero start.last) v) (Was : List ℕ → Type 0) where
   -- ---- happenings that leave no item
 
-  pub ticked : (moment : ℕ) (past : Past) (wire : Wire) → Matches h start Was past wire → Matches h start Was (Ticked moment ∷ past) wire
+  pub ticked : (moment : ℕ) (past : Past) (wire : Wire)
+      → Meets v start Was past wire → Meets v start Was (Ticked moment ∷ past) wire
   ticked moment past wire s = record {
-    link = s.link;
-    reached = s.reached;
+    right = s.right;
     calm = s.calm;
     counted = s.counted;
     going = λ e. let g = s.going e in (
       g.0,
+      g.1,
       record {
-        up = g.1.up;
-        enough = g.1.enough;
-        are = g.1.are;
-        bytes = g.1.bytes;
-        owed = g.1.owed;
-        owes = g.1.owes;
-        pending = g.1.pending;
-        later = g.1.later;
+        enough = g.2.enough;
+        are = g.2.are;
+        bytes = g.2.bytes;
+        owed = g.2.owed;
+        owes = g.2.owes;
+        pending = g.2.pending;
+        later = g.2.later;
+        ended = g.2.ended;
+        kept = g.2.kept;
       },
     );
   }
 
   pub denied : (ticket : ℕ) (why : Outcome) (past : Past) (wire : Wire)
-      → Matches h start Was past wire → Matches h start Was (Denied ticket why ∷ past) wire
+      → Meets v start Was past wire → Meets v start Was (Denied ticket why ∷ past) wire
   denied ticket why past wire s = record {
-    link = s.link;
-    reached = s.reached;
+    right = s.right;
     calm = s.calm;
     counted = s.counted;
     going = λ e. let g = s.going e in (
       g.0,
+      g.1,
       record {
-        up = g.1.up;
-        enough = g.1.enough;
-        are = g.1.are;
-        bytes = g.1.bytes;
-        owed = g.1.owed;
-        owes = g.1.owes;
-        pending = g.1.pending;
-        later = g.1.later;
+        enough = g.2.enough;
+        are = g.2.are;
+        bytes = g.2.bytes;
+        owed = g.2.owed;
+        owes = g.2.owes;
+        pending = g.2.pending;
+        later = g.2.later;
+        ended = g.2.ended;
+        kept = g.2.kept;
       },
     );
   }
 
-  pub came : (byte : ℕ) (rest : List ℕ) (past : Past) (wire : Wire)
-      → wire.coming ≡ byte ∷ rest → Matches h start Was past wire → Matches h start Was (Came byte ∷ past) (record wire { coming = rest })
+  pub came : (byte : ℕ) (rest : List ℕ) (past : Past) (wire : Wire) → wire.coming ≡ byte ∷ rest → Meets v start Was past wire
+      → Meets v start Was (Came byte ∷ past) (record wire { coming = rest })
   came byte rest past wire c s = record {
-    link = s.link;
-    reached = s.reached;
+    right = s.right;
     calm = s.calm;
     counted = s.counted;
     going = λ e. let g = s.going e in (
       g.0,
+      g.1,
       record {
-        up = g.1.up;
-        enough = g.1.enough;
-        are = g.1.are;
-        owed = g.1.owed;
-        owes = g.1.owes;
-        pending = g.1.pending;
-        later = g.1.later;
-        bytes = append_assoc (held_of past) (byte ∷ []) rest ∙ ap (λ l. held_of past ++ l) (sym c) ∙ g.1.bytes;
+        enough = g.2.enough;
+        are = g.2.are;
+        owed = g.2.owed;
+        owes = g.2.owes;
+        pending = g.2.pending;
+        later = g.2.later;
+        ended = g.2.ended;
+        kept = g.2.kept;
+        bytes = append_assoc (held_of past) (byte ∷ []) rest ∙ ap (λ l. held_of past ++ l) (sym c) ∙ g.2.bytes;
       },
     );
   }
 
   -- ---- ends
 
-  -- what happens is a move of the run, and leaves no connection
-  over_by : (now : Past) (wire : Wire) → Reached h (from_zero start.last) (record { log = seen start now; link = Down })
-      → IsCalm h start Was now → answered now ≤ length (questions now)
-      → is_going now ≡ false → Matches h start Was now wire
-  over_by now wire r calm counted off =
-      record { link = Down; reached = r; calm = calm; counted = counted; going = λ e. absurd (let f = sym off ∙ e in cc) }
+  over_by : (now : Past) (wire : Wire) → v.right (seen start now) → IsCalm v start Was now → answered now ≤ length (questions now)
+      → is_going now ≡ false → Meets v start Was now wire
+  over_by now wire right calm counted off =
+      record { right = right; calm = calm; counted = counted; going = λ e. absurd (let f = sym off ∙ e in cc) }
 
-  pub lost : (past : Past) (wire : Wire) → Matches h start Was past wire → Matches h start Was (Loses_it ∷ past) wire
-  lost past wire s = over_by (Loses_it ∷ past) wire
-      (reach h (from_zero start.last) (record { log = seen start past; link = s.link }) Loses s.reached tt) s.calm s.counted refl
+  -- with no connection the server does not matter
+  pub still : (past : Past) (wire other : Wire)
+      → is_going past ≡ false → Meets v start Was past wire → Meets v start Was past other
+  still past wire other off s = over_by past other s.right s.calm s.counted off
+
+  pub lost : (past : Past) (wire : Wire) → Meets v start Was past wire → Meets v start Was (Loses_it ∷ past) wire
+  lost past wire s = over_by (Loses_it ∷ past) wire (keeps.loses (seen start past) s.right) s.calm s.counted refl
 
   pub dropped : (fault : Fault) (past : Past) (wire : Wire)
-      → IsDue start Was fault past → Matches h start Was past wire → Matches h start Was (Dropped fault ∷ past) wire
+      → IsDue v start Was fault past → Meets v start Was past wire → Meets v start Was (Dropped fault ∷ past) wire
   dropped fault past wire why s =
-      over_by (Dropped fault ∷ past) wire
-      (reach h (from_zero start.last) (record { log = seen start past; link = s.link }) Loses s.reached tt)
-      ((why, s.calm.0), s.calm.1, s.calm.2) s.counted refl
+      over_by (Dropped fault ∷ past) wire (keeps.loses (seen start past) s.right) (why, s.calm) s.counted refl
 
   pub and_false : (b : Bool) → (b && false) ≡ false
   and_false true = refl
   and_false false = refl
 
-  pub halted : (past : Past) (wire : Wire) → Matches h start Was past wire → Matches h start Was (Halts_now ∷ past) wire
+  pub halted : (past : Past) (wire : Wire) → Meets v start Was past wire → Meets v start Was (Halts_now ∷ past) wire
   halted past wire s =
-      over_by (Halts_now ∷ past) wire (reach h (from_zero start.last) (record { log = seen start past; link = s.link }) Halts s.reached tt)
-      s.calm s.counted (and_false (is_open (state_of past)))
+      over_by (Halts_now ∷ past) wire (keeps.halts (seen start past) s.right) s.calm s.counted (and_false (is_open (state_of past)))
 
-  pub forgot : (past : Past) (wire : Wire) → Matches h start Was past wire → Matches h start Was (Forgot ∷ past) wire
+  pub forgot : (past : Past) (wire : Wire) → Meets v start Was past wire → Meets v start Was (Forgot ∷ past) wire
   forgot past wire s = record {
-    link = s.link;
-    reached = reach h (from_zero start.last) (record { log = seen start past; link = s.link }) Forgets_stale s.reached tt;
+    right = keeps.forgets (seen start past) s.right;
     calm = s.calm;
     counted = s.counted;
     going = λ e. let g = s.going e in (
       g.0,
+      g.1,
       record {
-        up = g.1.up;
-        enough = g.1.enough;
-        are = g.1.are;
-        bytes = g.1.bytes;
-        owed = g.1.owed;
-        owes = g.1.owes;
-        pending = g.1.pending;
-        later = g.1.later;
+        enough = g.2.enough;
+        are = g.2.are;
+        bytes = g.2.bytes;
+        owed = g.2.owed;
+        owes = g.2.owes;
+        pending = g.2.pending;
+        later = g.2.later;
+        ended = g.2.ended;
+        kept = keeps.forgets_up (is_talking (state_of past)) (seen start past) (map (λ s. s.request) (unread start past wire))
+            (messages g.0) wire.server g.2.kept;
       },
     );
   }
@@ -147,45 +152,44 @@ module _ (h : History) (start : Start) (Was : List ℕ → Type 0) where
   -- ---- a connection begins
 
   pub began : (place : ℕ) (past : Past) (wire : Wire)
-      → place ≤ length h.transactions → Matches h start Was past wire → Matches h start Was (Began ∷ past) (new_wire place)
-  began place past wire may s = record {
-    link = Up (opened (last (seen start past)) place);
-    reached = reach h (from_zero start.last) (record { log = seen start past; link = s.link }) (Opens place) s.reached may;
-    calm = s.calm;
-    counted = omega arith;
-    going = λ e. (
-      [],
+      → place ≤ length h.transactions → Meets v start Was past wire → Meets v start Was (Began ∷ past) (new_wire place)
+  began place past wire may s =
+      let opened : v.kept false (Opened ∷ seen start past) (Connect (last (seen start past)) ∷ []) [] (new_wire place).server =
+      keeps.opens (seen start past) place may s.right in
       record {
-        up = ap (λ z. Up (opened z place)) (last_is start past);
-        enough = omega arith;
-        are = tt;
-        bytes = refl;
-        owed = [];
-        owes = ([], [], refl, refl, refl);
-        pending = refl;
-        later = λ t. absurd cc;
-      },
-    );
-  }
+        right = keeps.up false (Opened ∷ seen start past) (Connect (last (seen start past)) ∷ []) [] (new_wire place).server opened;
+        calm = s.calm;
+        counted = omega arith;
+        going = λ e. (
+          [],
+          Nothing_more,
+          record {
+            enough = omega arith;
+            are = tt;
+            bytes = refl;
+            owed = [];
+            owes = ([], [], refl, refl, refl);
+            pending = refl;
+            later = λ t. absurd cc;
+            ended = tt;
+            kept = subst (λ z. v.kept false (Opened ∷ seen start past) (Connect z ∷ []) [] (new_wire place).server) (last_is start past)
+                opened;
+          },
+        );
+      }
 
   -- ---- on an open connection
 
-  pub up_reached : (past : Past) (wire : Wire) (link : Link) (letters : List Letter)
-      → InFlight h start Was past wire link letters → Reached h (from_zero start.last) (record { log = seen start past; link = link })
-      → Reached h (from_zero start.last) (record { log = seen start past; link = Up (connection start past wire letters) })
-  up_reached past wire link letters g r = reach_as h (from_zero start.last) (record { log = seen start past; link = link })
-      (record { log = seen start past; link = Up (connection start past wire letters) })
-      (ap (λ l. record { log = seen start past; link = l }) g.up) r
+  pub talking_of : (past : Past) (wire : Wire) (letters : List Letter) (tail : Tail)
+      → is_talking (state_of past) ≡ true → InFlight v start Was past wire letters tail
+      → v.kept true (seen start past) (map (λ s. s.request) (unread start past wire)) (messages letters) wire.server
+  talking_of past wire letters tail talks g =
+      subst (λ b. v.kept b (seen start past) (map (λ s. s.request) (unread start past wire)) (messages letters) wire.server) talks g.kept
 
-  abbrev pub with_requests : Past → Wire → List Letter → List Request → Link
-  with_requests past wire letters rs = Up (record {
-    requests = rs;
-    messages = messages letters;
-    place = wire.server.place;
-    watches = wire.server.watches;
-    stage = wire.server.stage;
-    talking = is_talking (state_of past);
-  })
+  tail_more : (tail : Tail) (stage : Stage) (owed mine : List Asking)
+      → IsTail v start Was tail stage owed → IsTail v start Was tail stage (owed ++ mine)
+  tail_more Nothing_more stage owed mine t = tt
+  tail_more (Failure payload rest) stage owed mine t = (t.0, t.1, t.2, t.3, t.4, t.5 ++ mine, ap (λ l. l ++ mine) t.6, t.7)
 
   asked_requests : (past : Past) (wire : Wire) (s : Sent) → wire.processed ≤ length (requests start past)
       → map (λ s. s.request) (unread start past wire) ++ s.request ∷ []
@@ -194,20 +198,18 @@ module _ (h : History) (start : Start) (Was : List ℕ → Type 0) where
       sym (map-append (λ s. s.request) (unread start past wire) (s ∷ []))
       ∙ ap (λ l. map (λ s. s.request) l) (sym (unread_more wire.processed (requests start past) (s ∷ []) le))
 
-  -- what is in flight after one request more, and what it asks waits
-  request_more : (past now : Past) (wire : Wire) (link : Link) (ls : List Letter) (s : Sent) (mine : List Asking)
-      (g : InFlight h start Was past wire link ls)
-      → with_requests past wire ls (map (λ s. s.request) (unread start now wire)) ≡ Up (connection start now wire ls)
-      → requests start past ++ s ∷ [] ≡ requests start now → held_of now ≡ held_of past
-      → WaitsFor s.xid s.request mine → awaited now ≡ awaited past ++ mine → AreLater (messages ls)
-      → InFlight h start Was now wire (with_requests past wire ls (map (λ s. s.request) (unread start past wire) ++ s.request ∷ [])) ls
-  request_more past now wire link ls s mine g same asked held waits more later =
+  -- one request more, and what it asks waits
+  request_more : (past now : Past) (wire : Wire) (ls : List Letter) (tail : Tail) (s : Sent) (mine : List Asking)
+      → is_talking (state_of past) ≡ true → (g : InFlight v start Was past wire ls tail)
+      → v.kept true (seen start now) (map (λ s. s.request) (unread start past wire) ++ s.request ∷ []) (messages ls) wire.server
+      → state_of now ≡ state_of past → requests start past ++ s ∷ [] ≡ requests start now → held_of now ≡ held_of past
+      → WaitsFor s.xid s.request mine → awaited now ≡ awaited past ++ mine → InFlight v start Was now wire ls tail
+  request_more past now wire ls tail s mine talks g t state asked held waits more =
       let n = length-append (requests start past) (s ∷ []) in
       let le = g.enough in
       let enough : wire.processed ≤ length (requests start past ++ s ∷ []) = omega arith in
       let behind = ap (drop wire.processed) asked in
       record {
-        up = ap (with_requests past wire ls) (asked_requests past wire s g.enough ∙ ap (map (λ s. s.request)) behind) ∙ same;
         enough = subst (λ l. wire.processed ≤ length l) asked enough;
         are = g.are;
         bytes = ap (λ l. l ++ wire.coming) held ∙ g.bytes;
@@ -215,170 +217,144 @@ module _ (h : History) (start : Start) (Was : List ℕ → Type 0) where
         owes = subst (λ l. Owes l (g.owed ++ mine)) (sym (unread_more wire.processed (requests start past) (s ∷ []) g.enough) ∙ behind)
             (owes_append (unread start past wire) (s ∷ []) g.owed mine g.owes (owes_one s mine waits));
         pending = more ∙ ap (λ l. l ++ mine) g.pending ∙ append_assoc (answers ls) g.owed mine;
-        later = λ t. later;
+        later = λ t. g.later talks;
+        ended = tail_more tail wire.server.stage g.owed mine g.ended;
+        kept = subst (λ b. v.kept b (seen start now) (map (λ s. s.request) (unread start now wire)) (messages ls) wire.server)
+            (sym (ap is_talking state ∙ talks))
+            (subst (λ rs. v.kept true (seen start now) rs (messages ls) wire.server)
+            (asked_requests past wire s g.enough ∙ ap (map (λ s. s.request)) behind) t);
       }
 
   pub asked : (ticket : ℕ) (question : Call) (past : Past) (wire : Wire) → is_going past ≡ true → is_talking (state_of past) ≡ true
-      → IsAskable question → Matches h start Was past wire → Matches h start Was (Asked ticket question ∷ past) wire
+      → IsAskable question → Meets v start Was past wire → Meets v start Was (Asked ticket question ∷ past) wire
   asked ticket question past wire on talks may s =
       let g = s.going on in
       let sent : Sent = record { payload = call_payload (pos (xid_of past)) question; xid = pos (xid_of past); request = Ask question } in
       let waiting : Asking = For_call (xid_of past) ticket question in
-      let r = reach h (from_zero start.last) (record { log = seen start past; link = Up (connection start past wire g.0) })
-      (Goes (Asks question)) (up_reached past wire s.link g.0 g.1 s.reached) (talks, may) in
       record {
-        link = with_requests past wire g.0 (map (λ s. s.request) (unread start past wire) ++ Ask question ∷ []);
-        reached = r;
+        right = s.right;
         calm = s.calm;
         counted = counted_next (Asked ticket question) past (talks, s.counted) s.counted;
         going = λ e. (
           g.0,
-          request_more past (Asked ticket question ∷ past) wire s.link g.0 sent (waiting ∷ []) g.1 refl refl refl
-              (ticket, xid_of past, refl, refl)
-              (awaited_more (is_talking (state_of past)) (answered past) (questions past) waiting talks s.counted) (g.1.later talks),
+          g.1,
+          request_more past (Asked ticket question ∷ past) wire g.0 g.1 sent (waiting ∷ []) talks g.2
+              (keeps.asks (seen start past) (map (λ s. s.request) (unread start past wire)) (messages g.0) wire.server question may
+              (talking_of past wire g.0 g.1 talks g.2)) refl refl refl (ticket, xid_of past, refl, refl)
+              (awaited_more (is_talking (state_of past)) (answered past) (questions past) waiting talks s.counted),
         );
       }
 
-  pub pinged : (past : Past) (wire : Wire)
-      → is_going past ≡ true → is_talking (state_of past) ≡ true → Matches h start Was past wire → Matches h start Was (Pinged ∷ past) wire
+  pub pinged : (past : Past) (wire : Wire) → is_going past ≡ true → is_talking (state_of past) ≡ true → Meets v start Was past wire
+      → Meets v start Was (Pinged ∷ past) wire
   pinged past wire on talks s =
       let g = s.going on in
       let sent : Sent = record { payload = ping_payload; xid = negsuc 1; request = Ping } in
-      let r = reach h (from_zero start.last) (record { log = seen start past; link = Up (connection start past wire g.0) }) (Goes Pings)
-      (up_reached past wire s.link g.0 g.1 s.reached) talks in
       record {
-        link = with_requests past wire g.0 (map (λ s. s.request) (unread start past wire) ++ Ping ∷ []);
-        reached = r;
+        right = s.right;
         calm = s.calm;
         counted = s.counted;
         going = λ e. (
           g.0,
-          request_more past (Pinged ∷ past) wire s.link g.0 sent [] g.1 refl refl refl refl
-              (sym (append-nil (awaited past))) (g.1.later talks),
+          g.1,
+          request_more past (Pinged ∷ past) wire g.0 g.1 sent [] talks g.2
+              (keeps.pings (seen start past) (map (λ s. s.request) (unread start past wire)) (messages g.0) wire.server
+              (talking_of past wire g.0 g.1 talks g.2)) refl refl refl refl (sym (append-nil (awaited past))),
         );
       }
 
   -- ---- messages that are taken
 
-  -- what is taken: the first letter is gone, and the bytes since it are none
-  took_world : (past : Past) (wire : Wire) (link : Link) (m : Message) (xid : ℤ) (p : List ℕ) (ps : List Asking) (ls : List Letter)
+  -- the first letter is taken
+  took_by : (past now : Past) (wire : Wire) (m : Message) (xid : ℤ) (p : List ℕ) (ps : List Asking) (ls : List Letter) (tail : Tail)
       → is_talking (state_of past) ≡ true
-      → InFlight h start Was past wire link (record { message = m; payload = p; xid = xid; asked = ps } ∷ ls)
-      → Reached h (from_zero start.last) (record { log = seen start past; link = link })
-      → is_behind (seen start past) m ≡ false
-      → Reached h (from_zero start.last)
-      (record { log = Took m ∷ seen start past; link = if ends m then Down else Up (connection start past wire ls) })
-  took_world past wire link m xid p ps ls talks g r behind =
-      let c : Connection = connection start past wire (record { message = m; payload = p; xid = xid; asked = ps } ∷ ls) in
-      let w : World = record { log = seen start past; link = Up c } in
-      reach_as h (from_zero start.last) _
-      (record { log = Took m ∷ seen start past; link = if ends m then Down else Up (connection start past wire ls) })
-      (ap (λ b. cond b (record { log = Lost ∷ seen start past; link = Down })
-      (record { log = Took m ∷ seen start past; link = if ends m then Down else Up (connection start past wire ls) })) behind)
-      (reach h (from_zero start.last) w (Goes (Takes m))
-      (up_reached past wire link (record { message = m; payload = p; xid = xid; asked = ps } ∷ ls) g r) (refl, inl talks))
-
-  -- what is in flight then: the letters after the first
-  behind_first : (past now : Past) (wire : Wire) (link : Link) (first : Letter) (ls : List Letter)
-      (g : InFlight h start Was past wire link (first ∷ ls))
-      → connection start past wire ls ≡ connection start now wire ls → requests start past ≡ requests start now → held_of now ≡ []
-      → awaited now ≡ answers ls ++ g.owed
-      → wire.coming ≡ frames ls → AreLater (messages ls) → InFlight h start Was now wire (Up (connection start past wire ls)) ls
-  behind_first past now wire link first ls g same asked held pending coming later = record {
-    up = ap Up same;
-    enough = subst (λ l. wire.processed ≤ length l) asked g.enough;
-    are = g.are.1;
-    bytes = ap (λ l. l ++ wire.coming) held ∙ coming;
-    owed = g.owed;
-    owes = subst (λ l. Owes (drop wire.processed l) g.owed) asked g.owes;
-    pending = pending;
-    later = λ talks. later;
-  }
+      → (g : InFlight v start Was past wire (record { message = m; payload = p; xid = xid; asked = ps } ∷ ls) tail)
+      → is_behind (seen start past) m ≡ false → ends m ≡ false
+      → seen start now ≡ Took m ∷ seen start past → state_of now ≡ state_of past → requests start past ≡ requests start now
+      → held_of now ≡ [] → awaited now ≡ answers ls ++ g.owed
+      → wire.coming ≡ frames ls ++ tail_bytes tail → AreLater (messages ls) → IsCalm v start Was now
+      → answered now ≤ length (questions now) → Meets v start Was now wire
+  took_by past now wire m xid p ps ls tail talks g ahead going same state asked held pending coming later calm counted =
+      let rs : List Request = map (λ s. s.request) (unread start past wire) in
+      let t : v.kept true (seen start now) rs (messages ls) wire.server =
+      subst (λ log. v.kept true log rs (messages ls) wire.server) (sym same)
+      (keeps.takes (seen start past) rs m (messages ls) wire.server ahead going
+      (talking_of past wire (record { message = m; payload = p; xid = xid; asked = ps } ∷ ls) tail talks g)) in
+      record {
+        right = keeps.up true (seen start now) rs (messages ls) wire.server t;
+        calm = calm;
+        counted = counted;
+        going = λ e. (
+          ls,
+          tail,
+          record {
+            enough = subst (λ l. wire.processed ≤ length l) asked g.enough;
+            are = g.are.1;
+            bytes = ap (λ l. l ++ wire.coming) held ∙ coming;
+            owed = g.owed;
+            owes = subst (λ l. Owes (drop wire.processed l) g.owed) asked g.owes;
+            pending = pending;
+            later = λ t. later;
+            ended = g.ended;
+            kept = subst (λ b. v.kept b (seen start now) (map (λ s. s.request) (unread start now wire)) (messages ls) wire.server)
+                (sym (ap is_talking state ∙ talks))
+                (subst (λ l. v.kept true (seen start now) (map (λ s. s.request) (drop wire.processed l)) (messages ls) wire.server)
+                asked t);
+          },
+        );
+      }
 
   waits_there : (past : Past) (p : Asking) (more : List Asking) → awaited past ≡ p ∷ more → answered past < length (questions past)
   waits_there past p more e = subst (λ l. Waits (map pending_for l) past) e (waits past)
 
-  pub took_notice : (past : Past) (wire : Wire) (link : Link) (n : Notice) (xid : ℤ) (p : List ℕ) (ps : List Asking) (ls : List Letter)
+  pub took_notice : (past : Past) (wire : Wire) (n : Notice) (xid : ℤ) (p : List ℕ) (ps : List Asking) (ls : List Letter) (tail : Tail)
       → is_talking (state_of past) ≡ true
-      → InFlight h start Was past wire link (record { message = Notifies n; payload = p; xid = xid; asked = ps } ∷ ls)
-      → Reached h (from_zero start.last) (record { log = seen start past; link = link })
-      → IsCalm h start Was past → Counted past → wire.coming ≡ frames ls → Matches h start Was (Takes_in (Tells n.event n.path) ∷ past) wire
-  took_notice past wire link n xid p ps ls talks g r calm counted coming = record {
-    link = Up (connection start past wire ls);
-    reached = took_world past wire link (Notifies n) xid p ps ls talks g r refl;
-    calm = calm;
-    counted = counted;
-    going = λ e. (
-      ls,
-      behind_first past (Takes_in (Tells n.event n.path) ∷ past) wire link _ ls g refl refl refl
-          (g.pending ∙ ap (λ l. l ++ answers ls ++ g.owed) g.are.0.is_for) coming (g.later talks),
-    );
-  }
+      → InFlight v start Was past wire (record { message = Notifies n; payload = p; xid = xid; asked = ps } ∷ ls) tail
+      → IsCalm v start Was past → Counted past → wire.coming ≡ frames ls ++ tail_bytes tail
+      → Meets v start Was (Takes_in (Tells n.event n.path) ∷ past) wire
+  took_notice past wire n xid p ps ls tail talks g calm counted coming =
+      took_by past (Takes_in (Tells n.event n.path) ∷ past) wire (Notifies n) xid p ps ls tail talks g refl refl refl refl refl refl
+      (g.pending ∙ ap (λ l. l ++ answers ls ++ g.owed) g.are.0.is_for) coming (g.later talks) calm counted
 
-  pub took_pong : (past : Past) (wire : Wire) (link : Link) (xid : ℤ) (p : List ℕ) (ps : List Asking) (ls : List Letter)
+  pub took_pong : (past : Past) (wire : Wire) (xid : ℤ) (p : List ℕ) (ps : List Asking) (ls : List Letter) (tail : Tail)
       → is_talking (state_of past) ≡ true
-      → InFlight h start Was past wire link (record { message = Pong; payload = p; xid = xid; asked = ps } ∷ ls)
-      → Reached h (from_zero start.last) (record { log = seen start past; link = link })
-      → IsCalm h start Was past → Counted past → wire.coming ≡ frames ls → Matches h start Was (Takes_in Echo ∷ past) wire
-  took_pong past wire link xid p ps ls talks g r calm counted coming = record {
-    link = Up (connection start past wire ls);
-    reached = took_world past wire link Pong xid p ps ls talks g r refl;
-    calm = calm;
-    counted = counted;
-    going = λ e. (
-      ls,
-      behind_first past (Takes_in Echo ∷ past) wire link _ ls g refl refl refl
-          (g.pending ∙ ap (λ l. l ++ answers ls ++ g.owed) g.are.0.is_for) coming (g.later talks),
-    );
-  }
+      → InFlight v start Was past wire (record { message = Pong; payload = p; xid = xid; asked = ps } ∷ ls) tail
+      → IsCalm v start Was past → Counted past → wire.coming ≡ frames ls ++ tail_bytes tail
+      → Meets v start Was (Takes_in Echo ∷ past) wire
+  took_pong past wire xid p ps ls tail talks g calm counted coming =
+      took_by past (Takes_in Echo ∷ past) wire Pong xid p ps ls tail talks g refl refl refl refl refl refl
+      (g.pending ∙ ap (λ l. l ++ answers ls ++ g.owed) g.are.0.is_for) coming (g.later talks) calm counted
 
-  pub took_part : (past : Past) (wire : Wire) (link : Link) (b : Bool) (z : ℕ) (xid : ℤ) (p : List ℕ) (ps : List Asking) (ls : List Letter)
+  pub took_part : (past : Past) (wire : Wire) (b : Bool) (z : ℕ) (xid : ℤ) (p : List ℕ) (ps : List Asking) (ls : List Letter) (tail : Tail)
       → is_talking (state_of past) ≡ true
-      → InFlight h start Was past wire link (record { message = Watches_set b z; payload = p; xid = xid; asked = ps } ∷ ls)
-      → Reached h (from_zero start.last) (record { log = seen start past; link = link })
-      → IsCalm h start Was past → Counted past → wire.coming ≡ frames ls
-      → Matches h start Was (Takes_in (Sets_watches b (pos z)) ∷ past) wire
-  took_part past wire link b z xid p ps ls talks g r calm counted coming =
+      → InFlight v start Was past wire (record { message = Watches_set b z; payload = p; xid = xid; asked = ps } ∷ ls) tail
+      → IsCalm v start Was past → Counted past → wire.coming ≡ frames ls ++ tail_bytes tail
+      → Meets v start Was (Takes_in (Sets_watches b (pos z)) ∷ past) wire
+  took_part past wire b z xid p ps ls tail talks g calm counted coming =
       let x : Asking = For_part b in
       let first : awaited past ≡ x ∷ (answers ls ++ g.owed) = g.pending ∙ ap (λ l. l ++ answers ls ++ g.owed) g.are.0.is_for.1 in
-      record {
-        link = Up (connection start past wire ls);
-        reached = took_world past wire link (Watches_set b z) xid p ps ls talks g r refl;
-        calm = calm;
-        counted = counted_next (Takes_in (Sets_watches b (pos z))) past (waits_there past x (answers ls ++ g.owed) first) counted;
-        going = λ e. (
-          ls,
-          behind_first past (Takes_in (Sets_watches b (pos z)) ∷ past) wire link _ ls g refl refl refl (awaited_less
-              (is_talking (state_of past)) (answered past) (questions past) x (answers ls ++ g.owed) first) coming (g.later talks),
-        );
-      }
+      took_by past (Takes_in (Sets_watches b (pos z)) ∷ past) wire (Watches_set b z) xid p ps ls tail talks g refl refl refl refl refl refl
+      (awaited_less (is_talking (state_of past)) (answered past) (questions past) x (answers ls ++ g.owed) first)
+      coming (g.later talks) calm
+      (counted_next (Takes_in (Sets_watches b (pos z))) past (waits_there past x (answers ls ++ g.owed) first) counted)
 
-  pub took_reply : (past : Past) (wire : Wire) (link : Link) (q : Question) (z : ℕ) (res : Result) (xid : ℤ) (p : List ℕ) (ps : List Asking)
-      (ls : List Letter) → is_talking (state_of past) ≡ true
-      → (g : InFlight h start Was past wire link (record { message = Replies q z res; payload = p; xid = xid; asked = ps } ∷ ls))
-      → Reached h (from_zero start.last) (record { log = seen start past; link = link })
+  pub took_reply : (past : Past) (wire : Wire) (q : Question) (z : ℕ) (zxid : ℤ) (same : from_zero zxid ≡ z) (res : Result) (xid : ℤ)
+      (p : List ℕ) (ps : List Asking) (ls : List Letter) (tail : Tail) → is_talking (state_of past) ≡ true
+      → (g : InFlight v start Was past wire (record { message = Replies q z res; payload = p; xid = xid; asked = ps } ∷ ls) tail)
       → is_behind (seen start past) (Replies q z res) ≡ false
-      → IsCalm h start Was past → Counted past → wire.coming ≡ frames ls → (ticket : ℕ) (x : Asking)
-      → awaited past ≡ x ∷ (answers ls ++ g.owed)
-      → AnswersFirst h ticket q z res (x ∷ (answers ls ++ g.owed))
-      → Matches h start Was (Takes_in (Answers_call ticket q (pos z) res) ∷ past) wire
-  took_reply past wire link Close z res xid p ps ls talks g r behind calm counted coming ticket x first holds = record {
-    link = Down;
-    reached = took_world past wire link (Replies Close z res) xid p ps ls talks g r behind;
-    calm = (calm.0, (refl, calm.1), (subst (λ l. AnswersFirst h ticket Close z res l) (sym first) holds, calm.2));
-    counted =
-        counted_next (Takes_in (Answers_call ticket Close (pos z) res)) past (waits_there past x (answers ls ++ g.owed) first) counted;
-    going = λ e. absurd cc;
-  }
-  took_reply past wire link q z res xid p ps ls talks g r behind calm counted coming ticket x first holds = record {
-    link = Up (connection start past wire ls);
-    reached = took_world past wire link (Replies q z res) xid p ps ls talks g r behind;
-    calm = (calm.0, (refl, calm.1), (subst (λ l. AnswersFirst h ticket q z res l) (sym first) holds, calm.2));
-    counted = counted_next (Takes_in (Answers_call ticket q (pos z) res)) past (waits_there past x (answers ls ++ g.owed) first) counted;
-    going = λ e. (
-      ls,
-      behind_first past (Takes_in (Answers_call ticket q (pos z) res) ∷ past) wire link _ ls g refl refl refl
-          (awaited_less (is_talking (state_of past)) (answered past) (questions past) x (answers ls ++ g.owed) first) coming
-          (g.later talks),
-    );
-  }
+      → IsCalm v start Was past → Counted past → wire.coming ≡ frames ls ++ tail_bytes tail → (ticket : ℕ) (x : Asking)
+      → awaited past ≡ x ∷ (answers ls ++ g.owed) → IsAnswered v start past ticket q zxid res
+      → Meets v start Was (Takes_in (Answers_call ticket q zxid res) ∷ past) wire
+  took_reply past wire Close z zxid same res xid p ps ls tail talks g ahead calm counted coming ticket x first holds =
+      over_by (Takes_in (Answers_call ticket Close zxid res) ∷ past) wire
+      (subst (λ n. v.right (Took (Replies Close n res) ∷ seen start past)) (sym same)
+      (keeps.closes (seen start past) (map (λ s. s.request) (unread start past wire)) (Replies Close z res) (messages ls) wire.server
+      ahead refl (talking_of past wire (record { message = Replies Close z res; payload = p; xid = xid; asked = ps } ∷ ls) tail talks g)))
+      (holds, calm)
+      (counted_next (Takes_in (Answers_call ticket Close zxid res)) past (waits_there past x (answers ls ++ g.owed) first) counted) refl
+  took_reply past wire q z zxid same res xid p ps ls tail talks g ahead calm counted coming ticket x first holds =
+      took_by past (Takes_in (Answers_call ticket q zxid res) ∷ past) wire (Replies q z res) xid p ps ls tail talks g ahead refl
+      (ap (λ n. Took (Replies q n res) ∷ seen start past) same) refl refl refl
+      (awaited_less (is_talking (state_of past)) (answered past) (questions past) x (answers ls ++ g.owed) first) coming
+      (g.later talks) (holds, calm)
+      (counted_next (Takes_in (Answers_call ticket q zxid res)) past (waits_there past x (answers ls ++ g.owed) first) counted)

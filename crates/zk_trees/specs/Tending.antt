@@ -27,10 +27,10 @@ pub data TreeTold : Type 0 where
   IsWhole : (tree : ℕ) → TreeTold
 
 abbrev pub tree_told : {A : Type 0} → TreeNews A → TreeTold
-tree_told (news.TakenOn tree ticket side path) = TakesOn tree ticket side path
-tree_told (news.LetGo tree ticket) = LetsGo tree ticket
+tree_told (news.MemberAdded tree ticket side path) = TakesOn tree ticket side path
+tree_told (news.MemberRemoved tree ticket) = LetsGo tree ticket
 tree_told (news.Bounded tree is_bounded) = IsBounded tree is_bounded
-tree_told (news.Whole tree) = IsWhole tree
+tree_told (news.Complete tree) = IsWhole tree
 
 abbrev pub trees_told : {A : Type 0} → List (TreeNews A) → List TreeTold
 trees_told all = map tree_told all

@@ -108,7 +108,7 @@ impl<A: Allocator + Copy> Ledger<A> {
         let path = copy_of(self.alloc, &subject.path)?;
         let copy = copy_of(self.alloc, &subject.path)?;
         follower.follow(ticket, side, copy)?;
-        self.tell(TreeNews::TakenOn {
+        self.tell(TreeNews::MemberAdded {
             tree,
             ticket,
             side,
@@ -124,7 +124,7 @@ impl<A: Allocator + Copy> Ledger<A> {
     {
         for ticket in tickets {
             let ticket = *ticket;
-            self.tell(TreeNews::LetGo { tree, ticket })?;
+            self.tell(TreeNews::MemberRemoved { tree, ticket })?;
         }
         Ok(())
     }
@@ -250,7 +250,7 @@ impl<A: Allocator + Copy> Ledger<A> {
             (bed_of (footing_at view subjects self.old) tree.now) (bed_of (footing_at view subjects self.new) tree.now)) }
     {
         if is_whole {
-            return self.tell(TreeNews::Whole { tree: tree.ticket });
+            return self.tell(TreeNews::Complete { tree: tree.ticket });
         }
         Ok(())
     }

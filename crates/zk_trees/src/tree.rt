@@ -13,14 +13,14 @@ use zk_client::{Path, Side};
 #[derive(Drop)]
 pub enum TreeNews<A: Allocator = Global> {
     /// A side of a node is followed for the tree, by this ticket.
-    TakenOn {
+    MemberAdded {
         tree: u64,
         ticket: u64,
         side: Side,
         path: Path<A>,
     },
     /// What this ticket follows is followed no more: it is kept and good that there is no such node, or the tree is followed no more.
-    LetGo {
+    MemberRemoved {
         tree: u64,
         ticket: u64,
     },
@@ -30,7 +30,7 @@ pub enum TreeNews<A: Allocator = Global> {
         is_bounded: bool,
     },
     /// Nothing is lacking of the tree, and it may be another one than when that was told last.
-    Whole {
+    Complete {
         tree: u64,
     },
 }

@@ -12,7 +12,7 @@ from typing import Any, Callable, NamedTuple, Optional, Union
 from dirwolleu import _library as library
 from dirwolleu import aio
 from dirwolleu._tree_view import Host, TreeNews, TreeView
-from dirwolleu._session import Bounded, LetGo, TakenOn
+from dirwolleu._session import MemberAdded, MemberRemoved, TreeBounded
 from dirwolleu.exceptions import ConnectionClosedError, TooLargeError, TooManyWatchesError, ZookeeperError
 from dirwolleu.shell.connections import Connections, Said
 from dirwolleu.shell.faults import NEVER_CONNECTED, Ending, of_call, values_of
@@ -255,12 +255,12 @@ class WatchedTree(TreeView):
         self._watch.look_at(path)
 
     def hear(self, news: TreeNews) -> None:
-        if isinstance(news, TakenOn):
+        if isinstance(news, MemberAdded):
             side = self._sides[news.ticket] = self._watch.side(news.path, "data" if news.side == library.DATA_SIDE else "names")
             self._watch.take_on(side)
-        elif isinstance(news, LetGo) and news.ticket in self._sides:
+        elif isinstance(news, MemberRemoved) and news.ticket in self._sides:
             self._watch.let_go(self._sides.pop(news.ticket))
-        elif isinstance(news, Bounded):
+        elif isinstance(news, TreeBounded):
             self._watch.bound(news.is_bounded)
 
     def show(self, ticket: int) -> None:

@@ -391,7 +391,7 @@ impl World {
         match action {
             Action::Send(frame) => return Told::Frame(frame.to_vec()),
             Action::Shown { ticket } => return Told::Shown(ticket, false),
-            Action::Whole { tree } => return Told::Shown(tree, true),
+            Action::TreeComplete { tree } => return Told::Shown(tree, true),
             Action::Dial { place, .. } => {
                 let is_apart = self.link.stage == Stage::Apart;
                 assert!(is_apart, "a server is dialled, and there is a connection");
@@ -402,13 +402,13 @@ impl World {
             Action::Renewed => self.subjects.iter_mut().for_each(|it| it.shown.clear()),
             Action::State(State::Connected) => self.link.admit(),
             Action::State(_) | Action::Report { .. } => {}
-            Action::TakenOn { .. } | Action::LetGo { .. } => {}
+            Action::MemberAdded { .. } | Action::MemberRemoved { .. } => {}
             other => panic!("{other:?} is told"),
         }
         Told::Other
     }
 
-    /// A subject is good. Of a tree that is told by [`Action::Whole`], and other tickets are of its nodes.
+    /// A subject is good. Of a tree that is told by [`Action::TreeComplete`], and other tickets are of its nodes.
     fn show(&mut self, ticket: u64, is_tree: bool, machine: &Machine) {
         let place = usize::try_from(ticket).unwrap();
         let subject = self.subjects.get_mut(place);

@@ -1,13 +1,11 @@
--- The invariant holds at the start (`first_here`), is kept by each entry (`entry_here`), and gives coherence (`sim_coherent`).
-use Rattle.std.proofs.Common.{[]}
+-- The invariant holds at the start (`first_entry`), is kept by each entry (`entry_here`), and gives coherence (`sim_coherent`).
 use Rattle.zk_laws.specs.Served.{WasSent}
 use Rattle.zk_laws.proofs.Headlines.{sim_coherent}
-use Rattle.zk_laws.proofs.Meeting.{first_here}
-use Rattle.zk_laws.proofs.Moving.{entry_here}
+use Rattle.zk_laws.proofs.Moving.{first_entry, entry_here}
 use Rattle.theory_messages.proofs.one_entry.Goals as goal
 
 pub returns-clause-begins : goal.returns-clause-begins
-returns-clause-begins c h is start = first_here h is start (WasSent [])
+returns-clause-begins c h is start = first_entry h is start
 
 pub returns-clause-goes_on : goal.returns-clause-goes_on
 returns-clause-goes_on c h is start entry earlier asked may s = entry_here h is start entry earlier asked may s

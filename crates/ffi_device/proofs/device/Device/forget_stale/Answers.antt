@@ -25,4 +25,7 @@ returns g =
       read = refl;
       over = refl;
       number = refl;
+      contenders = refl;
+      contends = refl;
+      news = refl;
     }

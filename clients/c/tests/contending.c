@@ -1,0 +1,279 @@
+/* Contenders of the library's own, of two sessions at two servers in memory with one history: what is told of them, that no two hold, that tokens
+ * rise, and that no place is left, wherever the connection is cut. */
+#include "dirwolleu.h"
+#include "dirwolleu_bench.h"
+#include "expect.h"
+
+#include <string.h>
+
+enum { TIMEOUT_MS = 9000, TICKET = 7, LISTING = 8, MOST_ROUNDS = 4000, REQUESTS = 12, ROOM = 1 << 16 };
+
+static const char DIRECTORY[] = "/locks/job", GUIDS[2][33] = {"00112233445566778899aabbccddeeff", "ffeeddccbbaa99887766554433221100"};
+
+struct side {
+    dw_session session;
+    dw_bench bench;
+    enum dw_kind told; /* what was told of its contender last */
+    int64_t token;     /* by which it holds, or 0 */
+    size_t names;      /* of the listing that was answered last */
+    bool is_answered;
+};
+
+static struct side sides[2];
+static uint64_t now_ms;
+static int64_t last_token;
+static bool is_shared; /* both may hold */
+static int left; /* after this number of requests the connection of the first side is cut, if it is not below 0 */
+static uint8_t room[ROOM];
+
+static struct side *other_of(const struct side *side)
+{
+    return &sides[side == &sides[0]];
+}
+
+static void expect_ok(enum dw_result result)
+{
+    EXPECT_NUMBER(DW_OK, result);
+}
+
+/* Whoever holds has a greater token than all before, and nobody else holds, by what is told and by what is looked up. */
+static void note_holder(struct side *side, int64_t token)
+{
+    int64_t shown = 0;
+    EXPECT(token > last_token && (is_shared || other_of(side)->token == 0));
+    EXPECT(is_shared || dw_session_held(&other_of(side)->session, TICKET, &shown) == DW_NONE);
+    expect_ok(dw_session_held(&side->session, TICKET, &shown));
+    EXPECT_NUMBER(token, shown);
+    last_token = side->token = token;
+}
+
+static void note(struct side *side, const dw_output *output)
+{
+    side->told = output->kind;
+    EXPECT_NUMBER(TICKET, output->ticket);
+    switch (output->kind) {
+    case DW_KIND_HOLDS: note_holder(side, output->zxid); break;
+    case DW_KIND_PAUSES: EXPECT(false); break;
+    default: side->token = 0; break;
+    }
+}
+
+/* Does what was said. Whether there was something. */
+static bool do_all(struct side *side)
+{
+    dw_output output;
+    bool is_dialled = false, was_said = false;
+    while (dw_session_next(&side->session, &output) == DW_OK) {
+        was_said = true;
+        if (output.kind == DW_KIND_DIAL) {
+            is_dialled = true;
+        } else if (output.kind == DW_KIND_HANG_UP) {
+            dw_bench_cut(&side->bench);
+        } else if (output.kind == DW_KIND_SEND) {
+            dw_bench_hear(&side->bench, room, dw_session_copy(&side->session, 0, room, sizeof room));
+        } else if (output.kind == DW_KIND_ANSWER) {
+            EXPECT_NUMBER(LISTING, output.ticket);
+            side->names = output.names;
+            side->is_answered = true;
+        } else if (output.kind >= DW_KIND_WAITS) {
+            note(side, &output);
+        }
+    }
+    if (is_dialled) {
+        dw_bench_connect(&side->bench, 1);
+        expect_ok(dw_session_opened(&side->session, now_ms));
+    }
+    return was_said;
+}
+
+/* The server of one side answers one request, and the other one learns what it changed. Whether there was one. */
+static bool serve_one(struct side *side)
+{
+    size_t count = 0;
+    bool is_first = side == &sides[0];
+    if (dw_bench_process(&side->bench, now_ms) == DW_BENCH_OK && is_first && left > 0 && --left == 0) {
+        left = -1;
+        dw_bench_cut(&side->bench);
+        expect_ok(dw_session_cut(&side->session, now_ms));
+        return true;
+    }
+    while (dw_bench_learn(&other_of(side)->bench, &side->bench) == DW_BENCH_OK) {
+    }
+    for (int i = 0; i < 2; i++) {
+        for (int j = 0; j < REQUESTS; j++) {
+            dw_bench_take(&sides[i].bench, 1);
+        }
+    }
+    dw_bench_say(&side->bench, room, sizeof room, &count);
+    if (count > 0) {
+        expect_ok(dw_session_bytes(&side->session, now_ms, room, count));
+    }
+    return count > 0;
+}
+
+/* The next moment at which something is due has come. */
+static void let_pass(void)
+{
+    uint64_t soonest = UINT64_MAX, due = 0;
+    for (int i = 0; i < 2; i++) {
+        if (dw_session_deadline(&sides[i].session, &due) == DW_OK && due < soonest) {
+            soonest = due;
+        }
+    }
+    EXPECT(soonest < UINT64_MAX);
+    now_ms = soonest > now_ms ? soonest : now_ms;
+    for (int i = 0; i < 2; i++) {
+        expect_ok(dw_session_moment(&sides[i].session, now_ms));
+    }
+}
+
+/* Goes on until this was told of the contender of a side, or with 0 until its listing is answered. */
+static void go_on_until(struct side *side, int kind)
+{
+    for (int i = 0; kind == 0 ? !side->is_answered : (int)side->told != kind; i++) {
+        bool goes_on = false;
+        EXPECT(i < MOST_ROUNDS);
+        for (int j = 0; j < 2; j++) {
+            goes_on = do_all(&sides[j]) || goes_on;
+            goes_on = serve_one(&sides[j]) || goes_on;
+        }
+        if (!goes_on) {
+            let_pass();
+        }
+    }
+}
+
+static void contend(struct side *side, enum dw_naming naming)
+{
+    side->told = (enum dw_kind)0;
+    do_all(side);
+    expect_ok(dw_session_contend(&side->session, now_ms, TICKET, DIRECTORY, strlen(DIRECTORY), (uint32_t)naming, GUIDS[side - sides], 32,
+                                 (const uint8_t *)"", 0, true, false));
+}
+
+static void give_up(struct side *side)
+{
+    do_all(side);
+    expect_ok(dw_session_give_up(&side->session, now_ms, TICKET));
+    go_on_until(side, DW_KIND_GIVEN_UP);
+}
+
+static size_t count_names(struct side *side)
+{
+    side->is_answered = false;
+    do_all(side);
+    expect_ok(dw_session_get_children(&side->session, now_ms, LISTING, UINT64_MAX, DIRECTORY, strlen(DIRECTORY), false));
+    go_on_until(side, 0);
+    return side->names;
+}
+
+/* Another session deletes the place of a side. */
+static void delete_place(struct side *side)
+{
+    char place[256];
+    size_t length = 0;
+    expect_ok(dw_session_place(&side->session, TICKET, place, sizeof place, &length));
+    EXPECT(strncmp(place, DIRECTORY, strlen(DIRECTORY)) == 0 && strstr(place, GUIDS[side - sides]) != NULL);
+    side->told = (enum dw_kind)0;
+    EXPECT_NUMBER(DW_BENCH_OK, dw_bench_change(&side->bench, now_ms, DW_BENCH_DELETED, 0, place, length, (const uint8_t *)"", 0));
+}
+
+/* ---- What is tried. ---- */
+
+/* One waits for the other, and holds once the place before it is gone; who has lost its place contends on. */
+static void hand_over(void)
+{
+    contend(&sides[0], DW_NAMING_KAZOO);
+    go_on_until(&sides[0], DW_KIND_HOLDS);
+    contend(&sides[1], DW_NAMING_KAZOO);
+    go_on_until(&sides[1], DW_KIND_WAITS);
+    EXPECT_NUMBER(2, count_names(&sides[1]));
+    delete_place(&sides[0]);
+    go_on_until(&sides[0], DW_KIND_WAITS);
+    go_on_until(&sides[1], DW_KIND_HOLDS);
+    give_up(&sides[1]);
+    go_on_until(&sides[0], DW_KIND_HOLDS);
+    give_up(&sides[0]);
+    EXPECT_NUMBER(0, count_names(&sides[1]));
+}
+
+/* The connection is cut after each number of requests, also where the answer to the create of the place is lost with it. */
+static void cut_at_each_request(void)
+{
+    for (int at = 1; at <= REQUESTS; at++) {
+        left = at;
+        contend(&sides[0], DW_NAMING_CURATOR_LOCK);
+        go_on_until(&sides[0], DW_KIND_HOLDS);
+        EXPECT_NUMBER(1, count_names(&sides[1]));
+        give_up(&sides[0]);
+        EXPECT_NUMBER(0, count_names(&sides[1]));
+    }
+    left = -1;
+}
+
+/* Two readers hold together. */
+static void read_together(void)
+{
+    int64_t token = 0;
+    is_shared = true;
+    for (int i = 0; i < 2; i++) {
+        contend(&sides[i], DW_NAMING_KAZOO_READER);
+        go_on_until(&sides[i], DW_KIND_HOLDS);
+    }
+    for (int i = 0; i < 2; i++) {
+        EXPECT(sides[i].token > 0);
+        give_up(&sides[i]);
+        EXPECT_NUMBER(DW_NONE, dw_session_held(&sides[i].session, TICKET, &token));
+    }
+    is_shared = false;
+}
+
+static void refuse(void)
+{
+    dw_session none = {0};
+    int64_t token = 1;
+    size_t count = 1;
+    dw_session *session = &sides[0].session;
+    const uint8_t *nothing = (const uint8_t *)"";
+    EXPECT_NUMBER(DW_CLOSED, dw_session_contend(&none, now_ms, TICKET, "/l", 2, 0, "a", 1, nothing, 0, true, false));
+    EXPECT_NUMBER(DW_CLOSED, dw_session_give_up(&none, now_ms, TICKET));
+    EXPECT_NUMBER(DW_CLOSED, dw_session_held(&none, TICKET, &token));
+    EXPECT(token == 0);
+    EXPECT_NUMBER(DW_CLOSED, dw_session_place(&none, TICKET, (char *)room, sizeof room, &count));
+    EXPECT(count == 0);
+    EXPECT_NUMBER(DW_NO_SUCH_MODE, dw_session_contend(session, now_ms, TICKET, "/l", 2, 6, "a", 1, nothing, 0, true, false));
+    EXPECT_NUMBER(DW_NOT_TEXT, dw_session_contend(session, now_ms, TICKET, "/l", 2, 0, "\xff", 1, nothing, 0, true, false));
+    EXPECT_NUMBER(DW_NOT_PATH, dw_session_contend(session, now_ms, TICKET, "l", 1, 0, "a", 1, nothing, 0, true, false));
+    EXPECT_NUMBER(DW_NOT_PATH, dw_session_contend(session, now_ms, TICKET, "/l", 2, 0, "a/b", 3, nothing, 0, true, false));
+    EXPECT_NUMBER(DW_NONE, dw_session_held(session, TICKET, &token));
+    EXPECT_NUMBER(DW_NONE, dw_session_place(session, TICKET, (char *)room, sizeof room, &count));
+}
+
+/* With the session it is over. */
+static void close_session(void)
+{
+    contend(&sides[0], DW_NAMING_KAZOO);
+    go_on_until(&sides[0], DW_KIND_HOLDS);
+    expect_ok(dw_session_close(&sides[0].session, now_ms, LISTING, UINT64_MAX));
+    go_on_until(&sides[0], DW_KIND_GIVEN_UP);
+}
+
+int main(void)
+{
+    left = -1;
+    for (int i = 0; i < 2; i++) {
+        EXPECT_NUMBER(DW_BENCH_OK, dw_bench_open(&sides[i].bench, 70 + i));
+        expect_ok(dw_session_open(&sides[i].session, TIMEOUT_MS, 1, 42 + (uint64_t)i));
+        expect_ok(dw_session_moment(&sides[i].session, now_ms));
+    }
+    refuse();
+    hand_over();
+    cut_at_each_request();
+    read_together();
+    close_session();
+    for (int i = 0; i < 2; i++) {
+        dw_session_free(&sides[i].session);
+        dw_bench_close(&sides[i].bench);
+    }
+    return 0;
+}

@@ -1,0 +1,20 @@
+-- What is told of a contender, by the number that is answered.
+use Rattle.std.specs.Prelude.{◌≡◌, ◌++◌, List, drop, length, take, ℕ, zero, suc, ℤ, pos, Option, Some, None}
+use Rattle.std.specs.declared.alloc.Global.{Global}
+use Rattle.zk_nodes.specs.Path.{Text}
+use Rattle.zk_turns.specs.View.{View}
+use Rattle.zk_contend.specs.Collections.{ShowsOne}
+use Rattle.zk_contend.specs.declared.contender.LockContender.{LockContender}
+
+-- 0 where the session holds by the contender, by the token; and 1 where that is not shown.
+abbrev pub FindsHeld : View → Option (LockContender Global) → (code token : ℤ) → Type 0
+FindsHeld view one (pos zero) token = ShowsOne view one (Some token)
+FindsHeld view one (pos (suc zero)) token = ShowsOne view one None × (token ≡ pos 0)
+FindsHeld view one code token = ⊥
+
+-- 0 where as much of the path of its place as there is room for is written; and 1 where that is not known.
+abbrev pub FindsPlace : Option Text → (code : ℤ) → (room written : List ℕ) → (count : ℕ) → Type 0
+FindsPlace (Some path) (pos zero) room written count =
+    (written ≡ take (length room) path ++ drop (length path) room) × (count ≡ length path)
+FindsPlace None (pos (suc zero)) room written count = (written ≡ room) × (count ≡ 0)
+FindsPlace place code room written count = ⊥
