@@ -6,6 +6,7 @@ import asyncio
 import inspect
 import queue
 import threading
+from collections.abc import AsyncGenerator, Iterator
 from typing import Any, Callable
 
 from support import TIMEOUT, WAIT, PartnerCase
@@ -16,9 +17,19 @@ from dirwolleu import aio
 LONGEST = 6 * WAIT
 
 
-def in_thread(call: Callable[[], Any]) -> queue.Queue[Any]:
-    """The outcome of a call that a thread makes."""
-    outcome: queue.Queue[Any] = queue.Queue()
+class Outcome(queue.Queue[Any]):
+    """What a call in a thread has returned or raised."""
+
+    def result(self, timeout: float = WAIT) -> Any:
+        found = self.get(timeout=timeout)
+        if isinstance(found, BaseException):
+            raise found
+        return found
+
+
+def in_thread(call: Callable[[], Any]) -> Outcome:
+    """Makes a call in a thread of its own."""
+    outcome = Outcome()
 
     def run() -> None:
         try:
@@ -58,7 +69,23 @@ class Blocking:
             return await told if inspect.isawaitable(told) else told
 
         found = asyncio.run_coroutine_threadsafe(run(), self._loop).result(LONGEST)
+        if inspect.isasyncgen(found):
+            return self._items(found)
         return Blocking(self._loop, found) if isinstance(found, aio.Held) else found
+
+    def _items(self, generator: AsyncGenerator[Any, None]) -> Iterator[Any]:
+        """What an asynchronous generator yields, which is never None."""
+        try:
+            while (item := self._call(_next, generator)) is not None:
+                yield item
+        finally:
+            self._call(generator.aclose)
+
+
+async def _next(generator: AsyncGenerator[Any, None]) -> Any:
+    async for item in generator:
+        return item
+    return None
 
 
 class BothCase(PartnerCase):
@@ -66,10 +93,15 @@ class BothCase(PartnerCase):
 
     def client(self, host: str, timeout: float = TIMEOUT, **named: Any) -> Any:
         """A client that is started, and is stopped at the end of the test."""
+        client = self.new_client(host, timeout, **named)
+        client.start(WAIT)
+        return client
+
+    def new_client(self, host: str, timeout: float = TIMEOUT, **named: Any) -> Any:
+        """A client that is not started yet, and is stopped at the end of the test."""
         client = self.made(lambda: self.module().Client(host, timeout, **named))
         self.addCleanup(client.close)
         self.addCleanup(client.stop)
-        client.start(WAIT)
         return client
 
     def recipe(self, name: str, client: Any, *words: Any, **named: Any) -> Any:

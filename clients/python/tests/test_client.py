@@ -1,4 +1,4 @@
-"""Tests of the blocking client against the partner."""
+"""Tests of both clients against the partner."""
 
 from __future__ import annotations
 
@@ -8,14 +8,14 @@ import struct
 import threading
 import time
 import unittest
-from typing import Any, Callable, Optional
+from typing import Any, Optional
 
-from support import TIMEOUT, WAIT, Partner, PartnerCase, within
+from both import AioCase, BothCase, in_thread
+from support import CLOSE_SESSION, WAIT, Peer, reply, within
 
 import dirwolleu
 from dirwolleu import (
     BadVersionError,
-    Client,
     ConnectionClosedError,
     ConnectionLoss,
     EventType,
@@ -34,33 +34,13 @@ from dirwolleu import (
 )
 
 
-class InThread:
-    """A call in a thread of its own."""
-
-    def __init__(self, call: Callable[[], Any]) -> None:
-        self._call, self._outcome = call, queue.Queue[Any]()
-        threading.Thread(target=self._run, daemon=True).start()
-
-    def _run(self) -> None:
-        try:
-            self._outcome.put((self._call(), None))
-        except BaseException as error:
-            self._outcome.put((None, error))
-
-    def result(self, timeout: float = WAIT) -> Any:
-        value, error = self._outcome.get(timeout=timeout)
-        if error is not None:
-            raise error
-        return value
-
-
 class Following:
     """A follower in a thread of its own."""
 
-    def __init__(self, client: Client, path: str) -> None:
+    def __init__(self, client: Any, path: str) -> None:
         self._told: queue.Queue[Optional[Kept]] = queue.Queue()
         self._follower = client.follow(path)
-        threading.Thread(target=self._run, daemon=True).start()
+        in_thread(self._run)
 
     def _run(self) -> None:
         for kept in self._follower:
@@ -71,24 +51,16 @@ class Following:
         return self._told.get(timeout=WAIT)
 
 
-class ClientCase(PartnerCase):
-    def client(self, *partners: Partner, timeout: float = TIMEOUT, saved: Optional[bytes] = None) -> Client:
-        hosts = ",".join(partner.host for partner in partners)
-        client = Client(hosts, timeout, saved, randomize_hosts=False)
-        self.addCleanup(client.close)
-        self.addCleanup(client.stop)
-        client.start(WAIT)
-        return client
-
-    def listen(self, client: Client) -> queue.Queue[State]:
+class ClientCase(BothCase):
+    def listen(self, client: Any) -> queue.Queue[State]:
         states: queue.Queue[State] = queue.Queue()
         client.add_listener(states.put)
         return states
 
 
-class CallsTest(ClientCase):
+class CallsRules(ClientCase):
     def test_each_call(self) -> None:
-        client = self.client(self.partner())
+        client = self.client(self.partner().host)
         self.assertEqual(client.create("/a", b"one"), "/a")
         data, stat = client.get("/a")
         self.assertEqual((data, stat.version, stat.data_length, stat.ephemeral_owner), (b"one", 0, 3, 0))
@@ -106,7 +78,7 @@ class CallsTest(ClientCase):
 
     def test_ephemeral_and_sequential_nodes(self) -> None:
         partner = self.partner()
-        client, other = self.client(partner), self.client(partner)
+        client, other = self.client(partner.host), self.client(partner.host)
         self.assertEqual(client.create("/n-", b"", sequence=True), "/n-0000000000")
         self.assertEqual(client.create("/n-", b"", ephemeral=True, sequence=True), "/n-0000000001")
         found = other.exists("/n-0000000001")
@@ -116,7 +88,7 @@ class CallsTest(ClientCase):
         self.assertEqual(other.get_children("/"), ["n-0000000000"])
 
     def test_null_data_are_not_empty_data(self) -> None:
-        client = self.client(self.partner())
+        client = self.client(self.partner().host)
         client.create("/null", None)
         client.create("/empty", b"")
         self.assertIsNone(client.get("/null")[0])
@@ -128,7 +100,7 @@ class CallsTest(ClientCase):
         self.assertEqual((kept.data, kept.has_data, kept.exists), (None, True, True))
 
     def test_what_a_server_refuses(self) -> None:
-        client = self.client(self.partner())
+        client = self.client(self.partner().host)
         client.create("/a")
         client.create("/a/b", ephemeral=True)
         with self.raises(NoNodeError, -101):
@@ -149,7 +121,7 @@ class CallsTest(ClientCase):
             client.create("/a/b/c")
 
     def test_what_is_not_sent(self) -> None:
-        client = self.client(self.partner())
+        client = self.client(self.partner().host)
         with self.raises(TooLargeError, None):
             client.create("/a", bytes(1_048_576))
         with self.raises(ValueError, None):
@@ -157,18 +129,12 @@ class CallsTest(ClientCase):
         with self.raises(ValueError, None):
             client.kept("/a/")
         with self.raises(TypeError, None):
-            client.set("/a", "text")  # type: ignore[arg-type]
+            client.set("/a", "text")
         client.create("/a", bytes(1_000_000))
         self.assertEqual(client.get("/a")[0], bytes(1_000_000))
 
-    def test_calls_of_many_threads(self) -> None:
-        client = self.client(self.partner())
-        client.create("/a", b"one")
-        calls = [InThread(lambda: [client.get("/a")[0] for _ in range(20)]) for _ in range(8)]
-        self.assertEqual([call.result() for call in calls], 8 * [20 * [b"one"]])
-
     def test_pieces_of_one_byte(self) -> None:
-        client = self.client(self.partner("--piece", "1"))
+        client = self.client(self.partner("--piece", "1").host)
         client.create("/a", b"x" * 5000)
         self.assertEqual(client.get("/a", watch=True)[0], b"x" * 5000)
         client.set("/a", b"y")
@@ -177,11 +143,11 @@ class CallsTest(ClientCase):
         self.assertEqual((kept.mark, kept.data), (Mark.STALE, b"x" * 5000))
 
 
-class WatchTest(ClientCase):
+class WatchRules(ClientCase):
     def test_each_watch_is_told_once(self) -> None:
         partner = self.partner()
         partner.do("create /a one")
-        client, events = self.client(partner), queue.Queue[WatchedEvent]()
+        client, events = self.client(partner.host), queue.Queue[WatchedEvent]()
         client.get("/a", watch=events.put)
         client.get_children("/a", watch=events.put)
         client.exists("/b", watch=events.put)
@@ -199,7 +165,7 @@ class WatchTest(ClientCase):
     def test_a_function_that_is_left_twice_is_called_once(self) -> None:
         partner = self.partner()
         partner.do("create /a one")
-        client, events = self.client(partner), queue.Queue[WatchedEvent]()
+        client, events = self.client(partner.host), queue.Queue[WatchedEvent]()
         client.get("/a", watch=events.put)
         client.exists("/a", watch=events.put)
         partner.do("set /a two", "create /b")
@@ -211,7 +177,7 @@ class WatchTest(ClientCase):
 
     def test_a_watch_is_left_only_where_there_is_a_node(self) -> None:
         partner = self.partner()
-        client, events = self.client(partner), queue.Queue[WatchedEvent]()
+        client, events = self.client(partner.host), queue.Queue[WatchedEvent]()
         with self.assertRaises(NoNodeError):
             client.get("/a", watch=events.put)
         client.exists("/a", watch=events.put)
@@ -219,35 +185,16 @@ class WatchTest(ClientCase):
         self.assertEqual(events.get(timeout=WAIT).type, EventType.CREATED)
         self.assertTrue(events.empty())
 
-    def test_a_watch_may_call_the_client(self) -> None:
-        partner = self.partner()
-        partner.do("create /a one")
-        client, read = self.client(partner), queue.Queue[Optional[bytes]]()
-        client.get("/a", watch=lambda event: read.put(client.get(event.path)[0]))
-        partner.do("set /a two")
-        self.assertEqual(read.get(timeout=WAIT), b"two")
-
-    def test_a_watch_that_fails_leaves_the_others(self) -> None:
-        partner = self.partner()
-        partner.do("create /a one")
-        client, events = self.client(partner), queue.Queue[WatchedEvent]()
-        client.get("/a", watch=lambda _: [][0])
-        client.get("/a", watch=events.put)
-        with self.assertLogs("dirwolleu", "ERROR"):
-            partner.do("set /a two")
-            self.assertEqual(events.get(timeout=WAIT).type, EventType.CHANGED)
-
-
-class KeptTest(ClientCase):
-    def kept(self, client: Client, path: str) -> Kept:
-        kept = client.kept(path)
+class KeptRules(ClientCase):
+    def kept(self, client: Any, path: str) -> Kept:
+        kept: Optional[Kept] = client.kept(path)
         assert kept is not None
         return kept
 
     def test_an_answer_is_good_until_a_change_is_told(self) -> None:
         partner = self.partner()
         partner.do("create /a one")
-        client = self.client(partner)
+        client = self.client(partner.host)
         client.get("/a")
         self.assertIsNone(client.kept("/a"))
         _, stat = client.get("/a", watch=True)
@@ -263,7 +210,7 @@ class KeptTest(ClientCase):
 
     def test_absence_is_kept(self) -> None:
         partner = self.partner()
-        client = self.client(partner)
+        client = self.client(partner.host)
         client.exists("/a", watch=True)
         kept = self.kept(client, "/a")
         self.assertEqual((kept.mark, kept.exists, kept.has_data, kept.stat), (Mark.GOOD, False, False, None))
@@ -276,7 +223,7 @@ class KeptTest(ClientCase):
     def test_children_are_kept(self) -> None:
         partner = self.partner()
         partner.do("create /a", "create /a/c", "create /a/b")
-        client = self.client(partner)
+        client = self.client(partner.host)
         self.assertIsNone(client.kept_children("/a"))
         client.get_children("/a", watch=True)
         kept = client.kept_children("/a")
@@ -290,7 +237,7 @@ class KeptTest(ClientCase):
     def test_answers_stay_good_over_a_reconnect_that_missed_nothing(self) -> None:
         partner = self.partner()
         partner.do("create /a one", "create /b one")
-        client = self.client(partner)
+        client = self.client(partner.host)
         client.get("/a", watch=True)
         client.get("/b", watch=True)
         partner.do("down")
@@ -303,10 +250,10 @@ class KeptTest(ClientCase):
         within(lambda: self.kept(client, "/a").mark is Mark.STALE)
 
 
-class FollowTest(ClientCase):
+class FollowRules(ClientCase):
     def test_each_change_is_yielded(self) -> None:
         partner = self.partner()
-        client = self.client(partner)
+        client = self.client(partner.host)
         following = Following(client, "/a")
         self.check(following, None)
         partner.do("create /a one")
@@ -324,7 +271,7 @@ class FollowTest(ClientCase):
     def test_a_restart_and_an_expiry_are_lived_through(self) -> None:
         partner = self.partner()
         partner.do("create /a one")
-        client = self.client(partner)
+        client = self.client(partner.host)
         following = Following(client, "/a")
         self.check(following, b"one")
         partner.do("down", "set /a two", "up")
@@ -339,19 +286,18 @@ class FollowTest(ClientCase):
     def test_the_last_of_many_changes_is_told(self) -> None:
         partner = self.partner()
         partner.do("create /a 0")
-        client = self.client(partner)
+        client = self.client(partner.host)
         follower = client.follow("/a")
         self.assertEqual(next(follower).data, b"0")
         partner.do(*(f"set /a {number}" for number in range(1, 6)))
         within(lambda: (kept := client.kept("/a")) and (kept.mark, kept.data) == (Mark.GOOD, b"5"))
-        self.assertEqual(InThread(lambda: next(follower)).result().data, b"5")
+        self.assertEqual(in_thread(lambda: next(follower)).result().data, b"5")
         follower.close()
 
     def test_a_client_that_is_not_started_follows_nothing(self) -> None:
-        client = Client("127.0.0.1:1")
+        client = self.new_client("127.0.0.1:1")
         with self.assertRaises(ConnectionClosedError):
             next(client.follow("/a"))
-        client.close()
 
     def check(self, following: Following, data: Optional[bytes]) -> None:
         """The next answer that is told has these data, or says that there is no node."""
@@ -360,13 +306,12 @@ class FollowTest(ClientCase):
         self.assertEqual((kept.mark, kept.data, kept.exists), (Mark.GOOD, data, data is not None))
 
 
-class SessionTest(ClientCase):
+class SessionRules(ClientCase):
     is_long = True
 
     def test_states_are_told(self) -> None:
         partner = self.partner()
-        client = Client(partner.host)
-        self.addCleanup(client.close)
+        client = self.new_client(partner.host)
         states = self.listen(client)
         self.assertIs(client.state, State.LOST)
         client.start(WAIT)
@@ -385,9 +330,9 @@ class SessionTest(ClientCase):
 
     def test_a_call_whose_connection_ends_is_lost(self) -> None:
         partner = self.partner()
-        client = self.client(partner)
+        client = self.client(partner.host)
         partner.do("mute")
-        call = InThread(lambda: client.set("/", b"x"))
+        call = in_thread(lambda: client.set("/", b"x"))
         within(lambda: client._engine._sent)
         partner.do("drop")
         with self.raises(ConnectionLoss, -4):
@@ -396,17 +341,17 @@ class SessionTest(ClientCase):
     def test_a_call_waits_for_a_connection(self) -> None:
         partner = self.partner()
         partner.do("create /a one")
-        client = self.client(partner)
+        client = self.client(partner.host)
         partner.do("down")
         within(lambda: client.state is State.SUSPENDED)
-        call = InThread(lambda: client.get("/a"))
+        call = in_thread(lambda: client.get("/a"))
         within(lambda: client.stats().waiting)
         partner.do("up")
         self.assertEqual(call.result()[0], b"one")
 
     def test_a_call_waits_for_the_timeout_at_most(self) -> None:
         partner = self.partner()
-        client = self.client(partner, timeout=0.5)
+        client = self.client(partner.host, timeout=0.5)
         partner.do("down")
         within(lambda: client.state is State.SUSPENDED)
         began = time.monotonic()
@@ -416,10 +361,10 @@ class SessionTest(ClientCase):
 
     def test_a_call_does_not_go_on_to_another_session(self) -> None:
         partner = self.partner()
-        client = self.client(partner)
+        client = self.client(partner.host)
         partner.do("down")
         within(lambda: client.state is State.SUSPENDED)
-        call = InThread(lambda: client.get("/"))
+        call = in_thread(lambda: client.get("/"))
         within(lambda: client.stats().waiting)
         partner.do("expire", "up")
         with self.raises(SessionExpiredError, -112):
@@ -429,7 +374,7 @@ class SessionTest(ClientCase):
 
     def test_an_expiry_ends_watches_and_ephemeral_nodes(self) -> None:
         partner = self.partner()
-        client, events = self.client(partner), queue.Queue[WatchedEvent]()
+        client, events = self.client(partner.host), queue.Queue[WatchedEvent]()
         client.create("/a", ephemeral=True)
         client.get("/a", watch=events.put)
         session, states = client.session_id, self.listen(client)
@@ -443,7 +388,7 @@ class SessionTest(ClientCase):
     def test_a_silent_server_is_left_for_the_next(self) -> None:
         first, second = self.partner(), self.partner()
         second.do("create /a second", "create /b", "create /c")
-        client = self.client(first, second, timeout=3.0)
+        client = self.client(f"{first.host},{second.host}", 3.0, randomize_hosts=False)
         states = self.listen(client)
         began = time.monotonic()
         first.do("mute")
@@ -453,13 +398,13 @@ class SessionTest(ClientCase):
 
     def test_a_session_is_put_away_and_taken_up(self) -> None:
         partner = self.partner()
-        client = Client(partner.host)
+        client = self.new_client(partner.host)
         self.assertIsNone(client.saved_session)
         client.start(WAIT)
         client.create("/a", ephemeral=True)
         client.close()
         self.assertIs(client.state, State.LOST)
-        other = self.client(partner, saved=client.saved_session)
+        other = self.client(partner.host, saved=client.saved_session)
         self.assertEqual(other.session_id, client.session_id)
         found = other.exists("/a")
         assert found is not None
@@ -469,7 +414,7 @@ class SessionTest(ClientCase):
     def test_a_server_that_is_behind_is_not_read(self) -> None:
         partner, behind = self.partner(), self.partner()
         partner.do("create /a one")
-        client = self.client(partner, behind)
+        client = self.client(f"{partner.host},{behind.host}", randomize_hosts=False)
         client.get("/a", watch=True)
         partner.do("down")
         within(lambda: client.state is State.SUSPENDED)
@@ -484,23 +429,21 @@ class SessionTest(ClientCase):
 
     def test_hostile_servers(self) -> None:
         def work(host: str) -> None:
-            client = Client(host, 1.2)
-            self.addCleanup(client.close)
-            client.start(WAIT)
+            client = self.client(host, 1.2)
             for _ in range(4):
                 try:
-                    InThread(lambda: client.get("/a", watch=True)).result()
+                    in_thread(lambda: client.get("/a", watch=True)).result()
                 except ZookeeperError:
                     pass
 
         hosts = [self.partner("--hostile", str(seed)).host for seed in range(6)]
-        for seed, end in enumerate([InThread(functools.partial(work, host)) for host in hosts]):
+        for seed, end in enumerate([in_thread(functools.partial(work, host)) for host in hosts]):
             with self.subTest(seed=seed):
                 end.result(6 * WAIT)
 
     def test_a_client_begins_and_ends(self) -> None:
         partner = self.partner()
-        client = Client(partner.host)
+        client = self.new_client(partner.host)
         with self.raises(ConnectionClosedError, None):
             client.get("/")
         client.stop()
@@ -514,12 +457,84 @@ class SessionTest(ClientCase):
         client.close()
         with self.raises(ConnectionClosedError, None):
             client.start()
+        with self.raises(ConnectionClosedError, None):
+            client.get("/")
         self.assertIsNone(client.kept("/"))
         self.assertNotIn("dirwolleu", [thread.name for thread in threading.enumerate()])
 
+    def test_where_no_server_is_start_says_so(self) -> None:
+        partner = self.partner()
+        partner.do("down")
+        client = self.new_client(partner.host, 1.0)
+        with self.assertRaises(TimeoutError):
+            client.start(0.3)
+
+    def test_a_server_that_answers_nothing(self) -> None:
+        partner = self.partner()
+        client = self.client(partner.host, 1.5)
+        partner.do("mute")
+        with self.raises(ConnectionLoss, -4):
+            client.set("/", b"x")
+        with self.raises(NotConnectedError, -4):
+            client.get("/")
+        waits = in_thread(lambda: client.get("/"))
+        within(lambda: client.stats().waiting)
+        partner.do("unmute")
+        waits.result()
+
+    def test_a_server_that_never_says_farewell_holds_no_stop(self) -> None:
+        def serve(peer: Peer) -> None:
+            peer.admit(2_147_483_647)
+            while True:
+                asked = peer.take()
+                if asked.kind != CLOSE_SESSION:
+                    peer.send(reply(asked))
+
+        client = self.client(self.raw_server(serve).host)
+        began = time.monotonic()
+        client.stop()
+        self.assertLess(time.monotonic() - began, WAIT)
+
+    def test_what_no_client_is_made_of(self) -> None:
+        for timeout in (0, -1, 3e6):
+            with self.assertRaises(ValueError):
+                self.new_client("a:1", timeout)
+        with self.assertRaises(ValueError):
+            self.new_client("a:1", saved=b"none")
+
+
+class CallsTest(CallsRules):
+    def test_calls_of_many_threads(self) -> None:
+        client = self.client(self.partner().host)
+        client.create("/a", b"one")
+        calls = [in_thread(lambda: [client.get("/a")[0] for _ in range(20)]) for _ in range(8)]
+        self.assertEqual([call.result() for call in calls], 8 * [20 * [b"one"]])
+
+
+class WatchTest(WatchRules):
+    def test_a_watch_may_call_the_client(self) -> None:
+        partner = self.partner()
+        partner.do("create /a one")
+        client, read = self.client(partner.host), queue.Queue[Optional[bytes]]()
+        client.get("/a", watch=lambda event: read.put(client.get(event.path)[0]))
+        partner.do("set /a two")
+        self.assertEqual(read.get(timeout=WAIT), b"two")
+
+    def test_a_watch_that_fails_leaves_the_others(self) -> None:
+        partner = self.partner()
+        partner.do("create /a one")
+        client, events = self.client(partner.host), queue.Queue[WatchedEvent]()
+        client.get("/a", watch=lambda _: [][0])
+        client.get("/a", watch=events.put)
+        with self.assertLogs("dirwolleu", "ERROR"):
+            partner.do("set /a two")
+            self.assertEqual(events.get(timeout=WAIT).type, EventType.CHANGED)
+
+
+class SessionTest(SessionRules):
     def test_a_watch_may_stop_the_client(self) -> None:
         partner = self.partner()
-        client = self.client(partner)
+        client = self.client(partner.host)
         stopped = threading.Event()
 
         def stop(_: WatchedEvent) -> None:
@@ -531,35 +546,47 @@ class SessionTest(ClientCase):
         self.assertTrue(stopped.wait(WAIT))
         self.assertIs(client.state, State.LOST)
 
-    def test_where_no_server_is_start_says_so(self) -> None:
-        partner = self.partner()
-        partner.do("down")
-        client = Client(partner.host, 1.0)
-        with self.assertRaises(TimeoutError):
-            client.start(0.3)
-        client.close()
-
     def test_a_client_may_be_stopped_while_it_starts(self) -> None:
         partner = self.partner()
         partner.do("mute")
-        client = Client(partner.host)
-        self.addCleanup(client.close)
-        starts = InThread(lambda: client.start(None))
+        client = self.new_client(partner.host)
+        starts = in_thread(lambda: client.start(None))
         within(client._threads)
         client.stop()
         with self.raises(ConnectionClosedError, None):
             starts.result()
 
-    def test_what_no_client_is_made_of(self) -> None:
-        for timeout in (0, -1, 3e6):
-            with self.assertRaises(ValueError):
-                Client("a:1", timeout)
-        with self.assertRaises(ValueError):
-            Client("a:1", saved=b"none")
-
     def test_each_name_is_there(self) -> None:
         for name in dirwolleu.__all__:
             self.assertTrue(hasattr(dirwolleu, name))
+
+
+class KeptTest(KeptRules): ...
+
+
+class FollowTest(FollowRules): ...
+
+
+class AioCallsTest(AioCase, CallsRules): ...
+
+
+class AioWatchTest(AioCase, WatchRules): ...
+
+
+class AioKeptTest(AioCase, KeptRules): ...
+
+
+class AioFollowTest(AioCase, FollowRules): ...
+
+
+class AioSessionTest(AioCase, SessionRules): ...
+
+
+def load_tests(loader: unittest.TestLoader, *_: Any) -> unittest.TestSuite:
+    """The rules are no test by themselves."""
+    of_threads = CallsTest, WatchTest, KeptTest, FollowTest, SessionTest
+    of_asyncio = AioCallsTest, AioWatchTest, AioKeptTest, AioFollowTest, AioSessionTest
+    return unittest.TestSuite(loader.loadTestsFromTestCase(one) for one in (*of_threads, *of_asyncio))
 
 
 if __name__ == "__main__":

@@ -2,19 +2,17 @@
 
 from __future__ import annotations
 
-import asyncio
 import logging
 import struct
-import threading
 import time
 import unittest
+from typing import Any
 from unittest import mock
 
-from support import EXISTS, GET_DATA, STAT, WAIT, Asked, PartnerCase, Peer, RawServer, data_reply, notice, reply, within
+from both import AioCase, BothCase, Outcome, in_thread
+from support import EXISTS, GET_DATA, STAT, Asked, Peer, RawServer, data_reply, notice, reply, within
 
-import dirwolleu
 from dirwolleu import Kept, Mark, NoAuthError
-from dirwolleu.aio import Client as AioClient
 
 GET_CHILDREN_2 = 12
 REFUSALS = {-4: 0.8, -127: 0.8, -112: 0.28, -118: 0.28, -1: 0.8, -99: 0.8, -101: 0.28}
@@ -62,29 +60,24 @@ def overtakes(peer: Peer) -> None:
             peer.send(reply(asked))
 
 
-class BlockingTest(PartnerCase):
+class FollowRules(BothCase):
     is_long = True
 
-    def follow(self, server: RawServer, told: list[Kept], errors: list[Exception]) -> None:
-        client = dirwolleu.Client(server.host, 30.0)
-        self.addCleanup(client.close)
-        client.start(WAIT)
+    def follow(self, server: RawServer, told: list[Kept]) -> Outcome:
+        client = self.client(server.host, 30.0)
 
         def collect() -> None:
-            try:
-                for kept in client.follow("/a"):
-                    told.append(kept)
-            except Exception as error:
-                errors.append(error)
+            for kept in client.follow("/a"):
+                told.append(kept)
 
-        threading.Thread(target=collect, daemon=True).start()
+        return in_thread(collect)
 
     def test_each_follower_goes_on_and_reads_again(self) -> None:
         servers = [Refusing(code) for code in REFUSALS]
         told: list[list[Kept]] = [[] for _ in servers]
         began = time.monotonic()
         for server, found in zip(servers, told):
-            self.follow(self.raw_server(server.serve), found, [])
+            self.follow(self.raw_server(server.serve), found)
         for server in servers:
             with self.subTest(code=server.code):
                 self.assertGreater(server.pause(began), REFUSALS[server.code])
@@ -95,88 +88,47 @@ class BlockingTest(PartnerCase):
     def test_a_code_that_is_not_known_is_told_once(self) -> None:
         server, told = Refusing(-99), list[Kept]()
         with self.assertLogs("dirwolleu", logging.WARNING) as logs:
-            self.follow(self.raw_server(server.serve), told, [])
+            self.follow(self.raw_server(server.serve), told)
             within(lambda: len(server.reads) >= 2)
             server.code = 0
             within(lambda: told)
         self.assertEqual(logs.output, ["WARNING:dirwolleu:a read is refused, and asked again: the server answers -99: /a"])
 
-    def test_a_watch_tells_once_too_and_reads_again(self) -> None:
-        server, told = Refusing(-99), list[object]()
-        client = dirwolleu.Client(self.raw_server(server.serve).host, 30.0)
-        self.addCleanup(client.close)
-        client.start(WAIT)
-
-        def watch() -> None:
-            client.DataWatch("/a", lambda data, _: told.append(data))
-
-        with self.assertLogs("dirwolleu", logging.WARNING) as logs, mock.patch("dirwolleu._following.BETWEEN_REFUSED_READS", 0.05):
-            threading.Thread(target=watch, daemon=True).start()
-            within(lambda: len(server.reads) >= 4)
-            server.code = 0
-            within(lambda: told)
-        self.assertEqual((told, logs.output), ([b"one"], ["WARNING:dirwolleu:a read is refused, and asked again: the server answers -99: /a"]))
-
     def test_another_refusal_is_raised(self) -> None:
-        errors: list[Exception] = []
-        self.follow(self.raw_server(Refusing(-102).serve), [], errors)
-        within(lambda: errors)
-        self.assertIs(type(errors[0]), NoAuthError)
+        with self.raises(NoAuthError, -102):
+            self.follow(self.raw_server(Refusing(-102).serve), []).result()
 
     def test_an_answer_that_a_notice_overtakes_is_told(self) -> None:
         told: list[Kept] = []
-        self.follow(self.raw_server(overtakes), told, [])
+        self.follow(self.raw_server(overtakes), told)
         within(lambda: told)
         self.assertEqual((told[0].mark, told[0].data, told[0].last_zxid), (Mark.GOOD, b"one", 5))
 
     def test_names_that_a_notice_overtakes_are_told(self) -> None:
         """With the zxid of their last change, at which the servers had them."""
-        client = dirwolleu.Client(self.raw_server(overtakes).host, 30.0)
-        self.addCleanup(client.close)
-        client.start(WAIT)
+        client = self.client(self.raw_server(overtakes).host, 30.0)
         kept = next(client.follow_children("/a"))
         self.assertEqual((kept.mark, kept.names, kept.last_zxid), (Mark.GOOD, ("b",), 5))
 
 
-class AioTest(unittest.IsolatedAsyncioTestCase, PartnerCase):
-    is_long = True
+class FollowTest(FollowRules):
+    def test_a_watch_tells_once_too_and_reads_again(self) -> None:
+        server, told = Refusing(-99), list[object]()
+        client = self.client(self.raw_server(server.serve).host, 30.0)
+        with self.assertLogs("dirwolleu", logging.WARNING) as logs, mock.patch("dirwolleu._following.BETWEEN_REFUSED_READS", 0.05):
+            in_thread(lambda: client.DataWatch("/a", lambda data, _: told.append(data)))
+            within(lambda: len(server.reads) >= 4)
+            server.code = 0
+            within(lambda: told)
+        self.assertEqual((told, logs.output), ([b"one"], ["WARNING:dirwolleu:a read is refused, and asked again: the server answers -99: /a"]))
 
-    async def follow(self, server: RawServer, told: list[Kept]) -> None:
-        client = AioClient(server.host, 30.0)
-        self.addAsyncCleanup(client.close)
-        await client.start(WAIT)
 
-        async def collect() -> None:
-            async for kept in client.follow("/a"):
-                told.append(kept)
+class AioFollowTest(AioCase, FollowRules): ...
 
-        following = asyncio.ensure_future(collect())
-        self.addCleanup(following.cancel)
 
-    async def until_told(self, *told: list[Kept]) -> None:
-        async def poll() -> None:
-            while not all(told):
-                await asyncio.sleep(0.005)
-
-        await asyncio.wait_for(poll(), WAIT)
-
-    async def test_each_follower_goes_on_and_reads_again(self) -> None:
-        servers = [Refusing(code) for code in REFUSALS]
-        told: list[list[Kept]] = [[] for _ in servers]
-        began = time.monotonic()
-        for server, found in zip(servers, told):
-            await self.follow(self.raw_server(server.serve), found)
-        for server in servers:
-            with self.subTest(code=server.code):
-                self.assertGreater(await asyncio.to_thread(server.pause, began), REFUSALS[server.code])
-                server.code = 0
-        await self.until_told(*told)
-
-    async def test_an_answer_that_a_notice_overtakes_is_told(self) -> None:
-        told: list[Kept] = []
-        await self.follow(self.raw_server(overtakes), told)
-        await self.until_told(told)
-        self.assertEqual((told[0].mark, told[0].data, told[0].last_zxid), (Mark.GOOD, b"one", 5))
+def load_tests(loader: unittest.TestLoader, *_: Any) -> unittest.TestSuite:
+    """The rules are no test by themselves."""
+    return unittest.TestSuite(loader.loadTestsFromTestCase(one) for one in (FollowTest, AioFollowTest))
 
 
 if __name__ == "__main__":

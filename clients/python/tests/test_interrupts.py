@@ -21,7 +21,7 @@ from types import FrameType
 from typing import Any, Callable, Optional
 from unittest import mock
 
-from support import CLIENTS, CLOSE_SESSION, WAIT, ClientCase, Peer, reply, within
+from support import CLIENTS, WAIT, ClientCase, within
 
 from dirwolleu import (
     Barrier,
@@ -206,19 +206,6 @@ class EndTest(InterruptedCase):
         with self.assertLogs("dirwolleu", "ERROR"):
             partner.do("create /a", "create /b")
             self.assertTrue(told.wait(WAIT))
-
-    def test_a_server_that_never_says_farewell_holds_no_stop(self) -> None:
-        def serve(peer: Peer) -> None:
-            peer.admit(2_147_483_647)
-            while True:
-                asked = peer.take()
-                if asked.kind != CLOSE_SESSION:
-                    peer.send(reply(asked))
-
-        client = self.client(self.raw_server(serve).host)
-        began = time.monotonic()
-        client.stop()
-        self.assertLess(time.monotonic() - began, WAIT)
 
     def test_a_program_that_does_not_stop_its_client_ends_at_once_and_says_nothing(self) -> None:
         program = """

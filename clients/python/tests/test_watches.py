@@ -332,30 +332,16 @@ class AioFreshTest(AioCase, FreshRules):
     pass
 
 
-class FollowChildrenTest(BothCase):
+class FollowChildrenRules(BothCase):
     def test_names_and_absence_are_told(self) -> None:
         partner, told = self.partner(), queue.Queue[KeptChildren]()
         client = self.client(partner.host)
-        collect(client, told)
-        self.check(partner, told)
-        client.stop()
 
-    def test_names_and_absence_are_told_in_asyncio(self) -> None:
-        partner, told = self.partner(), queue.Queue[KeptChildren]()
+        def collect() -> None:
+            for kept in client.follow_children("/a"):
+                told.put(kept)
 
-        async def run() -> None:
-            async with aio.Client(partner.host) as client:
-                async def collect() -> None:
-                    async for kept in client.follow_children("/a"):
-                        told.put(kept)
-
-                following = asyncio.ensure_future(collect())
-                await asyncio.get_running_loop().run_in_executor(None, self.check, partner, told)
-                following.cancel()
-
-        asyncio.run(run())
-
-    def check(self, partner: Any, told: queue.Queue[KeptChildren]) -> None:
+        in_thread(collect)
         kept = told.get(timeout=WAIT)
         self.assertEqual((kept.exists, kept.names, kept.mark), (False, (), Mark.GOOD))
         partner.do("create /a x")
@@ -371,12 +357,10 @@ class FollowChildrenTest(BothCase):
         within(lambda: not told.get(timeout=WAIT).exists)
 
 
-def collect(client: dirwolleu.Client, told: queue.Queue[KeptChildren]) -> None:
-    def run() -> None:
-        for kept in client.follow_children("/a"):
-            told.put(kept)
+class FollowChildrenTest(FollowChildrenRules): ...
 
-    threading.Thread(target=run, daemon=True).start()
+
+class AioFollowChildrenTest(AioCase, FollowChildrenRules): ...
 
 
 class AtOnce:
@@ -502,8 +486,9 @@ class StateTest(BothCase):
 
 def load_tests(loader: unittest.TestLoader, *_: Any) -> unittest.TestSuite:
     """The rules are no test by themselves."""
-    tests = ThreadsWatchTest, AioWatchTest, ThreadsFreshTest, AioFreshTest, FollowChildrenTest, FutureTest, StateTest, TaskTest, LookTest
-    return unittest.TestSuite(loader.loadTestsFromTestCase(one) for one in tests)
+    of_threads = ThreadsWatchTest, ThreadsFreshTest, FollowChildrenTest, FutureTest, StateTest, TaskTest, LookTest
+    of_asyncio = AioWatchTest, AioFreshTest, AioFollowChildrenTest
+    return unittest.TestSuite(loader.loadTestsFromTestCase(one) for one in (*of_threads, *of_asyncio))
 
 
 if __name__ == "__main__":
