@@ -4,7 +4,7 @@ from __future__ import annotations
 
 import os
 import socket
-from typing import Generic, Optional
+from typing import Callable, Generic, Optional
 
 from dirwolleu import _plans as plans
 from dirwolleu import _requests as requests
@@ -17,6 +17,19 @@ from dirwolleu._steps import GetNews, Steps, TimeIsOver, Wait, bounded, until_of
 from dirwolleu.exceptions import NodeExistsError, NoNodeError, SessionExpiredError, ZookeeperError
 
 _READY = "ready"
+
+
+def _until(news: News, is_done: Callable[[News], Steps[bool]]) -> Steps[None]:
+    """Tries again until it is done. Lost connections and expired sessions are lived through."""
+    while True:
+        news.clear()
+        try:
+            if (yield from is_done(news)):
+                return
+        except ZookeeperError as error:
+            if not is_lived_through(error):
+                raise
+            yield Wait(BETWEEN_TRIES)
 
 
 class BaseBarrier(Generic[AnyClient]):
@@ -48,22 +61,17 @@ class BaseBarrier(Generic[AnyClient]):
         news: News = yield GetNews()
         with self._client._engine.news(news.set):
             try:
-                yield from bounded(self._wait_for(news), until_of(timeout))
+                yield from bounded(_until(news, self._is_open), until_of(timeout))
             except TimeIsOver:
                 return False
         return True
 
-    def _wait_for(self, news: News) -> Steps[None]:
-        while True:
-            news.clear()
-            try:
-                if (yield requests.exists(self._path, lambda _: news.set())) is None:
-                    return
-                yield Wait(None)
-            except ZookeeperError as error:
-                if not is_lived_through(error):
-                    raise
-                yield Wait(BETWEEN_TRIES)
+    def _is_open(self, news: News) -> Steps[bool]:
+        """Whether there is no barrier; if there is one, waits for news of it."""
+        if (yield requests.exists(self._path, lambda _: news.set())) is None:
+            return True
+        yield Wait(None)
+        return False
 
 
 class BaseDoubleBarrier(Generic[AnyClient]):
@@ -88,7 +96,7 @@ class BaseDoubleBarrier(Generic[AnyClient]):
         is_in = False
         with self._client._engine.news(news.set):
             try:
-                yield from bounded(self._gather(news), until_of(timeout))
+                yield from bounded(_until(news, self._have_come), until_of(timeout))
                 is_in = True
             except TimeIsOver:
                 pass
@@ -102,7 +110,7 @@ class BaseDoubleBarrier(Generic[AnyClient]):
         news: News = yield GetNews()
         with self._client._engine.news(news.set):
             try:
-                yield from bounded(self._scatter(news), until_of(timeout))
+                yield from bounded(_until(news, self._have_left), until_of(timeout))
             except TimeIsOver:
                 yield from self._withdraw()
                 return False
@@ -121,23 +129,17 @@ class BaseDoubleBarrier(Generic[AnyClient]):
         except NoNodeError:
             pass
 
-    def _gather(self, news: News) -> Steps[None]:
-        """Makes the node of this one, and waits until the barrier is ready: whoever is the last one says so."""
-        while True:
-            news.clear()
-            try:
-                yield from self._make()
-                if (yield requests.exists(self._ready, lambda _: news.set())) is not None:
-                    return
-                names = yield from self._members()
-                if len(names) >= self._count:
-                    yield from plans.ensure_path(self._ready, None)
-                    return
-                yield Wait(None)
-            except ZookeeperError as error:
-                if not is_lived_through(error):
-                    raise
-                yield Wait(BETWEEN_TRIES)
+    def _have_come(self, news: News) -> Steps[bool]:
+        """Makes the node of this one, and answers whether the barrier is ready: whoever is the last one says so."""
+        yield from self._make()
+        if (yield requests.exists(self._ready, lambda _: news.set())) is not None:
+            return True
+        names = yield from self._members()
+        if len(names) >= self._count:
+            yield from plans.ensure_path(self._ready, None)
+            return True
+        yield Wait(None)
+        return False
 
     def _make(self) -> Plan[None]:
         yield from plans.ensure_path(self._path, None)
@@ -150,23 +152,16 @@ class BaseDoubleBarrier(Generic[AnyClient]):
         names = yield from names_of(self._path)
         return sorted(name for name in names if name != _READY)
 
-    def _scatter(self, news: News) -> Steps[None]:
-        """Deletes the node of this one, and waits until all are gone. The first one in the order of names goes last."""
-        while True:
-            news.clear()
-            try:
-                yield from self._delete(self._ready)
-                names = yield from self._members()
-                if names and names != [self._name]:
-                    other = names[-1] if names[0] == self._name else names[0]
-                    if names[0] != self._name:
-                        yield from self._delete()
-                    if (yield requests.exists(plans.child_of(self._path, other), lambda _: news.set())) is not None:
-                        yield Wait(None)
-                    continue
-                yield from self._delete()
-                return
-            except ZookeeperError as error:
-                if not is_lived_through(error):
-                    raise
-                yield Wait(BETWEEN_TRIES)
+    def _have_left(self, news: News) -> Steps[bool]:
+        """Deletes the node of this one, and answers whether all are gone. The first one in the order of names goes last."""
+        yield from self._delete(self._ready)
+        names = yield from self._members()
+        if not names or names == [self._name]:
+            yield from self._delete()
+            return True
+        other = names[-1] if names[0] == self._name else names[0]
+        if names[0] != self._name:
+            yield from self._delete()
+        if (yield requests.exists(plans.child_of(self._path, other), lambda _: news.set())) is not None:
+            yield Wait(None)
+        return False

@@ -11,14 +11,19 @@ from dirwolleu import _watches as watches
 from dirwolleu._checks import checked_function, checked_int, checked_text
 from dirwolleu._clock import moment
 from dirwolleu._credentials import Credential
-from dirwolleu._engine import Engine, Listener, News, Tell
+from dirwolleu._engine import Engine, Listener, News
 from dirwolleu._hosts import Servers
 from dirwolleu._recording import Path
 from dirwolleu._retry import Retry
-from dirwolleu._session import Limits
+from dirwolleu._session import LONGEST_ANSWER, LONGEST_REQUEST, Limits
 from dirwolleu._steps import Result, Steps
 from dirwolleu.metrics import Observation
 from dirwolleu.types import Kept, KeptChildren, Mark, Snapshot, State, Stats
+
+if TYPE_CHECKING:
+    import ssl as _ssl
+
+    from dirwolleu.sasl import Sasl
 
 AuthData = Iterable[tuple[str, Union[str, bytes]]]
 AnyKept = TypeVar("AnyKept", bound=Union[Kept, KeptChildren])
@@ -39,28 +44,6 @@ def _credentials_of(auth_data: AuthData) -> list[Credential]:
     return [credential_of(*pair) for pair in pairs]
 
 
-def parts_of(
-    hosts: str,
-    timeout: float,
-    saved: Optional[bytes],
-    auth_data: AuthData,
-    randomize_hosts: bool,
-    limits: Limits,
-    record: Optional[Path],
-    tell: Tell,
-) -> tuple[Servers, Engine]:
-    """What both clients are made of, by their parameters."""
-    if saved is not None and not isinstance(saved, bytes):
-        raise TypeError(f"a saved session is bytes, and not {type(saved).__name__}")
-    for name, limit in limits._asdict().items():
-        checked_int(name, limit, 64)
-    servers = Servers(hosts, randomize_hosts)
-    engine = Engine(timeout, saved, tell, servers.hosts.root, _credentials_of(auth_data), limits)
-    if record is not None:
-        engine.record(record, saved)
-    return servers, engine
-
-
 def _named(one: object) -> str:
     return f"{type(one).__module__.removesuffix('.client')}.{type(one).__name__}"
 
@@ -68,12 +51,40 @@ def _named(one: object) -> str:
 class Shown:
     """What a client shows of its session, and of what it keeps."""
 
-    def __init__(self, servers: Servers, engine: Engine, retry: Optional[Retry]) -> None:
+    def __init__(
+        self,
+        hosts: str,
+        timeout: float = 10.0,
+        saved: Optional[bytes] = None,
+        *,
+        auth_data: AuthData = (),
+        ssl: Optional[_ssl.SSLContext] = None,
+        sasl: Optional[Sasl] = None,
+        retry: Optional[Retry] = None,
+        randomize_hosts: bool = True,
+        longest_answer: int = LONGEST_ANSWER,
+        longest_request: int = LONGEST_REQUEST,
+        record: Optional[Path] = None,
+    ) -> None:
+        limits = Limits(longest_answer, longest_request)
+        if saved is not None and not isinstance(saved, bytes):
+            raise TypeError(f"a saved session is bytes, and not {type(saved).__name__}")
+        for name, limit in limits._asdict().items():
+            checked_int(name, limit, 64)
+        self._servers = Servers(hosts, randomize_hosts)
+        self._engine = Engine(timeout, saved, self._tell, self._servers.hosts.root, _credentials_of(auth_data), limits)
+        if record is not None:
+            self._engine.record(record, saved)
         if retry is not None and not isinstance(retry, Retry):
             raise TypeError(f"a policy is a Retry, and not {type(retry).__name__}")
-        self._servers, self._engine, self._retry = servers, engine, retry
+        self._retry, self._tls, self._sasl = retry, ssl, sasl
         self._tasks: dict[Any, None] = {}
         """What is done that nobody waits for, until it is done."""
+        self._prepare()
+
+    def _prepare(self) -> None:
+        """Makes what the client of this kind holds besides."""
+        raise NotImplementedError
 
     def __repr__(self) -> str:
         """Its hosts, and how it stands to them: no secret."""

@@ -5,7 +5,6 @@ from __future__ import annotations
 import asyncio
 import contextlib
 import inspect
-import ssl as _ssl
 from collections.abc import AsyncGenerator, Awaitable, Coroutine
 from types import TracebackType
 from typing import TYPE_CHECKING, Any, Callable, Optional, TypeVar
@@ -20,11 +19,9 @@ from dirwolleu._clock import moment
 from dirwolleu._driver import Driver
 from dirwolleu._engine import News as AnyNews
 from dirwolleu._plans import Plan
-from dirwolleu._recording import Path
 from dirwolleu._requests import Request, Result
 from dirwolleu._retry import Retry
-from dirwolleu._session import LONGEST_ANSWER, LONGEST_REQUEST, Limits
-from dirwolleu._shown import AuthData, Shown, parts_of
+from dirwolleu._shown import Shown
 from dirwolleu._steps import Ask, Call, GetNews, Step, Steps, Wait
 from dirwolleu._trees import MOST_NODES, AsyncTree
 from dirwolleu._watches import ChildrenWatch, DataWatch
@@ -32,41 +29,14 @@ from dirwolleu.exceptions import ZookeeperError
 from dirwolleu.transaction import AsyncTransaction
 from dirwolleu.types import Kept, KeptChildren
 
-from dirwolleu._aio_recipes import (  # isort: skip
-    Barrier,
-    Counter,
-    DoubleBarrier,
-    Election,
-    Held,
-    Lock,
-    Queue,
-    ReadLock,
-    Registration,
-    Semaphore,
-    WriteLock,
-)
+from dirwolleu import _aio_recipes  # isort: skip
+from dirwolleu._aio_recipes import *  # isort: skip  # noqa: F403
 
-__all__ = [
-    "Barrier",
-    "ChildrenWatch",
-    "Client",
-    "Counter",
-    "DataWatch",
-    "DoubleBarrier",
-    "Election",
-    "Held",
-    "Lock",
-    "Queue",
-    "ReadLock",
-    "Registration",
-    "Semaphore",
-    "WriteLock",
-]
+__all__ = ["ChildrenWatch", "Client", "DataWatch"]
+__all__ += _aio_recipes.__all__
 
 if TYPE_CHECKING:
     from typing_extensions import Concatenate, ParamSpec
-
-    from dirwolleu.sasl import Sasl
 
     Given = ParamSpec("Given")
 
@@ -121,24 +91,7 @@ class Client(Shown):
         data = [(await future)[0] for future in futures]
     """
 
-    def __init__(
-        self,
-        hosts: str,
-        timeout: float = 10.0,
-        saved: Optional[bytes] = None,
-        *,
-        auth_data: AuthData = (),
-        ssl: Optional[_ssl.SSLContext] = None,
-        sasl: Optional[Sasl] = None,
-        retry: Optional[Retry] = None,
-        randomize_hosts: bool = True,
-        longest_answer: int = LONGEST_ANSWER,
-        longest_request: int = LONGEST_REQUEST,
-        record: Optional[Path] = None,
-    ) -> None:
-        limits = Limits(longest_answer, longest_request)
-        super().__init__(*parts_of(hosts, timeout, saved, auth_data, randomize_hosts, limits, record, self._tell), retry)
-        self._tls, self._sasl = ssl, sasl
+    def _prepare(self) -> None:
         self._driver: Optional[Driver] = None
         self._callbacks: set[asyncio.Future[Any]] = set()
 

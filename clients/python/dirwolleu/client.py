@@ -23,11 +23,9 @@ from dirwolleu._calls import Wanted
 from dirwolleu._clock import moment
 from dirwolleu._engine import News as AnyNews
 from dirwolleu._plans import Plan
-from dirwolleu._recording import Path
 from dirwolleu._requests import Request, Result
 from dirwolleu._retry import Retry
-from dirwolleu._session import LONGEST_ANSWER, LONGEST_REQUEST, Limits
-from dirwolleu._shown import AuthData, Shown, parts_of
+from dirwolleu._shown import Shown
 from dirwolleu._steps import Ask, Call, GetNews, Step, Steps, Wait
 from dirwolleu._tasks import Task
 from dirwolleu._trees import MOST_NODES, Tree
@@ -38,13 +36,10 @@ from dirwolleu.transaction import Transaction
 from dirwolleu.types import Kept, KeptChildren, State
 
 if TYPE_CHECKING:
-    import ssl as _ssl
-
     from typing_extensions import Concatenate, ParamSpec
 
     from dirwolleu._driver import Driver
     from dirwolleu._threads import Threads
-    from dirwolleu.sasl import Sasl
 
     Given = ParamSpec("Given")
 
@@ -134,27 +129,7 @@ class Client(Shown):
     `ConnectionClosedError`, and `stop` and `close` do nothing.
     """
 
-    def __init__(
-        self,
-        hosts: str,
-        timeout: float = 10.0,
-        saved: Optional[bytes] = None,
-        *,
-        auth_data: AuthData = (),
-        ssl: Optional[_ssl.SSLContext] = None,
-        sasl: Optional[Sasl] = None,
-        retry: Optional[Retry] = None,
-        randomize_hosts: bool = True,
-        longest_answer: int = LONGEST_ANSWER,
-        longest_request: int = LONGEST_REQUEST,
-        record: Optional[Path] = None,
-    ) -> None:
-        limits = Limits(longest_answer, longest_request)
-        super().__init__(*parts_of(hosts, timeout, saved, auth_data, randomize_hosts, limits, record, self._tell), retry)
-        self._tls, self._sasl = ssl, sasl
-        self._hold_threads()
-
-    def _hold_threads(self) -> None:
+    def _prepare(self) -> None:
         """Makes what holds the threads. A dict's functions are single steps of the interpreter: no lock is taken."""
         self._sleepers = Sleepers()
         self._running: dict[str, Optional[Threads]] = {}

@@ -255,7 +255,7 @@ class Session(Client):
         self._servers, self._engine, self._retry = servers, engine, None
         self._owner, self._tls, self._sasl, self._timeout = owner, tls, sasl, timeout
         self._tasks = {}
-        self._hold_threads()
+        self._prepare()
         self._dials: Optional[KazooDriver] = None
         engine.add_listener(owner._told_state)
 
