@@ -14,6 +14,7 @@ import sys
 import threading
 import time
 import unittest
+from collections.abc import Iterator
 from typing import Any, Callable, NamedTuple, Optional
 
 CLIENTS = pathlib.Path(__file__).resolve().parents[2]
@@ -120,6 +121,12 @@ class Peer:
         asked = self.take_connect()
         self.send(struct.pack(">iiq", 0, timeout_ms or asked.timeout_ms, asked.session or 7) + PASSWORD + b"\0")
         return asked
+
+    def requests(self, timeout_ms: Optional[int] = None) -> Iterator[Asked]:
+        """Accepts the session, and gives each request as it comes."""
+        self.admit(timeout_ms)
+        while True:
+            yield self.take()
 
     def refuse(self) -> None:
         """Says that the session has expired."""

@@ -303,9 +303,7 @@ HOUR = 3600.0
 
 def serves_one(peer: Peer) -> None:
     """Answers each read of data, and all else with nothing."""
-    peer.admit()
-    while True:
-        asked = peer.take()
+    for asked in peer.requests():
         peer.send(data_reply(asked, b"one") if asked.kind == GET_DATA else reply(asked))
 
 

@@ -484,9 +484,7 @@ class SessionRules(ClientCase):
 
     def test_a_server_that_never_says_farewell_holds_no_stop(self) -> None:
         def serve(peer: Peer) -> None:
-            peer.admit(2_147_483_647)
-            while True:
-                asked = peer.take()
+            for asked in peer.requests(2_147_483_647):
                 if asked.kind != CLOSE_SESSION:
                     peer.send(reply(asked))
 

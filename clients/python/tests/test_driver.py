@@ -120,9 +120,7 @@ class DialTest(PartnerCase):
         granted = iter((1, 1))
 
         def serve(peer: Peer) -> None:
-            peer.admit(next(granted, None))
-            while True:
-                asked = peer.take()
+            for asked in peer.requests(next(granted, None)):
                 peer.send(reply(asked))
 
         client = self.client(self.raw_server(serve).host, 3.0, is_awaited=False)
@@ -207,10 +205,9 @@ class DialTest(PartnerCase):
         pings = list[Asked]()
 
         def serve(peer: Peer) -> None:
-            peer.admit()
-            while True:
-                pings.append(peer.take())
-                peer.send(reply(pings[-1]))
+            for ping in peer.requests():
+                pings.append(ping)
+                peer.send(reply(ping))
 
         server = self.raw_server(serve)
         self.client(server.host, 12.0)  # so that an answer may be four seconds late

@@ -28,9 +28,7 @@ class Refusing:
         self.reads: list[float] = []
 
     def serve(self, peer: Peer) -> None:
-        peer.admit()
-        while True:
-            asked = peer.take()
+        for asked in peer.requests():
             peer.send(self.answer(asked))
 
     def pause(self, began: float) -> float:
@@ -49,9 +47,7 @@ class Refusing:
 
 def overtakes(peer: Peer) -> None:
     """Sends a notice with each answer to a read of data, and of names."""
-    peer.admit()
-    while True:
-        asked = peer.take()
+    for asked in peer.requests():
         if asked.kind == GET_DATA:
             peer.send(data_reply(asked, b"one"), notice("/a"))
         elif asked.kind == GET_CHILDREN_2:

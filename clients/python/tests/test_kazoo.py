@@ -356,9 +356,7 @@ class StatesTest(KazooCase):
         refuses, told, at_error = threading.Event(), queue.Queue[str](), list[str]()
 
         def serve(peer: Peer) -> None:
-            peer.admit()
-            while True:
-                asked = peer.take()
+            for asked in peer.requests():
                 if asked.kind == 100 and refuses.is_set():
                     peer.send(struct.pack(">iqi", -4, 0, -115))
                     return peer.finish()
@@ -438,9 +436,7 @@ class KeywordsTest(KazooCase):
         stat = struct.pack(">qqqqiiiqiiq", 1, 2, 3, 4, 5, 6, 7, 8, 9, 10, 11)
 
         def serve(peer: Peer) -> None:
-            peer.admit()
-            while True:
-                one = peer.take()
+            for one in peer.requests():
                 asked.append((one.kind, one.body))
                 code = {100: 0, -11: 0, 3: -101}.get(one.kind, outcome[0])
                 body = struct.pack(">i", 3) + b"new" + stat if one.kind == 16 and not code else b""
@@ -790,9 +786,7 @@ class LostCreatesTest(PartnerCase):
         self.made: list[str] = []
 
         def serve(peer: Peer) -> None:
-            peer.admit()
-            while True:
-                one = peer.take()
+            for one in peer.requests():
                 if one.kind in (1, 15):
                     length = int.from_bytes(one.body[:4], "big")
                     self.made.append(f"{one.body[4:4 + length].decode()}{len(self.made):010}")

@@ -39,9 +39,7 @@ class LimitRules(BothCase):
         """Admits a session, answers a get by a frame of this size, and changes of /a by a Stat."""
 
         def serve(peer: Peer) -> None:
-            peer.admit()
-            while True:
-                one = peer.take()
+            for one in peer.requests():
                 if one.kind in (PING, CLOSE_SESSION):
                     peer.send(reply(one))
                 elif one.kind == GET_DATA:

@@ -80,9 +80,8 @@ class RawCase(PartnerCase):
         """A server that answers each request by a function."""
 
         def serve(peer: Peer) -> None:
-            peer.admit()
-            while True:
-                answer(peer, peer.take())
+            for asked in peer.requests():
+                answer(peer, asked)
 
         return self.raw_server(serve).host
 
@@ -415,9 +414,7 @@ class OrderTest(RawCase):
         came = list[int]()
 
         def serve(peer: Peer) -> None:
-            peer.admit()
-            while True:
-                asked = peer.take()
+            for asked in peer.requests():
                 came.append(asked.kind)
                 peer.send(reply(asked, text("/") if asked.kind == SYNC else STAT))
 

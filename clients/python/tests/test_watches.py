@@ -110,9 +110,7 @@ class WatchRules(BothCase):
 
     def test_what_is_refused_ends_a_watch_and_is_logged(self) -> None:
         def serve(peer: Peer) -> None:
-            peer.admit()
-            while True:
-                asked = peer.take()
+            for asked in peer.requests():
                 peer.send(reply(asked, code=NoAuthError.code if asked.kind == GET_DATA else 0))
 
         client, told = self.client(self.raw_server(serve).host), queue.Queue[Any]()
@@ -150,9 +148,7 @@ class WatchRules(BothCase):
         is_calm, overtaken = threading.Event(), list[Asked]()
 
         def serve(peer: Peer) -> None:
-            peer.admit()
-            while True:
-                asked = peer.take()
+            for asked in peer.requests():
                 if asked.kind != GET_DATA:
                     peer.send(reply(asked))
                 elif is_calm.is_set():
@@ -184,9 +180,7 @@ class WatchRules(BothCase):
         reads = list[bytes]()
 
         def serve(peer: Peer) -> None:
-            peer.admit()
-            while True:
-                asked = peer.take()
+            for asked in peer.requests():
                 if asked.kind != GET_DATA:
                     peer.send(reply(asked))
                 elif len(reads) != 1:
@@ -233,9 +227,7 @@ class FreshRules(BothCase):
         asked_for = list[int]()
 
         def serve(peer: Peer) -> None:
-            peer.admit()
-            while True:
-                asked = peer.take()
+            for asked in peer.requests():
                 asked_for.append(asked.kind)
                 if asked.kind == SYNC:
                     peer.send(notice("/a"), reply(asked, struct.pack(">i", 1) + b"/", zxid=9))
