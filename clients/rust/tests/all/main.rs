@@ -1,4 +1,4 @@
-//! The tests of sessions and of servers in memory, as one program, which is built once. They mostly wait, so run them on many threads.
+//! The tests of machines, of sessions and of servers in memory, as one program, which is built once. They mostly wait, so run them on many threads.
 
 #[cfg(dirwolleu_bench)]
 #[path = "../../src/testing/bench.rs"]
@@ -79,6 +79,7 @@ fn text(node: Option<KeptNode>) -> Option<String> {
 
 #[cfg(dirwolleu_bench)]
 mod benches;
+mod bytes;
 mod credentials;
 #[cfg(dirwolleu_bench)]
 mod cuts;
@@ -86,6 +87,7 @@ mod limits;
 mod lock_cuts;
 mod locks;
 mod logins;
+mod machine;
 mod machines;
 mod messages;
 mod observed;

@@ -1,21 +1,16 @@
 //! A machine with one address: what it says and keeps, to the byte, where it is driven by bytes as `zookeeper.jute` spells them.
 
-mod jute;
-
+use crate::jute::{self, Record};
+use crate::machine::{connected, sent, SESSION, START, TIMEOUT};
 use dirwolleu::{
     Action, Actions, Brought, Cause, Children, Code, Contender, DataAnswer, Fault, GivenUp, Kept,
     Lacking, Machine, Mark, Markers, Mode, Moment, NoReply, NodeEvent, Reply, SavedSession, Side,
     Standing, State, Subtree, Watch, ANY_VERSION,
 };
-use jute::Record;
 use std::time::Duration;
-
-const TIMEOUT: Duration = Duration::from_secs(9);
-const START: Moment = Moment::from_millis(1_000_000_000);
 
 /// Later than any pause before an address is dialled again.
 const LATER: Moment = Moment::from_millis(1_000_010_000);
-const SESSION: i64 = 0x1234_5678;
 
 /// What was said, with all bytes, as text.
 fn said(mut actions: Actions<'_>) -> Vec<String> {
@@ -39,17 +34,6 @@ fn said(mut actions: Actions<'_>) -> Vec<String> {
         });
     }
     lines
-}
-
-/// The frames that were said.
-fn frames(mut actions: Actions<'_>) -> Vec<Vec<u8>> {
-    let mut frames = Vec::new();
-    while let Some(action) = actions.next().unwrap() {
-        if let Action::Send(frame) = action {
-            frames.push(frame.to_vec());
-        }
-    }
-    frames
 }
 
 /// The reply to the call of this ticket, which is said next.
@@ -78,16 +62,6 @@ fn dialling() -> Machine {
     machine
 }
 
-fn connected() -> Machine {
-    let mut machine = dialling();
-    let _ = machine.opened(START).unwrap();
-    let _ = machine
-        .bytes(START, &Record::accepted(9_000, SESSION))
-        .unwrap();
-    assert_eq!(machine.state(), State::Connected);
-    machine
-}
-
 /// A machine that has read `/a` with a watch: the bytes `one`, at zxid 5.
 fn watching() -> Machine {
     let mut machine = connected();
@@ -103,7 +77,7 @@ fn a_connection_begins_with_a_connect_request() {
     assert_eq!(machine.state(), State::Idle);
     let request = Record::new().int(0).long(0).int(9_000).long(0);
     let request = request.buffer(&[0; 16]).boolean(false).framed();
-    assert_eq!(frames(machine.opened(START).unwrap()), [request]);
+    assert_eq!(sent(machine.opened(START).unwrap()), [request]);
     assert_eq!(machine.state(), State::Connecting);
     let silent_at = START.saturating_add(TIMEOUT / 3 * 2);
     assert_eq!(machine.deadline(), Some(silent_at));
@@ -128,31 +102,31 @@ fn each_call_is_spelled() {
     let mut machine = connected();
     let exists = request(1, jute::EXISTS, "/a").boolean(false);
     let actions = machine.exists(START, 1, None, "/a", Watch::No).unwrap();
-    assert_eq!(frames(actions), [exists.framed()]);
+    assert_eq!(sent(actions), [exists.framed()]);
     let get = request(2, jute::GET_DATA, "/a").boolean(true);
     let actions = machine.get_data(START, 1, None, "/a", Watch::Yes).unwrap();
-    assert_eq!(frames(actions), [get.framed()]);
+    assert_eq!(sent(actions), [get.framed()]);
     let children = request(3, jute::GET_CHILDREN_2, "/a").boolean(true);
     let actions = machine
         .get_children(START, 1, None, "/a", Watch::Yes)
         .unwrap();
-    assert_eq!(frames(actions), [children.framed()]);
+    assert_eq!(sent(actions), [children.framed()]);
     let set = request(4, jute::SET_DATA, "/a").int(-1).int(3);
     let actions = machine.set_data(START, 1, None, "/a", None, 3).unwrap();
-    assert_eq!(frames(actions), [set.framed()]);
+    assert_eq!(sent(actions), [set.framed()]);
     let create = request(5, jute::CREATE, "/a/b").buffer(b"x").int(1);
     let create = create.int(31).text("world").text("anyone").int(3);
     let mode = Mode::EphemeralSequential;
     let actions = machine
         .create(START, 1, None, "/a/b", Some(b"x"), mode)
         .unwrap();
-    assert_eq!(frames(actions), [create.framed()]);
+    assert_eq!(sent(actions), [create.framed()]);
     let delete = request(6, jute::DELETE, "/a").int(ANY_VERSION);
     let actions = machine.delete(START, 1, None, "/a", ANY_VERSION).unwrap();
-    assert_eq!(frames(actions), [delete.framed()]);
+    assert_eq!(sent(actions), [delete.framed()]);
     let close = Record::new().int(7).int(jute::CLOSE_SESSION);
     let actions = machine.close_session(START, 1, None).unwrap();
-    assert_eq!(frames(actions), [close.framed()]);
+    assert_eq!(sent(actions), [close.framed()]);
 }
 
 #[test]
@@ -488,7 +462,7 @@ fn pings_and_silence_are_due_at_a_third_and_two_thirds() {
     let ping_at = START.saturating_add(TIMEOUT / 3);
     assert_eq!(machine.deadline(), Some(ping_at));
     let ping = Record::new().int(jute::PONG).int(jute::PING).framed();
-    assert_eq!(frames(machine.tick(ping_at).unwrap()), [ping]);
+    assert_eq!(sent(machine.tick(ping_at).unwrap()), [ping]);
     let silent_at = START.saturating_add(TIMEOUT / 3 * 2);
     assert_eq!(machine.deadline(), Some(silent_at));
     let mut actions = machine.tick(silent_at).unwrap();
@@ -526,7 +500,7 @@ fn a_cut_answers_what_waits_and_watches_are_set_again() {
         .int(jute::SET_WATCHES)
         .long(5);
     let set = set.texts(&["/a"]).texts(&[]).texts(&[]).framed();
-    assert_eq!(frames(actions), [set]);
+    assert_eq!(sent(actions), [set]);
     assert_eq!(machine.data_mark("/a").unwrap(), Some(Mark::Good));
 }
 
@@ -564,29 +538,9 @@ fn watches_that_are_refused_end_the_connection() {
 }
 
 #[test]
-fn an_expired_session_keeps_nothing_but_its_zxid() {
-    let mut machine = watching();
-    let _ = machine.cut(START).unwrap();
-    let _ = machine.tick(LATER).unwrap();
-    let _ = machine.opened(LATER).unwrap();
-    let _ = machine.delete(LATER, 9, None, "/a", 0).unwrap();
-    let refused = Record::new().int(0).int(0).long(0).buffer(&[0; 16]);
-    let lines = said(machine.bytes(LATER, &refused.framed()).unwrap());
-    let wanted = [
-        "State(Expired)",
-        "HangUp",
-        "Answer { ticket: 9, outcome: Err(SessionExpired) }",
-        "Renewed",
-    ];
-    assert_eq!(lines[..4], wanted);
-    assert_eq!(machine.peek_data("/a").unwrap(), None);
-    assert_eq!(machine.last_zxid(), 5);
-}
-
-#[test]
 fn a_session_is_saved_and_resumed() {
     let saved = watching().saved().unwrap();
-    assert_eq!(saved.as_bytes().len(), 36);
+    assert_eq!((saved.id(), saved.as_bytes().len()), (Some(SESSION), 36));
     assert!(
         !format!("{saved:?}").contains("15"),
         "a password is printed"
@@ -597,7 +551,7 @@ fn a_session_is_saved_and_resumed() {
     let password: Vec<u8> = (0..16).collect();
     let request = Record::new().int(0).long(5).int(9_000).long(SESSION);
     let request = request.buffer(&password).boolean(false).framed();
-    assert_eq!(frames(machine.opened(START).unwrap()), [request]);
+    assert_eq!(sent(machine.opened(START).unwrap()), [request]);
 }
 
 #[test]
@@ -628,13 +582,17 @@ fn what_is_no_timeout_or_session_is_refused() {
 #[test]
 fn what_is_no_path_is_refused() {
     let mut machine = connected();
-    for path in ["", "a", "/a/", "//", "/a/../b", "/a\0"] {
+    for path in ["", "a", "/a/", "//", "/a//b", "/a/../b", "/a\0"] {
         let asked = machine.get_data(START, 1, None, path, Watch::No).map(said);
         let fault = asked.unwrap_err();
         assert!(
             matches!(fault, Fault::NotPath { .. }),
             "{path:?}: {fault:?}"
         );
+        let followed = machine.follow(START, 1, path, Side::Data).map(said);
+        assert_eq!(followed, Err(fault.clone()), "{path:?}");
+        let followed = machine.follow_tree(START, 1, path, 9).map(said);
+        assert_eq!(followed, Err(fault.clone()), "{path:?}");
         assert_eq!(machine.peek_data(path), Err(fault), "{path:?}");
     }
     assert_eq!(machine.state(), State::Connected);

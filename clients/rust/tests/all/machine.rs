@@ -1,17 +1,15 @@
 //! A machine that is driven by bytes, as `zookeeper.jute` spells them, and by moments.
 
-mod jute;
-
+use crate::jute::Record;
 use dirwolleu::{
     Action, Actions, Brought, Code, DataAnswer, Fault, Machine, Mark, Moment, NoReply,
-    RawOperation, Refusal, Reply, SavedSession, Side, State, Watch,
+    RawOperation, Refusal, Reply, Side, State, Watch,
 };
-use jute::Record;
 use std::time::Duration;
 
-const TIMEOUT: Duration = Duration::from_secs(9);
-const START: Moment = Moment::from_millis(1_000_000_000);
-const SESSION: i64 = 0x1234_5678;
+pub const TIMEOUT: Duration = Duration::from_secs(9);
+pub const START: Moment = Moment::from_millis(1_000_000_000);
+pub const SESSION: i64 = 0x1234_5678;
 
 fn after(millis: u64) -> Moment {
     START.saturating_add(Duration::from_millis(millis))
@@ -60,7 +58,7 @@ fn answer_of(outcome: Result<Reply<'_>, NoReply>) -> String {
 }
 
 /// A machine with one address, which a server has accepted.
-fn connected() -> Machine {
+pub fn connected() -> Machine {
     let mut machine = Machine::open(TIMEOUT, 1, 1).unwrap();
     assert_eq!(said(machine.tick(START).unwrap()), ["dial 0 within 3s"]);
     assert_eq!(
@@ -272,13 +270,13 @@ fn an_expired_session_is_followed_by_another() {
         ["dial 0 within 3s"]
     );
     let _ = machine.opened(after(2_000)).unwrap();
+    let _ = machine.delete(after(2_000), 9, None, "/a", 0).unwrap();
     let lines = said(machine.bytes(after(2_000), &Record::expired()).unwrap());
-    assert_eq!(
-        lines,
-        ["Expired", "hang up", "8: SessionExpired", "renewed"]
-    );
+    let calls = ["8: SessionExpired", "9: SessionExpired"];
+    assert_eq!(lines, ["Expired", "hang up", calls[0], calls[1], "renewed"]);
     assert_eq!((machine.state(), machine.last_zxid()), (State::Idle, 5));
     assert_eq!(machine.data_mark("/a"), Ok(None));
+    assert_eq!(machine.peek_data("/a"), Ok(None));
     assert_eq!(
         connect_again(&mut machine, after(4_000)),
         ["Connected", "send 4"]
@@ -321,53 +319,6 @@ fn when_a_server_was_heard_is_told() {
     assert_eq!(machine.heard_at(), Some(after(700)));
     let fresh = Machine::open(TIMEOUT, 1, 1).unwrap();
     assert_eq!(fresh.heard_at(), None);
-}
-
-#[test]
-fn a_session_is_saved_and_resumed() {
-    let saved = connected().saved().unwrap();
-    assert_eq!(saved.id(), Some(SESSION));
-    let mut machine = Machine::resume(TIMEOUT, 1, 1, &saved).unwrap();
-    let _ = machine.tick(START).unwrap();
-    let frames = sent(machine.opened(START).unwrap());
-    let password: Vec<u8> = (0..16).collect();
-    let request = Record::new().int(0).long(0).int(9_000).long(SESSION);
-    let request = request.buffer(&password).boolean(false).framed();
-    assert_eq!(frames, [request]);
-    let short = SavedSession::from_bytes(vec![0; 19]);
-    let resumed = Machine::resume(TIMEOUT, 1, 1, &short);
-    assert_eq!(resumed.unwrap_err(), Fault::NotSaved);
-    let zero = Machine::open(Duration::ZERO, 1, 1);
-    assert_eq!(zero.unwrap_err(), Fault::BadTimeout);
-}
-
-#[test]
-fn what_is_no_path_is_refused() {
-    let mut machine = connected();
-    for path in ["", "a", "/a//b"] {
-        let asked = machine.get_data(START, 1, None, path, Watch::No).map(said);
-        assert!(matches!(asked, Err(Fault::NotPath { .. })), "{path:?}");
-        let followed = machine.follow(START, 1, path, Side::Data).map(said);
-        assert!(matches!(followed, Err(Fault::NotPath { .. })), "{path:?}");
-        let followed = machine.follow_tree(START, 1, path, 9).map(said);
-        assert!(matches!(followed, Err(Fault::NotPath { .. })), "{path:?}");
-    }
-}
-
-#[test]
-fn a_machine_moves_between_places_and_threads() {
-    fn is_send<T: Send>() {}
-    is_send::<Machine>();
-    is_send::<Actions<'_>>();
-    let mut machines = vec![connected(), connected()];
-    let mut first = Box::new(machines.remove(0));
-    let thread = std::thread::spawn(move || {
-        let actions = first.follow(START, 1, "/a", Side::Data).unwrap();
-        (said(actions), first.state())
-    });
-    let (lines, state) = thread.join().unwrap();
-    assert_eq!((lines.len(), state), (1, State::Connected));
-    assert_eq!(machines[0].state(), State::Connected);
 }
 
 #[test]
@@ -537,8 +488,8 @@ fn a_server_that_is_behind_a_raw_call_is_asked_for_more() {
     assert_eq!(frames[0][8..16], 50_i64.to_be_bytes());
 }
 
-/// What is sent at this step.
-fn sent(mut actions: Actions<'_>) -> Vec<Vec<u8>> {
+/// The frames that were said.
+pub fn sent(mut actions: Actions<'_>) -> Vec<Vec<u8>> {
     let mut frames = Vec::new();
     while let Some(action) = actions.next().unwrap() {
         if let Action::Send(frame) = action {
