@@ -75,6 +75,10 @@ def make(listener: socket.socket) -> None:
 
 
 def main() -> None:
+    """It is a group of processes of its own, which no interrupt of a terminal reaches. In a session of its own the servers would get less of a busy
+    processor than the tests that wait for them: the system's scheduler shares by sessions.
+    """
+    os.setpgid(0, 0)
     prepare_forks()
     with socket.create_server(("127.0.0.1", 0), backlog=128) as listener, selectors.DefaultSelector() as selector:
         selector.register(listener, selectors.EVENT_READ)

@@ -2,65 +2,46 @@
 
 from __future__ import annotations
 
-import json
-import pathlib
 import socket
 import struct
-import subprocess
-import sys
 import time
 import unittest
 from typing import Optional
 
 import server  # noqa: F401  it finds the package
+from partner import WAIT, Partner, Peer
 
 from dirwolleu.testing import _raw as raw
 from dirwolleu.testing._library import Bench
 
-MAKER = pathlib.Path(__file__).resolve().with_name("maker.py")
 PASSWORD_OF_NONE = struct.pack(">i", 16) + bytes(16)
 OPEN_ACL = struct.pack(">ii", 1, 31) + struct.pack(">i", 5) + b"world" + struct.pack(">i", 6) + b"anyone"
-WAIT = 60.0
-"""The longest that a test waits for one thing, in seconds: a busy machine takes less."""
 
 
 def text(value: str) -> bytes:
     return struct.pack(">i", len(value)) + value.encode()
 
 
-class Peer:
-    """A connection that sends and takes frames."""
+class Caller(Peer):
+    """A connection of a client."""
 
     def __init__(self, port: int) -> None:
-        self.socket = socket.create_connection(("127.0.0.1", port), timeout=WAIT)
+        super().__init__(socket.create_connection(("127.0.0.1", port), timeout=WAIT))
 
-    def send(self, payload: bytes) -> None:
-        self.socket.sendall(struct.pack(">i", len(payload)) + payload)
-
-    def take_bytes(self, count: int) -> Optional[bytes]:
-        taken = b""
-        while len(taken) < count:
-            piece = self.socket.recv(count - len(taken))
-            if not piece:
-                return None
-            taken += piece
-        return taken
-
-    def take(self) -> Optional[bytes]:
+    def heard(self) -> Optional[bytes]:
         """The next payload, or None where the connection is over."""
         try:
-            length = self.take_bytes(4)
-            return None if length is None else self.take_bytes(struct.unpack(">i", length)[0])
+            return self.take_payload()
         except ConnectionError:
             return None
 
     def connect(self, last_zxid: int = 0, session: int = 0, password: bytes = PASSWORD_OF_NONE) -> Optional[bytes]:
         self.send(struct.pack(">iqiq", 0, last_zxid, 6000, session) + password + b"\0")
-        return self.take()
+        return self.heard()
 
     def ask(self, xid: int, kind: int, body: bytes = b"") -> Optional[bytes]:
         self.send(struct.pack(">ii", xid, kind) + body)
-        return self.take()
+        return self.heard()
 
 
 def header(payload: Optional[bytes]) -> tuple[int, int, int]:
@@ -85,36 +66,17 @@ class RawTest(unittest.TestCase):
 
 
 class ServerTest(unittest.TestCase):
-    maker: subprocess.Popen[str]
-    making: int
-
-    @classmethod
-    def setUpClass(cls) -> None:
-        cls.maker = subprocess.Popen([sys.executable, MAKER], stdin=subprocess.PIPE, stdout=subprocess.PIPE, text=True)
-        assert cls.maker.stdout is not None
-        cls.making = int(cls.maker.stdout.readline().split()[1])
-
-    @classmethod
-    def tearDownClass(cls) -> None:
-        cls.maker.communicate(timeout=WAIT)
-
     def start(self, *options: str) -> None:
-        self.commands = socket.create_connection(("127.0.0.1", self.making), timeout=WAIT)
-        self.addCleanup(self.commands.close)
-        self.answers = self.commands.makefile()
-        self.addCleanup(self.answers.close)
-        self.port = int(self.command(json.dumps(options)).split()[1])
+        partner = Partner(*options)
+        self.addCleanup(partner.stop)
+        self.port, self.command = partner.port, partner.ask
 
-    def command(self, line: str) -> str:
-        self.commands.sendall(f"{line}\n".encode())
-        return self.answers.readline().strip()
-
-    def peer(self) -> Peer:
-        peer = Peer(self.port)
-        self.addCleanup(peer.socket.close)
+    def peer(self) -> Caller:
+        peer = Caller(self.port)
+        self.addCleanup(peer.connection.close)
         return peer
 
-    def connected(self) -> Peer:
+    def connected(self) -> Caller:
         peer = self.peer()
         self.assertIsNotNone(peer.connect())
         return peer
@@ -143,7 +105,7 @@ class ServerTest(unittest.TestCase):
         self.assertEqual(header(peer.ask(2, 4, text("/a") + b"\1")), (2, 1, 0))
         notice = struct.pack(">iqiii", -1, -1, 0, 3, 3) + text("/a")
         self.assertEqual(peer.ask(3, 5, text("/a") + struct.pack(">ii", -1, -1)), notice)
-        self.assertEqual(header(peer.take()), (3, 2, 0))
+        self.assertEqual(header(peer.heard()), (3, 2, 0))
         self.assertEqual(header(peer.ask(4, 5, text("/a") + struct.pack(">ii", -1, 7))), (4, 2, -103))
 
     def test_each_refusal_has_its_code(self) -> None:
@@ -179,7 +141,7 @@ class ServerTest(unittest.TestCase):
         notice = struct.pack(">iqiii", -1, -1, 0, 2, 3) + text("/a")
         self.assertEqual(peer.ask(-1002, 14, create + delete + end), notice)
         done = struct.pack(">i?i", 1, False, 0) + text("/b") + struct.pack(">i?i", 2, False, 0) + end
-        self.assertEqual(peer.take(), struct.pack(">iqi", -1002, 3, 0) + done)
+        self.assertEqual(peer.heard(), struct.pack(">iqi", -1002, 3, 0) + done)
 
     def test_acls_sync_and_credentials(self) -> None:
         self.start()
@@ -193,7 +155,7 @@ class ServerTest(unittest.TestCase):
         self.assertEqual(peer.ask(5, 9, text("/a")), struct.pack(">iqi", 5, 1, 0) + text("/a"))
         self.assertEqual(header(peer.ask(-4, 100, struct.pack(">i", 0) + text("digest") + text("a:b"))), (-4, 1, 0))
         self.assertEqual(header(peer.ask(-4, 100, struct.pack(">i", 0) + text("none") + text("x"))), (-4, 1, -115))
-        self.assertIsNone(peer.take())
+        self.assertIsNone(peer.heard())
 
     def test_credentials_may_come_with_the_request_to_connect(self) -> None:
         """In one piece, before a server has answered that: ZooKeeper answers them in this order."""
@@ -201,11 +163,11 @@ class ServerTest(unittest.TestCase):
         connect = struct.pack(">iqiq", 0, 0, 6000, 0) + PASSWORD_OF_NONE + b"\0"
         for scheme, code in (("digest", 0), ("none", -115)):
             peer, auth = self.peer(), struct.pack(">iii", -4, 100, 0) + text(scheme) + text("a:b")
-            peer.socket.sendall(b"".join(struct.pack(">i", len(one)) + one for one in (connect, auth)))
-            self.assertEqual((peer.take() or b"")[4:8], struct.pack(">i", 6000))
-            self.assertEqual(header(peer.take()), (-4, 0, code))
+            peer.connection.sendall(b"".join(struct.pack(">i", len(one)) + one for one in (connect, auth)))
+            self.assertEqual((peer.heard() or b"")[4:8], struct.pack(">i", 6000))
+            self.assertEqual(header(peer.heard()), (-4, 0, code))
             if code:
-                self.assertIsNone(peer.take())
+                self.assertIsNone(peer.heard())
             else:
                 ids = struct.pack(">i", 2) + text("digest") + text("a") + text("ip") + text("127.0.0.1")
                 self.assertEqual((peer.ask(1, 107) or b"")[16:], ids)
@@ -252,8 +214,8 @@ class ServerTest(unittest.TestCase):
         self.assertEqual((peer.ask(2, 1, create) or b"")[16:], text("/n-0000000001"))
         self.assertEqual(header(other.ask(1, 12, text("/") + b"\1"))[2], 0)
         self.assertEqual(header(peer.ask(3, -11)), (3, 4, 0))
-        self.assertIsNone(peer.take())
-        self.assertEqual((other.take() or b"")[16:24], struct.pack(">ii", 4, 3))
+        self.assertIsNone(peer.heard())
+        self.assertEqual((other.heard() or b"")[16:24], struct.pack(">ii", 4, 3))
         self.assertEqual((other.ask(2, 8, text("/") + b"\0") or b"")[16:], struct.pack(">i", 0))
 
     def test_watches_are_set_again(self) -> None:
@@ -265,13 +227,13 @@ class ServerTest(unittest.TestCase):
         peer = self.connected()
         three, one = struct.pack(">i", 3) + text("/changed") + text("/same") + text("/gone"), struct.pack(">i", 1)
         peer.send(struct.pack(">iiq", -8, 101, 3) + three + one + text("/same") + one + text("/same"))
-        events = [(peer.take() or b"")[16:] for _ in range(4)]
+        events = [(peer.heard() or b"")[16:] for _ in range(4)]
         told = [struct.pack(">ii", kind, 3) + text(path) for kind, path in
                 ((3, "/changed"), (2, "/gone"), (1, "/same"), (4, "/same"))]  # fmt: skip
         self.assertEqual(events, told)
-        self.assertEqual(header(peer.take()), (-8, 6, 0))
+        self.assertEqual(header(peer.heard()), (-8, 6, 0))
         self.command("set /same z")
-        self.assertEqual((peer.take() or b"")[16:], struct.pack(">ii", 3, 3) + text("/same"))
+        self.assertEqual((peer.heard() or b"")[16:], struct.pack(">ii", 3, 3) + text("/same"))
 
     def test_drop_down_up_and_expire(self) -> None:
         self.start()
@@ -279,7 +241,7 @@ class ServerTest(unittest.TestCase):
         first = peer.connect() or b""
         session, password = struct.unpack(">q", first[8:16])[0], first[16:36]
         self.assertEqual(self.command("drop"), "done")
-        self.assertIsNone(peer.take())
+        self.assertIsNone(peer.heard())
         self.assertEqual(self.command("down"), "done")
         with self.assertRaises(ConnectionError):
             self.peer()
@@ -293,12 +255,12 @@ class ServerTest(unittest.TestCase):
         peer = self.connected()
         self.command("mute")
         peer.send(struct.pack(">ii", -2, 11))
-        peer.socket.settimeout(0.1)
+        peer.connection.settimeout(0.1)
         with self.assertRaises(socket.timeout):
-            peer.take()
-        peer.socket.settimeout(WAIT)
+            peer.heard()
+        peer.connection.settimeout(WAIT)
         self.command("unmute")
-        self.assertEqual(header(peer.take()), (-2, 0, 0))
+        self.assertEqual(header(peer.heard()), (-2, 0, 0))
 
     def test_a_connection_is_cut_after_so_many_bytes_that_were_sent(self) -> None:
         self.start()
@@ -307,7 +269,8 @@ class ServerTest(unittest.TestCase):
         self.assertEqual(header(other.ask(-2, 11)), (-2, 0, 0))  # 20 bytes
         peer.send(struct.pack(">ii", -2, 11))
         self.assertEqual(peer.take_bytes(5), struct.pack(">i", 16) + b"\xff")
-        self.assertIsNone(peer.take_bytes(1))
+        with self.assertRaises(ConnectionError):
+            peer.take_bytes(1)
         self.assertEqual((self.command("spare"), self.command("connections")), ("done", "2"))
         self.assertEqual(header(other.ask(-2, 11)), (-2, 0, 0))
 
@@ -328,7 +291,7 @@ class ServerTest(unittest.TestCase):
         begun = time.monotonic()
         self.assertIsNotNone(peer.ask(1, 12, text("/") + b"\0"))  # 92 bytes, so 14 pieces
         self.assertGreater(time.monotonic() - begun, 0.013)
-        self.assertEqual((header(peer.ask(2, -11)), peer.take()), ((2, 0, 0), None))  # the reply, and then the end
+        self.assertEqual((header(peer.ask(2, -11)), peer.heard()), ((2, 0, 0), None))  # the reply, and then the end
         self.assertEqual([self.command(line) for line in ("pace 0", "pace", "cut sent", "cut both 1")],
                          ["done", "unknown: pace", "unknown: cut sent", "unknown: cut both 1"])  # fmt: skip
 
@@ -336,7 +299,7 @@ class ServerTest(unittest.TestCase):
         self.start("--piece", "1", "--hostile", "7")
         peer = self.connected()
         peer.send(struct.pack(">ii", -2, 11))
-        self.assertIsNotNone(peer.take_bytes(1))
+        peer.take_bytes(1)
 
 
 if __name__ == "__main__":

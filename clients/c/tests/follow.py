@@ -3,11 +3,11 @@
 import signal
 import struct
 import subprocess
-import tempfile
 import threading
 import time
 
-from programs import BOUND, DATA, EXISTS, GET_DATA, NOBODY, PING, SLACK, STAT, Case, program
+from partner import GET_DATA, PING
+from programs import BOUND, DATA, NOBODY, SLACK, Case, program
 
 PROGRAM, ASKS, CLOSE_S = program("follow"), program("tests/asks"), 1.0
 
@@ -17,15 +17,13 @@ class Followed(Case):
 
     def follow(self, servers, path="/config"):
         self.last_zxid = 0
-        self.errors = tempfile.TemporaryFile("w+", encoding="utf-8")
-        self.addCleanup(self.errors.close)
-        self.followed = self.run_of(PROGRAM, servers, path, stderr=self.errors)
+        self.followed = self.saying(PROGRAM, servers, path)
 
     def begin(self, *options):
         """A server with a node, and the program that follows it."""
         partner = self.partner(*options)
         partner.do("create /config first")
-        self.follow(partner.address)
+        self.follow(partner.host)
         self.expect('good "first"')
         return partner
 
@@ -37,18 +35,6 @@ class Followed(Case):
             self.assertGreaterEqual(int(zxid), self.last_zxid)
             self.last_zxid = int(zxid)
 
-    def said(self):
-        """What the program has said on standard error."""
-        self.errors.seek(0)
-        return self.errors.read()
-
-    def wait_for_words(self, words):
-        """Waits until it has said this: so it has begun, and takes a signal."""
-        end = time.monotonic() + BOUND
-        while words not in self.said():
-            self.assertLess(time.monotonic(), end, words)
-            time.sleep(0.05)
-
     def expect_end(self, number, is_closed):
         """The program ends well at this signal, and says whether the server has closed the session, for whose word it waits a second."""
         begun = time.monotonic()
@@ -59,7 +45,7 @@ class Followed(Case):
 
     def server(self, serve):
         server = super().server(serve)
-        self.follow(server.address)
+        self.follow(server.host)
         return server
 
 
@@ -189,7 +175,7 @@ class Follow(Followed):
 
         def serve(number, line):
             if number == 0:
-                line.send(struct.pack(">i", 1 << 20))
+                line.send_bytes(struct.pack(">i", 1 << 20))
                 line.dribble(b"0")
 
         dials = self.server(serve).wait_for_dials(2)
@@ -198,7 +184,7 @@ class Follow(Followed):
 
     def test_next_address(self):
         partner = self.partner()
-        self.follow(f"{NOBODY},[::1]:1,{partner.address}")
+        self.follow(f"{NOBODY},[::1]:1,{partner.host}")
         self.expect("good absent")
 
     def test_pieces(self):
@@ -213,8 +199,8 @@ class Follow(Followed):
 
     def test_hostile_server(self):
         partner = self.partner("--hostile", "7")
-        self.follow(partner.address)
-        self.wait_for_words(partner.address)
+        self.follow(partner.host)
+        self.wait_for_words(partner.host)
         with self.assertRaises(subprocess.TimeoutExpired):
             self.followed.process.wait(3)
         self.followed.process.send_signal(signal.SIGTERM)
@@ -235,7 +221,7 @@ class Follow(Followed):
     def test_output_that_fails(self):
         partner = self.partner()
         with open("/dev/full", "w", encoding="ascii") as full:
-            done = subprocess.run([PROGRAM, partner.address, "/config"], stdout=full, stderr=subprocess.PIPE, timeout=BOUND, check=False)
+            done = subprocess.run([PROGRAM, partner.host, "/config"], stdout=full, stderr=subprocess.PIPE, timeout=BOUND, check=False)
         self.assertEqual(done.returncode, 1)
 
     def test_words_that_are_refused(self):
@@ -259,7 +245,7 @@ class Asks(Case):
     def test_refusals(self):
         partner = self.partner()
         partner.do("create /a one")
-        address = partner.address
+        address = partner.host
         self.assertEqual(self.says(address, "/nope"), "no node: /nope")
         self.assertEqual(self.says(address, "/x/y", "one"), "no node: /x")
         self.assertEqual(self.says(address, "/a", "two"), "there is a node already: /a")

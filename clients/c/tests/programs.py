@@ -4,17 +4,15 @@
 """
 
 import concurrent.futures
-import contextlib
-import functools
 import importlib
-import json
+import itertools
 import pathlib
 import queue
 import select
-import socket
 import struct
 import subprocess
 import sys
+import tempfile
 import threading
 import time
 import unittest
@@ -24,8 +22,10 @@ sys.dont_write_bytecode = True
 # Seconds that a line, or an end, is waited for; and that a busy machine may make something late.
 BOUND, SLACK = 60, 20
 AT_ONCE = 16
-MAKING = threading.Lock()
 OUT, SERVER = sys.argv[1:3] if len(sys.argv) == 3 else sys.exit(__doc__)
+sys.path.insert(0, str(pathlib.Path(SERVER).resolve().parent))
+
+from partner import STAT, Partner, Peer, RawServer, begin_making  # noqa: E402
 
 
 def program(name):
@@ -59,73 +59,15 @@ class Process:
                 stream.close()
 
 
-@functools.cache
-def maker():
-    """What makes the servers in memory, and ends with this program; and where it does."""
-    process = subprocess.Popen([sys.executable, pathlib.Path(SERVER).with_name("maker.py")], stdin=subprocess.PIPE, stdout=subprocess.PIPE, text=True)
-    return process, ("127.0.0.1", int(process.stdout.readline().removeprefix("making ")))
-
-
-class Partner:
-    """The server in memory."""
-
-    def __init__(self, *options):
-        with MAKING:
-            _, place = maker()
-        self._commands = socket.create_connection(place, BOUND)
-        self._answers = self._commands.makefile()
-        self._commands.sendall(f"{json.dumps(options)}\n".encode())
-        self.address = "127.0.0.1:" + self._answers.readline().rstrip().removeprefix("listening ")
-
-    def ask(self, command):
-        """The line that the server answers to a command."""
-        self._commands.sendall(f"{command}\n".encode())
-        return self._answers.readline()
-
-    def do(self, *commands):
-        for command in commands:
-            if self.ask(command) != "done\n":
-                raise AssertionError(command)
-
-    def end(self):
-        """Ends its process."""
-        with self._commands, self._answers:
-            self._commands.shutdown(socket.SHUT_WR)
-            self._answers.read()
-
-
-class Line:
-    """A connection to the program, frame by frame."""
-
-    def __init__(self, accepted):
-        self._socket = accepted
-
-    def send(self, data):
-        self._socket.sendall(data)
-
-    def frame(self):
-        """The next frame without its length."""
-        head = self._socket.recv(4, socket.MSG_WAITALL)
-        frame = self._socket.recv(int.from_bytes(head, "big"), socket.MSG_WAITALL) if len(head) == 4 else b""
-        if not frame:
-            raise ConnectionError
-        return frame
-
-    def put(self, payload):
-        self.send(struct.pack(">i", len(payload)) + payload)
-
-    def admit(self, timeout):
-        """Admits the session, with this timeout in milliseconds. Answers the zxid that the client has seen."""
-        asked = self.frame()
-        self.put(struct.pack(">iiqi", 0, timeout, 77, 16) + bytes(17))
-        return struct.unpack(">q", asked[4:12])[0]
+class Line(Peer):
+    """A connection to the program, whose requests are answered by their types."""
 
     def request(self):
         """The xid and the type of the next request."""
-        return struct.unpack(">ii", self.frame()[:8])
+        return self.take()[:2]
 
     def answer(self, xid, code=0, body=b""):
-        self.put(struct.pack(">iqi", xid, 5, code) + body)
+        self.send(struct.pack(">iqi", xid, 5, code) + body)
 
     def serve(self, kinds):
         """Answers each request by what its type has."""
@@ -139,33 +81,21 @@ class Line:
     def serve_until(self, event, kinds):
         """The same, until something has happened."""
         while not event.is_set():
-            if select.select([self._socket], [], [], 0.01)[0]:
+            if select.select([self.connection], [], [], 0.01)[0]:
                 self.serve_one(kinds)
 
     def dribble(self, data):
         while True:
-            self.send(data)
+            self.send_bytes(data)
             time.sleep(0.1)
 
 
-class Server:
-    """A server that serves each connection by a function of its number and the connection, one after the other."""
+class Server(RawServer):
+    """A server that serves each connection by a function of its number and the connection."""
 
     def __init__(self, serve):
-        self._serve, self.dials = serve, []
-        self._listener = socket.create_server(("127.0.0.1", 0))
-        self.address = f"127.0.0.1:{self._listener.getsockname()[1]}"
-        threading.Thread(target=self._run, daemon=True).start()
-
-    def _run(self):
-        while True:
-            try:
-                accepted, _ = self._listener.accept()
-            except OSError:
-                return
-            self.dials.append(time.monotonic())
-            with accepted, contextlib.suppress(OSError):
-                self._serve(len(self.dials) - 1, Line(accepted))
+        numbers = itertools.count()
+        super().__init__(lambda line: serve(next(numbers), line), Line)
 
     def wait_for_dials(self, count):
         """The moments of this many dials."""
@@ -174,15 +104,9 @@ class Server:
             time.sleep(0.05)
         return self.dials[:count]
 
-    def end(self):
-        self._listener.shutdown(socket.SHUT_RDWR)
-        self._listener.close()
 
-
-# A Stat of a node that was made at zxid 5, and the reply to getData of one that holds `one`.
-STAT = struct.pack(">qqqqiiiqiiq", 5, 5, 1000, 1000, 0, 0, 0, 0, 3, 0, 5)
+# The reply to getData of a node that holds `one`.
 DATA = struct.pack(">i", 3) + b"one" + STAT
-EXISTS, GET_DATA, PING = 3, 4, 11
 
 
 # Where nobody listens: no system gives that port away. One that was free a moment ago, another test may have got.
@@ -194,12 +118,12 @@ class Case(unittest.TestCase):
 
     def partner(self, *options):
         partner = Partner(*options)
-        self.addCleanup(partner.end)
+        self.addCleanup(partner.stop)
         return partner
 
     def server(self, serve):
         server = Server(serve)
-        self.addCleanup(server.end)
+        self.addCleanup(server.stop)
         return server
 
     def run_of(self, *words, **streams):
@@ -207,9 +131,28 @@ class Case(unittest.TestCase):
         self.addCleanup(process.end)
         return process
 
+    def saying(self, *words):
+        """A program whose standard error is kept."""
+        self.errors = tempfile.NamedTemporaryFile("w+", encoding="utf-8")
+        self.addCleanup(self.errors.close)
+        return self.run_of(*words, stderr=self.errors)
+
+    def said(self):
+        """What the program has said on standard error."""
+        with open(self.errors.name, encoding="utf-8") as errors:
+            return errors.read()
+
+    def wait_for_words(self, words):
+        """Waits until it has said this: so it has begun, and takes a signal."""
+        end = time.monotonic() + BOUND
+        while words not in (said := self.said()):
+            self.assertLess(time.monotonic(), end, f"it does not say {words}: {said}")
+            time.sleep(0.02)
+
 
 def run_side_by_side():
     """Runs each test in a thread of its own, since most of their time is waits. Answers whether all have passed."""
+    begin_making()
     loader = unittest.defaultTestLoader
     modules = [importlib.import_module(name) for name in ("follow", "tree", "servers", "short", "recipes")]
     tests = [test for module in modules for suite in loader.loadTestsFromModule(module) for test in suite]

@@ -12,9 +12,9 @@ class Recipes(Case):
         """Whether the test of this name passes. Lines that it prints are commands."""
         partner = self.partner()
         pipes = {"stdin": subprocess.PIPE, "stdout": subprocess.PIPE, "text": True}
-        with subprocess.Popen([program("tests/recipes"), partner.address, name], **pipes) as run:
+        with subprocess.Popen([program("tests/recipes"), partner.host, name], **pipes) as run:
             for line in run.stdout:
-                run.stdin.write(partner.ask(line.rstrip("\n")))
+                run.stdin.write(partner.ask(line.rstrip("\n")) + "\n")
                 run.stdin.flush()
         self.assertEqual(run.wait(BOUND), 0, name)
 

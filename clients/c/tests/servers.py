@@ -6,7 +6,8 @@ import threading
 import time
 
 from follow import ASKS, Followed
-from programs import BOUND, DATA, GET_DATA, PING, SLACK, STAT, Case
+from partner import GET_DATA, PING, STAT
+from programs import BOUND, DATA, SLACK, Case
 
 CHANGED = struct.pack(">iqi", -1, -1, 0) + struct.pack(">iii", 3, 3, 7) + b"/config"
 
@@ -24,13 +25,13 @@ class Servers(Followed):
         seen, shown = [], threading.Semaphore(0)
 
         def serve(number, line):
-            seen.append(line.admit(10_000))
+            seen.append(line.admit(10_000).last_zxid)
             xid, _ = line.request()
-            line.put(reply(xid, (9, 12)[number], (b"one", b"two")[number]))
+            line.send(reply(xid, (9, 12)[number], (b"one", b"two")[number]))
             shown.acquire(timeout=BOUND)
-            line.put(CHANGED)
+            line.send(CHANGED)
             xid, _ = line.request()
-            line.put(reply(xid, 8 if number == 0 else 13, b"old" if number == 0 else b"new"))
+            line.send(reply(xid, 8 if number == 0 else 13, b"old" if number == 0 else b"new"))
             line.serve({PING: line.answer})
 
         self.server(serve)
@@ -48,12 +49,12 @@ class Servers(Followed):
 
         def serve(number, line):
             if 0 < number < 4:
-                seen.append(struct.unpack(">q", line.frame()[4:12])[0])
+                seen.append(struct.unpack(">q", line.take_payload()[4:12])[0])
                 return
-            seen.append(line.admit(10_000))
+            seen.append(line.admit(10_000).last_zxid)
             if number == 0:
                 xid, _ = line.request()
-                line.put(reply(xid, 9, b"one"))
+                line.send(reply(xid, 9, b"one"))
             else:
                 line.serve({GET_DATA: lambda xid: line.answer(xid, 0, DATA), PING: line.answer, 101: lambda xid: line.answer(xid)})
 
@@ -65,7 +66,7 @@ class Servers(Followed):
     def test_server_that_never_answers(self):
         """A connection that nothing comes over is given up after two thirds of the timeout, which is 10 seconds."""
         begun = time.monotonic()
-        self.server(lambda number, line: (line.frame(), time.sleep(BOUND)))
+        self.server(lambda number, line: (line.take_payload(), time.sleep(BOUND)))
         self.addCleanup(self.followed.end)
         self.wait_for_words("nothing was heard for two thirds of the timeout\n")
         self.assertNotIn("an answer does not come", self.said())
@@ -73,10 +74,10 @@ class Servers(Followed):
         self.assertLess(time.monotonic() - begun, 6.7 + SLACK)
 
     def test_server_beside_one_that_never_answers(self):
-        mute = self.server(lambda number, line: (line.frame(), time.sleep(BOUND)))
+        mute = self.server(lambda number, line: (line.take_payload(), time.sleep(BOUND)))
         self.followed.end()
         partner = self.partner()
-        self.follow(f"{mute.address},{partner.address}")
+        self.follow(f"{mute.host},{partner.host}")
         self.expect("good absent")
 
     def test_server_that_takes_no_connection(self):
@@ -99,7 +100,7 @@ class Servers(Followed):
         partner = self.partner()
         partner.do("down")
         begun = time.monotonic()
-        self.follow(partner.address)
+        self.follow(partner.host)
         while (attempts := self.said().count("connection refused")) < 6 and time.monotonic() < begun + BOUND:
             time.sleep(0.05)
         self.assertGreaterEqual(attempts, 6)
@@ -136,13 +137,13 @@ class Late(Case):
 
     def says(self, serve, *words):
         server = self.server(serve)
-        asked = self.run_of(ASKS, server.address, *words, stderr=-1)
+        asked = self.run_of(ASKS, server.host, *words, stderr=-1)
         return server, asked.process.stderr.readline().removeprefix("session: ").removesuffix("\n")
 
     def test_server_that_never_answers(self):
-        server, said = self.says(lambda number, line: (line.frame(), time.sleep(BOUND)), "/a")
+        server, said = self.says(lambda number, line: (line.take_payload(), time.sleep(BOUND)), "/a")
         last = "connected, and it has not accepted the session"
-        self.assertEqual(said, f"no server of {server.address} accepted the session in 9 s; last: {server.address}: {last}")
+        self.assertEqual(said, f"no server of {server.host} accepted the session in 9 s; last: {server.host}: {last}")
 
     def test_read_that_is_lost(self):
         """It is asked again on each connection, as long as the call waits."""

@@ -3,10 +3,10 @@
 import signal
 import struct
 import subprocess
-import tempfile
 import time
 
-from programs import BOUND, EXISTS, GET_DATA, PING, STAT, Case, program
+from partner import EXISTS, GET_DATA, PING, STAT
+from programs import BOUND, Case, program
 
 PROGRAM = program("tree")
 GET_CHILDREN2 = 12
@@ -19,15 +19,13 @@ def names(*all_of_them):
 
 class Tree(Case):
     def show(self, servers, path="/t"):
-        self.errors = tempfile.NamedTemporaryFile("w+", encoding="utf-8")
-        self.addCleanup(self.errors.close)
-        self.shown = self.run_of(PROGRAM, servers, path, stderr=self.errors)
+        self.shown = self.saying(PROGRAM, servers, path)
 
     def begin(self, *options):
         """A server with a tree, and the program that shows it."""
         partner = self.partner(*options)
         partner.do("create /t root", "create /t/b 2", "create /t/a 1", "create /t/a/x deep", "create /t/a-b 3", "create /other 4")
-        self.show(partner.address)
+        self.show(partner.host)
         self.assertEqual(self.subtree(), ['/t "root"', '/t/a "1"', '/t/a/x "deep"', '/t/a-b "3"', '/t/b "2"'])
         return partner
 
@@ -45,19 +43,6 @@ class Tree(Case):
             self.assertGreaterEqual(self.zxid, before)
             if is_wanted(subtree):
                 return subtree
-
-    def wait_for_words(self, words):
-        """Waits until the program has said this on standard error."""
-        end = time.monotonic() + BOUND
-        said = ""
-        while words not in said:
-            self.assertLess(time.monotonic(), end, f"it does not say {words}: {said}")
-            time.sleep(0.02)
-            said = self.said()
-
-    def said(self):
-        with open(self.errors.name, encoding="utf-8") as errors:
-            return errors.read()
 
     def expect_end(self):
         self.shown.process.send_signal(signal.SIGTERM)
@@ -90,7 +75,7 @@ class Tree(Case):
 
     def test_root_that_is_not_there(self):
         partner = self.partner()
-        self.show(partner.address, "/later")
+        self.show(partner.host, "/later")
         self.wait_for_words("tree: no node: /later\n")
         partner.do("create /later 1", "create /later/one 2")
         self.zxid = 0
@@ -102,7 +87,7 @@ class Tree(Case):
 
     def test_tree_below_a_chroot(self):
         partner = self.begin()
-        self.show(partner.address + "/t/a", "/")
+        self.show(partner.host + "/t/a", "/")
         self.assertEqual(self.subtree(), ['/ "1"', '/x "deep"'])
         partner.do("create /t/a/y more")
         self.wait_for(lambda one: one == ['/ "1"', '/x "deep"', '/y "more"'])
@@ -114,7 +99,7 @@ class Tree(Case):
     def test_more_nodes_than_are_read_at_once(self):
         partner = self.partner()
         partner.do("create /t root", *(f"create /t/n{number:04} -" for number in range(700)))
-        self.show(partner.address)
+        self.show(partner.host)
         self.assertEqual(len(self.subtree()), 701)
 
     def serve(self, read, kinds=None):
@@ -123,7 +108,7 @@ class Tree(Case):
         def serve(_, line):
             line.admit(10_000)
             while True:
-                frame = line.frame()
+                frame = line.take_payload()
                 xid, kind = struct.unpack(">ii", frame[:8])
                 is_child = b"/t/a" in frame
                 if kinds is not None and is_child and kind != GET_CHILDREN2:
@@ -139,7 +124,7 @@ class Tree(Case):
                 self.assertIn(kind, (GET_DATA, GET_CHILDREN2, EXISTS, PING))
 
         server = self.server(serve)
-        self.show(server.address)
+        self.show(server.host)
 
     def test_refused_reads(self):
         """The program goes on at each code, and reads once a second at most. It says which are no wait for a server that is busy."""
@@ -179,7 +164,7 @@ class Tree(Case):
             reply = struct.pack(">iqi", xid, 5, 0) + struct.pack(">i", 3) + b"one" + STAT
             notice = struct.pack(">iqi", -1, -1, 0) + struct.pack(">iii", 3, 3, 4) + b"/t/a"
             frames = [reply] if len(reads) == 50 else [reply, notice]
-            line.send(b"".join(struct.pack(">i", len(frame)) + frame for frame in frames))
+            line.send(*frames)
 
         self.serve(read)
         self.assertEqual(self.subtree(), ['/t "root"', '/t/a "one"'])

@@ -509,11 +509,11 @@ class KeywordsTest(KazooCase):
         answers = {b"envi": b"not in the whitelist", b"srvr": b"Zookeeper version: 3.8.0-1--1, built on x\nMode: standalone\n"}
 
         def serve(peer: Peer) -> None:
-            word = peer._take(4)
+            word = peer.take_bytes(4)
             if word in answers:
                 peer.send_bytes(answers[word])
                 return
-            peer._take(int.from_bytes(word, "big"))
+            peer.take_bytes(int.from_bytes(word, "big"))
             peer.send(bytes(4) + (60_000).to_bytes(4, "big") + (7).to_bytes(8, "big") + (16).to_bytes(4, "big") + bytes(17))
             peer.take()
 

@@ -215,8 +215,8 @@ class TlsTest(PartnerCase):
 
 def hear_hello(peer: Peer) -> None:
     """Reads the first record of TLS."""
-    head = peer._take(5)
-    peer._take(int.from_bytes(head[3:], "big"))
+    head = peer.take_bytes(5)
+    peer.take_bytes(int.from_bytes(head[3:], "big"))
 
 
 if __name__ == "__main__":
