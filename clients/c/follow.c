@@ -9,7 +9,7 @@
  *   /config unknown 14          nothing is kept: the session is over, or has expired; another one begins, at no server that is behind */
 #define _POSIX_C_SOURCE 200809L
 #include "session.h"
-#include "told.h"
+#include "example.h"
 
 #include <inttypes.h>
 #include <stdio.h>

@@ -4,7 +4,7 @@
  *
  * It prints what the node holds, at first and at each change. */
 #define _POSIX_C_SOURCE 200809L
-#include "told.h"
+#include "example.h"
 #include "tls.h"
 
 #include <inttypes.h>

@@ -13,7 +13,7 @@
  * Why there is no newer one, as that there is no root, and what happens to connections, is told on standard error. */
 #define _POSIX_C_SOURCE 200809L
 #include "session.h"
-#include "told.h"
+#include "example.h"
 
 #include <inttypes.h>
 #include <stdio.h>

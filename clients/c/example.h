@@ -1,6 +1,6 @@
-/* What the example programs share: they print what nodes hold, and end well at a signal. */
-#ifndef TOLD_H
-#define TOLD_H
+/* What the example programs share: they print the data of nodes, and end at a signal. */
+#ifndef EXAMPLE_H
+#define EXAMPLE_H
 
 #include "session.h"
 
