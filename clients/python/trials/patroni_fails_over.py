@@ -57,7 +57,7 @@ LATEST_LOOK = LOOP_WAIT + 0.5 + 1
 """How much later the other node has to have the leader's key at the latest: patroni looks again half a second after
 `loop_wait` where no watch has woken it.
 """
-PATIENCE = 180.0
+PATIENCE = 900.0
 PORTS = (20000, 32000)
 _given: set[int] = set()
 BIN = pathlib.Path("/usr/lib/postgresql/15/bin")
