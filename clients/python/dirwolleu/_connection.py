@@ -83,7 +83,7 @@ class Connection(Views):
             self._step(now, Session.received, data)
         except NoMemory:
             self._bring_again(now, data)
-        if self._pings:
+        if self._pings.waiting:
             for pinged_at in self._pings.answered_by(data):
                 self.contact.answered(pinged_at, now)
         if self._trees:
@@ -108,6 +108,10 @@ class Connection(Views):
         self._frames.clear()
         self._hangs_up, self._dial = False, None
         return orders
+
+    def is_at_rest(self) -> bool:
+        """Whether nothing is to be done for now: there are no orders and no wishes, and what is due is due as it was."""
+        return not (self._frames or self._is_recast or self._wishes or self._trees or self._recorder)
 
     def deadline(self) -> Optional[int]:
         """The moment at which `tick` is wanted, at the latest."""

@@ -24,21 +24,19 @@ class Pings:
     """
 
     def __init__(self) -> None:
-        self._sent: collections.deque[int] = collections.deque()
+        self.waiting: collections.deque[int] = collections.deque()
+        """When each of them was sent."""
         self._tail = b""
 
-    def __bool__(self) -> bool:
-        return bool(self._sent)
-
     def sent(self, now: int) -> None:
-        self._sent.append(now)
+        self.waiting.append(now)
 
     def answered_by(self, data: Union[bytes, memoryview]) -> Iterator[int]:
         """When those were sent that these bytes answer."""
         seen = self._tail + data
-        for _ in range(min(seen.count(_PONG), len(self._sent))):
-            yield self._sent.popleft()
-        self._tail = seen[1 - len(_PONG) :] if self._sent else b""
+        for _ in range(min(seen.count(_PONG), len(self.waiting))):
+            yield self.waiting.popleft()
+        self._tail = seen[1 - len(_PONG) :] if self.waiting else b""
 
 
 class Contact:

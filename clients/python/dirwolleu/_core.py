@@ -149,8 +149,8 @@ class Core(Observed):
         except KeyboardInterrupt:  # within an event loop of the main thread
             self._resume("the client was interrupted")
             raise
-        fault, self._fault = self._fault, ""
-        if fault:
+        if self._fault:
+            fault, self._fault = self._fault, ""
             self._cause = library.BAD_PAYLOAD
             self.drop(now, fault)
 

@@ -137,7 +137,8 @@ class Driver:
             data = self._log_in(self._login, bytes(data))
         if data:
             self._engine.received(now, data)
-        self.act(now)
+        if not self._engine.is_at_rest():
+            self.act(now)
 
     def _log_in(self, login: Login, data: bytes) -> bytes:
         """Goes on with the log-in of the connection, and gives what came for the session: nothing before the end of it."""

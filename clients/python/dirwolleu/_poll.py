@@ -262,8 +262,9 @@ class Reactor:
         events = self._polls.poll(patience, _MOST_EVENTS)
         self._waits = False
         for descriptor, ready in events:
-            if descriptor in self._functions:
-                self._functions[descriptor](ready)
+            function = self._functions.get(descriptor)
+            if function is not None:
+                function(ready)
         if self._asked:
             self._serve_those_who_ask()
         if self._posted:

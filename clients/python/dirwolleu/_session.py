@@ -45,7 +45,7 @@ _fields_of_output = fields_of(library._Output)
 _LENGTH, _HEAD, _END_OF_STAT = 6, 10, 21  # of these: the length of the text, what is before the Stat, and with it
 _as_the_protocol_has_it = operator.itemgetter(*range(14), 16, 17, 18, 14, 19, 20, 15)
 """The fields of an output with those of the Stat in the order of the protocol."""
-_SEND, _ANSWER, _START = library.SEND, library.ANSWER, c_size_t(0)
+_OK, _SEND, _ANSWER, _START = library.OK, library.SEND, library.ANSWER, c_size_t(0)
 
 
 class Dial(NamedTuple):
@@ -166,7 +166,8 @@ class Session(LookUps):
         limits: Limits = Limits(),
     ) -> None:
         super().__init__(root)
-        self._output, self._count, self._take_all = library._Output(), c_size_t(), self._calls.outputs
+        self._output, self._count = library._Output(), c_size_t()
+        self._take_next = functools.partial(self._calls.next, byref(self._handle), byref(self._output))
         self._make_room(4096)
         self._untold = 0
         """How many bytes have come since a step said something."""
@@ -198,7 +199,7 @@ class Session(LookUps):
         at = data if isinstance(data, bytes) else byref(c_char.from_buffer(data))
         code = self._calls.bytes(self._handle, now, at, len(data))
         self._untold += len(data)
-        if self._untold < LONG or code < library.OK:
+        if self._untold < LONG or code < _OK:
             outputs = self._outputs(code)
         else:
             keep_what_is_let_go()
@@ -303,10 +304,10 @@ class Session(LookUps):
     # What a step tells.
 
     def _outputs(self, code: int, path: str = "") -> list[Action]:
-        if code < library.OK:
+        if code < _OK:
             self._check(code, path)
         outputs: list[Any] = []
-        if self._take_all(*self._place) != library.OK or self._count.value > self._size:
+        if self._take_all() != _OK or self._count.value > self._size:
             if not self._can_take_all():
                 return self._each_output()
         at, end, view = 0, self._count.value, self._view
@@ -322,7 +323,7 @@ class Session(LookUps):
         """Makes room for outputs."""
         self._room = create_string_buffer(size)
         self._view, self._size = memoryview(self._room), size
-        self._place = byref(self._handle), byref(self._room), c_size_t(size), byref(self._count)
+        self._take_all = functools.partial(self._calls.outputs, byref(self._handle), byref(self._room), c_size_t(size), byref(self._count))
 
     def _can_take_all(self) -> bool:
         """Takes what a step says into more room, unless it is long, or there is no memory to take it at once."""
@@ -330,14 +331,13 @@ class Session(LookUps):
         if not self._size < wanted <= MOST_AT_ONCE:
             return False
         self._make_room(wanted)
-        return bool(self._take_all(*self._place) == library.OK)
+        return bool(self._take_all() == _OK)
 
     def _each_output(self, least: int = 0) -> list[Action]:
         """The same, one output after the other, and all that follow one of fewer bytes than these together. Where there is no memory for
         one, it is lost."""
         outputs: list[Action] = []
-        handle, output, take = self._place[0], byref(self._output), self._calls.next
-        while (code := take(handle, output)) == library.OK:
+        while (code := self._take_next()) == _OK:
             fields = _as_the_protocol_has_it(_fields_of_output(self._output))
             try:
                 outputs.append(self._read(fields, self._bytes_of(fields)))
@@ -345,7 +345,8 @@ class Session(LookUps):
                 checked(library.HALTED)
             if fields[_LENGTH] < least:
                 return outputs + self._outputs(code)
-        checked(code)
+        if code < _OK:
+            checked(code)
         return outputs
 
     def _bytes_of(self, fields: tuple[Any, ...]) -> bytes:
@@ -354,7 +355,7 @@ class Session(LookUps):
         if kind == _ANSWER and fields[_LENGTH + 1]:
             return filled(lambda *room: self._calls.names(self._handle, *room), self._untold)
         text: bytes = new_bytes(None, length)
-        self._calls.copy(self._place[0], _START, text, length)
+        self._calls.copy(byref(self._handle), _START, text, length)
         return text + filled(lambda *room: self._calls.words(self._handle, *room)) if kind == library.DROP else text
 
     def _read(self, fields: tuple[Any, ...], told: bytes) -> Action:

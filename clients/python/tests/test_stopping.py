@@ -343,15 +343,15 @@ class TurnTest(StoppingCase):
             return type(error), self.is_over, self.started.state
 
     def test_an_answer_is_had_where_its_turn_fails(self) -> None:
-        answers, take = self.engine.contact.answers, self.engine.take_orders
+        answers, is_at_rest = self.engine.contact.answers, self.engine.is_at_rest
         failures = [RuntimeError("the turn fails")]
 
         def fail_once() -> Any:
             if failures and self.engine.contact.answers > answers:
                 raise failures.pop()
-            return take()
+            return is_at_rest()
 
-        with self.assertLogs("dirwolleu", "ERROR"), mock.patch.object(self.engine, "take_orders", fail_once):
+        with self.assertLogs("dirwolleu", "ERROR"), mock.patch.object(self.engine, "is_at_rest", fail_once):
             self.assertEqual(self.started.get_children("/"), [])
         self.assertEqual(failures, [])
         self.assertEqual(self.started.get_children("/"), [])
