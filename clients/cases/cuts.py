@@ -12,7 +12,7 @@ HERE = pathlib.Path(__file__).resolve().parent
 sys.path.insert(0, str(HERE.parent / "python"))
 
 from dirwolleu import _library as library  # noqa: E402
-from dirwolleu._session import Dial, MemberAdded, MemberRemoved, Session, Shown, Sign, TreeComplete  # noqa: E402
+from dirwolleu._session import Dial, MemberAdded, MemberRemoved, PlainAction, Session, Shown, TreeComplete  # noqa: E402
 from dirwolleu.testing import _library as bench  # noqa: E402
 from dirwolleu.types import DataStat  # noqa: E402
 
@@ -267,9 +267,9 @@ class Play:
             if link.is_there or link.dialled is not None:
                 raise Fault("a server is dialled, and there is a connection")
             link.dialled = action.place
-        elif action is Sign.HANG_UP:
+        elif action is PlainAction.HANG_UP:
             link.hang_up()
-        elif action is Sign.RENEWED:
+        elif action is PlainAction.RENEWED:
             self.shown.clear()
         elif isinstance(action, library.StateChange):
             if action.state == library.CONNECTED:

@@ -13,7 +13,7 @@ from typing import Callable, Optional, TypeVar, Union
 from dirwolleu import _plans as plans
 from dirwolleu import _records as records
 from dirwolleu import _requests as requests
-from dirwolleu._credentials import Introduction
+from dirwolleu._credentials import CredentialCall
 from dirwolleu._freshening import freshening
 from dirwolleu._plans import Acls, Plan
 from dirwolleu._records import Created, Mode
@@ -206,4 +206,4 @@ def add_auth(
 
         client.add_auth("digest", "bob:secret")
     """
-    return Introduction(credential_of(scheme, credential)), timeout
+    return CredentialCall(credential_of(scheme, credential)), timeout

@@ -5,12 +5,12 @@ from __future__ import annotations
 import logging
 from typing import Any, Optional, Union
 
-from dirwolleu._contact import Pings, is_ping
+from dirwolleu._connection_commands import NO_COMMANDS, ConnectionCommands
+from dirwolleu._connection_stats import Pings, is_ping
 from dirwolleu._handle import made
 from dirwolleu._library import Drop, NoMemory, Send
 from dirwolleu._observing import DROPPED, ELSEWHERE, LATE, MOVED, reason_of
-from dirwolleu._orders import NO_ORDERS, Orders
-from dirwolleu._session import Dial, Session, Sign, unbegun
+from dirwolleu._session import Dial, PlainAction, Session, unbegun
 from dirwolleu._views import Views
 from dirwolleu.types import State
 
@@ -44,7 +44,7 @@ class Connection(Views):
     def opened(self, now: int) -> None:
         """The connection that was asked for is there."""
         self._is_open = self._is_recast = True
-        self._introductions.begin_connection()
+        self._credentials.begin_connection()
         self._step(now, Session.opened)
 
     def failed(self, now: int) -> None:
@@ -69,7 +69,7 @@ class Connection(Views):
         self._step(now, Session.moment)
         self._why = ""
         for asked in self._line.late(now, self.state is State.CONNECTED):
-            self.contact.losses += 1
+            self.connection_stats.losses += 1
             asked.give_up(self.no_server(self._timeout_ms / 1000))
         self._line.tidy()
         if self._trees:
@@ -85,29 +85,29 @@ class Connection(Views):
             self._bring_again(now, data)
         if self._pings.waiting:
             for pinged_at in self._pings.answered_by(data):
-                self.contact.answered(pinged_at, now)
+                self.connection_stats.answered(pinged_at, now)
         if self._trees:
             self._tend_trees(now)
             self._grow_trees(now)
         if self.state is _CONNECTED:
-            self.contact.heard_at = now
+            self.connection_stats.heard_at = now
         if self._line.waiting:
             self._send_line(now)
 
     # What is to be done about it.
 
-    def take_orders(self) -> Orders:
-        """What is to be done about the connection."""
+    def take_commands(self) -> ConnectionCommands:
+        """What the driver does next with the connection."""
         if self._recorder is not None:
             self._flush_record()
         if not self._frames and not self._hangs_up and self._dial is None:
-            return NO_ORDERS
-        orders = made(Orders, (self._hangs_up, self._dial, b"".join(self._frames)))
+            return NO_COMMANDS
+        commands = made(ConnectionCommands, (self._hangs_up, self._dial, b"".join(self._frames)))
         if self.observers is not None:
-            self.observers.transfer("out", len(orders.frames))
+            self.observers.transfer("out", len(commands.frames))
         self._frames.clear()
         self._hangs_up, self._dial = False, None
-        return orders
+        return commands
 
     def is_at_rest(self) -> bool:
         """Whether nothing is to be done for now: there are no orders and no wishes, and what is due is due as it was."""
@@ -156,10 +156,10 @@ class Connection(Views):
     def _take_dial(self, dial: Dial) -> None:
         self._dial = dial
         self._is_recast = True
-        self.contact.dials += 1
+        self.connection_stats.dials += 1
 
-    def _take_sign(self, sign: Sign) -> None:
-        if sign is Sign.HANG_UP:
+    def _take_plain_action(self, action: PlainAction) -> None:
+        if action is PlainAction.HANG_UP:
             self._why = self._why or ELSEWHERE
             self._hangs_up, self._dial = True, None
             self._leave_connection()
@@ -177,8 +177,8 @@ class Connection(Views):
         """A server has accepted the session."""
         self.trouble = ""
         self._is_admitted = True
-        self.contact.heard_at = self._now
-        self.contact.admissions += 1
+        self.connection_stats.heard_at = self._now
+        self.connection_stats.admissions += 1
         self._number = self.session_id() & _SESSION
         where, words = self.place or "a server", "connected to %s: session %#x with a timeout of %s seconds"
         logger.info(words, where, self._number, self.timeout(), extra=self._fields())

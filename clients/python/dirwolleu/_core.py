@@ -8,7 +8,7 @@ from collections.abc import Iterator
 from typing import Any, Callable, Optional
 
 from dirwolleu import _library as library
-from dirwolleu._contact import Contact
+from dirwolleu._connection_stats import ConnectionStats
 from dirwolleu._library import NoMemory
 from dirwolleu._listening import Listeners
 from dirwolleu._observing import Observed
@@ -41,7 +41,7 @@ class Core(Observed):
         self._fault, self._cause = "", 0
         self._now = self._number = 0
         self._is_recast = True
-        self.contact = Contact()
+        self.connection_stats = ConnectionStats()
         self.hosts = ""
         """Which servers are looked for, as the program has named them."""
         self.trouble = ""

@@ -1,4 +1,4 @@
-"""What a session introduces itself by, on each connection. The session writes it, and tells what the server has answered."""
+"""The credentials that a session sends first on each connection, and the calls that wait for a server's answer to one."""
 
 from __future__ import annotations
 
@@ -25,8 +25,8 @@ class Credential(NamedTuple):
         return f"Credential(scheme={self.scheme!r}, credential=..)"
 
 
-class Introduction(Request[None]):
-    """Has a session introduce itself by a credential too, now and on each later connection."""
+class CredentialCall(Request[None]):
+    """Adds a credential to the session, on this connection and on each later one."""
 
     __slots__ = ()
 
@@ -34,8 +34,8 @@ class Introduction(Request[None]):
         super().__init__(Session.credential, words=credential, is_repeatable=True)
 
 
-class Introductions:
-    """The credentials of a session by their places, and who waits for the answer to one."""
+class CredentialQueue:
+    """The credentials of a session by their places, and the calls that wait for the answer to one."""
 
     def __init__(self, credentials: Iterable[Credential]) -> None:
         self._kept = list(credentials)

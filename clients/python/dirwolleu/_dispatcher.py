@@ -10,7 +10,7 @@ from typing import Any, Optional
 
 from dirwolleu._asked import Asked, Waiter
 from dirwolleu._core import Core, Tell
-from dirwolleu._credentials import TAKEN, Credential, Introduction, Introductions
+from dirwolleu._credentials import TAKEN, Credential, CredentialCall, CredentialQueue
 from dirwolleu._jute import Malformed
 from dirwolleu._library import Answer
 from dirwolleu._line import Line
@@ -34,7 +34,7 @@ class Dispatcher(Core):
 
     def __init__(self, timeout_ms: int, root: Root, tell: Tell, credentials: Iterable[Credential]) -> None:
         super().__init__(timeout_ms, root, tell)
-        self._introductions = Introductions(credentials)
+        self._credentials = CredentialQueue(credentials)
         self._tickets = itertools.count(1)
         self._handed: collections.deque[Asked] = collections.deque()
         self._line = Line()
@@ -43,9 +43,9 @@ class Dispatcher(Core):
         self._due: Optional[int] = None
         self._why = ""
 
-    def is_introduced(self) -> bool:
+    def is_authenticated(self) -> bool:
         """Whether a server has accepted the session, and answered for all credentials."""
-        return self.state is State.CONNECTED and self._introductions.are_answered() and not self.refused
+        return self.state is State.CONNECTED and self._credentials.are_answered() and not self.refused
 
     def is_idle(self) -> bool:
         """Whether nothing that was sent waits for its answer."""
@@ -113,9 +113,9 @@ class Dispatcher(Core):
             until = now + self._timeout_ms if self.state is _CONNECTED else asked.until
         if self._due is None or until < self._due:
             self._is_recast = True
-        if isinstance(request, Introduction):
+        if isinstance(request, CredentialCall):
             self._line.limit(asked, until)
-            return self._introduce(asked, Credential(*request.words), now)
+            return self._add_credential(asked, Credential(*request.words), now)
         ticket = next(self._tickets)
         asked.is_handed = True
         self._sent[ticket] = asked
@@ -139,10 +139,10 @@ class Dispatcher(Core):
             if answer.code in _ENDING:
                 self._why = f"the server answered {answer.code}"
             else:
-                self.contact.answers += 1
-            self.contact.answered(asked.sent_at, self._now)
+                self.connection_stats.answers += 1
+            self.connection_stats.answered(asked.sent_at, self._now)
         else:
-            self.contact.losses += 1
+            self.connection_stats.losses += 1
         request = asked.request
         if request.watcher is not None and request.leaves_watch(answer):
             self._watchers.add(request.watcher)
@@ -155,40 +155,40 @@ class Dispatcher(Core):
     def _time_out(self, timed_out: TimedOut) -> None:
         asked = self._sent.pop(timed_out.ticket, None)
         if asked is not None:
-            self.contact.losses += 1
+            self.connection_stats.losses += 1
             asked.is_sent = timed_out.was_sent
             asked.give_up(self.no_server(self._timeout_ms / 1000))
 
     def _count_loss(self, asked: Asked, error: ZookeeperError) -> None:
-        self.contact.losses += 1
+        self.connection_stats.losses += 1
         asked.fail(error)
 
     # Credentials.
 
-    def _introduce(self, asked: Asked, credential: Credential, now: int) -> None:
-        """Has this connection and all later ones introduce themselves by a credential too, once."""
+    def _add_credential(self, asked: Asked, credential: Credential, now: int) -> None:
+        """Adds a credential to this connection and all later ones, once."""
         asked.is_sent = self.state is _CONNECTED or asked.ends_at is not None  # the session keeps it
-        if self._introductions.is_taken(credential):
+        if self._credentials.is_taken(credential):
             return asked.settle(TAKEN)
-        if self._introductions.wait(asked, credential):
+        if self._credentials.wait(asked, credential):
             try:
                 self._step(now, Session.credential, *credential)
             except Exception as error:  # as above
-                self._introductions.withdraw(asked)
+                self._credentials.withdraw(asked)
                 asked.fail(error)
 
     def _hear_of_credential(self, answer: CredentialAnswer) -> None:
         if answer.code:
             return self._bar(answer.place)
-        for asked in self._introductions.take(answer.place):
-            self.contact.answers += 1
-            self.contact.answered(asked.sent_at, self._now)
+        for asked in self._credentials.take(answer.place):
+            self.connection_stats.answers += 1
+            self.connection_stats.answered(asked.sent_at, self._now)
             asked.settle(TAKEN)
         self._wake(None)
 
     def _bar(self, place: int) -> None:
         """A server refuses the credential at this place. What was sent after it may have happened."""
-        scheme, asked_for_it = self._introductions.scheme(place), self._introductions.leave(place)
+        scheme, asked_for_it = self._credentials.scheme(place), self._credentials.leave(place)
         self.refuse(f"the server refuses the credentials of the scheme {scheme}", may_have_happened=True)
         for asked in asked_for_it:
             asked.fail(AuthFailedError())

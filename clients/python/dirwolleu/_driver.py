@@ -101,7 +101,7 @@ class Driver:
         """Goes on until it is stopped or the session is closed. Then it is over."""
         self._loop = loop
         self._is_started = True
-        self._engine.contact.heard_at = moment()
+        self._engine.connection_stats.heard_at = moment()
         self.act()
 
     def stop(self, end: Callable[[], None]) -> None:
@@ -179,7 +179,7 @@ class Driver:
         engine.take_handed(self._noticed() if now is None else now)
         if self.is_stopped:
             return
-        hangs_up, dial, frames = engine.take_orders()
+        hangs_up, dial, frames = engine.take_commands()
         if hangs_up:
             self._hang_up()
         if frames and self._link is not None:

@@ -15,6 +15,7 @@ from typing import Optional
 
 from dirwolleu import _library as library
 from dirwolleu._connection import Connection
+from dirwolleu._connection_commands import News as News
 from dirwolleu._core import Listener as Listener
 from dirwolleu._core import Tell as Tell
 from dirwolleu._credentials import Credential
@@ -22,7 +23,6 @@ from dirwolleu._dispatcher import LONGEST_TIMEOUT_MS
 from dirwolleu._dispatcher import MOST_HANDED as MOST_HANDED
 from dirwolleu._library import Answer, Closed, Drop, Report, Send, StateChange
 from dirwolleu._listening import Listeners
-from dirwolleu._orders import News as News
 from dirwolleu._process import this_process
 from dirwolleu._recording import Path, Recorder
 from dirwolleu._root import Root
@@ -32,10 +32,10 @@ from dirwolleu._session import (
     Limits,
     MemberAdded,
     MemberRemoved,
+    PlainAction,
     Refused,
     Session,
     Shown,
-    Sign,
     TimedOut,
     TreeBounded,
     TreeComplete,
@@ -80,7 +80,7 @@ class Engine(Connection):
             self._recorder.begin(self._timeout_ms, saved)
         seed = int.from_bytes(os.urandom(8), "big")
         session = Session(self._timeout_ms, seed, saved, self._root, addresses, self._limits)
-        self._introductions.begin(session)
+        self._credentials.begin(session)
         return session
 
     def record(self, path: Path, saved: Optional[bytes]) -> None:
@@ -136,17 +136,17 @@ class Engine(Connection):
             self._end_record()
 
     def stats(self) -> Stats:
-        contact, sent = self.contact, len(self._sent) + len(self._introductions.waiting())
+        stats, sent = self.connection_stats, len(self._sent) + len(self._credentials.waiting())
         held = 0 if self.state is State.CONNECTED else sent
         return Stats(
-            dials=contact.dials,
-            connections=contact.admissions,
-            expiries=contact.expiries,
-            answered=contact.answers,
-            lost=contact.losses,
+            dials=stats.dials,
+            connections=stats.admissions,
+            expiries=stats.expiries,
+            answered=stats.answers,
+            lost=stats.losses,
             waiting=len(self._line) + len(self._handed) + held,
             in_flight=sent - held,
-            round_trip=None if contact.round_trip is None else contact.round_trip / 1000,
+            round_trip=None if stats.round_trip is None else stats.round_trip / 1000,
         )
 
     # The life of its session.
@@ -156,7 +156,7 @@ class Engine(Connection):
         if change.state == library.CONNECTED:
             self._admit()
         elif change.state == library.EXPIRED:
-            self.contact.expiries += 1
+            self.connection_stats.expiries += 1
             logger.warning("the session %#x has expired: a new one begins", self._number, extra=self._fields())
             self._observe("expired")
             self._forget_callers(SessionExpiredError(), State.LOST)
@@ -209,7 +209,7 @@ class Engine(Connection):
         self._refuse_handed(error)
         for tree in list(self._trees):
             tree.end_current()
-        for asked in [*self._sent.values(), *self._introductions.clear()]:
+        for asked in [*self._sent.values(), *self._credentials.clear()]:
             lost = type(error)(*error.args)
             lost.may_have_happened = error.may_have_happened
             self._count_loss(asked, lost)
@@ -230,7 +230,7 @@ Engine._takers = {
     StateChange: Engine._change,
     Drop: Engine._take_reason,
     Dial: Engine._take_dial,
-    Sign: Engine._take_sign,
+    PlainAction: Engine._take_plain_action,
     TimedOut: Engine._time_out,
     Shown: Engine._show,
     Refused: Engine._refuse,

@@ -152,7 +152,7 @@ class Holding:
         self.path, self.token, self._shown = taken
         self._keeps = keeps_while_suspended
         self._session = engine.session_id()
-        self._connections = engine.contact.admissions
+        self._connections = engine.connection_stats.admissions
         self._why = ""
 
     def why_lost(self, within: Optional[float] = None, now: Optional[int] = None) -> str:
@@ -160,7 +160,7 @@ class Holding:
         if not self._why:
             self._why = self._found_lost()
         if not self._why and within is not None and now is not None:
-            proved_at = self._engine.contact.proved_at
+            proved_at = self._engine.connection_stats.proved_at
             if proved_at is None or now - proved_at > within * 1000:
                 return f"the server was not heard within {within} seconds"
         return self._why
@@ -169,7 +169,7 @@ class Holding:
         engine = self._engine
         if not engine.is_here():
             return "it is held in another process, before a fork"
-        is_cut = engine.state is not State.CONNECTED or engine.contact.admissions != self._connections
+        is_cut = engine.state is not State.CONNECTED or engine.connection_stats.admissions != self._connections
         if is_cut and not self._keeps:
             return "the connection was lost"
         if engine.session_id() != self._session or engine.state is State.LOST:

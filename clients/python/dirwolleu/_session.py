@@ -55,11 +55,11 @@ class Dial(NamedTuple):
     within_ms: int
 
 
-class Sign(enum.Enum):
-    """What has no parts."""
+class PlainAction(enum.Enum):
+    """An action without fields."""
 
     HANG_UP = enum.auto()
-    """Close the connection, or give the attempt up. What of it was not written is forgotten."""
+    """Close the connection, or give up the attempt. Bytes that were not written are dropped."""
 
     RENEWED = enum.auto()
     """The session has expired, and another one begins."""
@@ -115,7 +115,7 @@ class TreeComplete(NamedTuple):
     tree: int
 
 
-_SIGNS = {library.HANG_UP: Sign.HANG_UP, library.RENEWED: Sign.RENEWED}
+_PLAIN_ACTIONS = {library.HANG_UP: PlainAction.HANG_UP, library.RENEWED: PlainAction.RENEWED}
 
 
 class CredentialAnswer(NamedTuple):
@@ -132,7 +132,7 @@ class Limits(NamedTuple):
     longest_request: int = LONGEST_REQUEST
 
 
-Action = Union[library.Output, Dial, Sign, TimedOut, Shown, Refused, MemberAdded, MemberRemoved, TreeBounded, TreeComplete, CredentialAnswer]
+Action = Union[library.Output, Dial, PlainAction, TimedOut, Shown, Refused, MemberAdded, MemberRemoved, TreeBounded, TreeComplete, CredentialAnswer]
 
 
 @functools.cache
@@ -389,7 +389,7 @@ class Session(LookUps):
             return TreeComplete(ticket)
         if kind == library.CREDENTIAL:
             return CredentialAnswer(place, code)
-        return _SIGNS[known("output", kind, _SIGNS)]
+        return _PLAIN_ACTIONS[known("output", kind, _PLAIN_ACTIONS)]
 
     def _answer(self, fields: tuple[Any, ...], told: bytes) -> Answer:
         _, lack, result, code, ticket, zxid, _, _, is_null, has_stat = fields[:_HEAD]

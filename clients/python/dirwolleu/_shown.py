@@ -204,7 +204,7 @@ class Shown:
         the nodes that the client watches, it has told. The server may itself be behind the others. It counts the time for
         which the machine was suspended, if the system tells that, as Linux does; so does `within` of other calls.
         """
-        proved_at = self._engine.contact.proved_at
+        proved_at = self._engine.connection_stats.proved_at
         return math.inf if proved_at is None else max(moment() - proved_at, 0) / 1000
 
     def kept(self, path: str, within: Optional[float] = None) -> Optional[Kept]:

@@ -316,7 +316,7 @@ class Client(Shown):
     async def _wait_until_connected(self) -> None:
         news = asyncio.Event()
         with self._engine.news(news.set):
-            while not self._engine.is_introduced():
+            while not self._engine.is_authenticated():
                 if not self._engine.is_running:
                     raise self._engine.why_over("the client was stopped")
                 await news.wait()

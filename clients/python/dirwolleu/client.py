@@ -429,7 +429,7 @@ class Client(Shown):
         """Whether a server has accepted the session that these threads keep. Raises an error where none will."""
         if threads.are_over() or threads.have_begun and self._engine.refused:
             raise self._engine.why_over("the client was stopped")
-        return threads.have_begun and self._engine.is_introduced()
+        return threads.have_begun and self._engine.is_authenticated()
 
     def _wait(self, condition: Callable[[], bool], until: Optional[float]) -> bool:
         """Waits until a condition holds, or up to a moment. The engine tells the news of it."""

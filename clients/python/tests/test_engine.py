@@ -29,8 +29,8 @@ from dirwolleu import (
 from dirwolleu import _records as records
 from dirwolleu import _requests as requests
 from dirwolleu._asked import Asked
-from dirwolleu._contact import Pings, is_ping
-from dirwolleu._credentials import Credential, Introduction
+from dirwolleu._connection_stats import Pings, is_ping
+from dirwolleu._credentials import Credential, CredentialCall
 from dirwolleu._engine import MOST_HANDED, Engine
 from dirwolleu._library import DATA_SIDE, SYNC, Answer, Halted, NoMemory
 from dirwolleu._records import Mode
@@ -91,13 +91,13 @@ class EngineTest(support.PartnerCase):
 
     def admit(self, now: int, granted_ms: int = 4000) -> None:
         """A connection that was asked for is made, and a server accepts the session."""
-        dial = self.engine.take_orders().dial
+        dial = self.engine.take_commands().dial
         assert dial is not None
         self.assertEqual(dial.place, 0)
         self.engine.opened(now)
-        self.engine.take_orders()
+        self.engine.take_commands()
         self.engine.received(now, CONNECT_RESPONSE[:8] + struct.pack(">i", granted_ms) + CONNECT_RESPONSE[12:])
-        self.engine.take_orders()
+        self.engine.take_commands()
 
     def ask(self, request: Request[Any], timeout: Optional[float] = None, now: int = 200) -> Future:
         waiter: Future = Future()
@@ -117,7 +117,7 @@ class EngineTest(support.PartnerCase):
         with self.raises(ConnectionLoss, -4):
             lost.result(0)
         self.assertEqual((self.engine.session_id(), self.engine.last_zxid()), (session, 9))
-        self.assertEqual((self.engine.state, self.engine.take_orders().hangs_up), (State.SUSPENDED, True))
+        self.assertEqual((self.engine.state, self.engine.take_commands().hangs_up), (State.SUSPENDED, True))
         self.assertIsNone(self.engine.kept("/a"))
         self.assertEqual(self.told, [(watch, (EventType.NONE, State.SUSPENDED, "/a"))])
         self.assertEqual(self.engine.deadline(), 0)
@@ -149,7 +149,7 @@ class EngineTest(support.PartnerCase):
         self.assertEqual((read.result(0), tried.call_count), ((b"one", STAT), 2))
         with mock.patch.object(Session, "received", side_effect=NoMemory):
             self.engine.received(400, reply(-1, 9))
-        self.assertEqual((self.engine.state, self.engine.take_orders().hangs_up), (State.SUSPENDED, True))
+        self.assertEqual((self.engine.state, self.engine.take_commands().hangs_up), (State.SUSPENDED, True))
 
     def test_a_cut_leaves_reads_and_not_writes(self) -> None:
         calls = [self.ask(requests.get("/a", None)), self.ask(requests.set("/a", b"x", -1))]
@@ -167,20 +167,20 @@ class EngineTest(support.PartnerCase):
         closed = self.ask(requests.close_session())
         self.engine.received(300, reply(1, 9))
         self.assertIsNone(closed.result(0))
-        self.assertEqual(self.engine.take_orders(), (True, None, b""))
+        self.assertEqual(self.engine.take_commands(), (True, None, b""))
         self.assertEqual((self.engine.is_running, self.engine.session_id(), self.engine.last_zxid()), (False, 0, 9))
         self.engine.tick(10_000)
-        self.assertEqual(self.engine.take_orders(), (False, None, b""))
+        self.assertEqual(self.engine.take_commands(), (False, None, b""))
         self.engine.begin()
         self.engine.addresses(20_000, 0, 1)
-        self.engine.take_orders()
+        self.engine.take_commands()
         self.engine.opened(20_000)
-        self.assertEqual(struct.unpack(">iiqiq", self.engine.take_orders().frames[:28])[2:], (9, 6000, 0))
+        self.assertEqual(struct.unpack(">iiqiq", self.engine.take_commands().frames[:28])[2:], (9, 6000, 0))
 
     def introduce(self, now: int) -> None:
         """The next connection introduces itself by two credentials."""
         for credential in (Credential("digest", b"bob:secret"), Credential("x509", b"1")):
-            self.ask(Introduction(credential), now=now)
+            self.ask(CredentialCall(credential), now=now)
         self.engine.received(now, reply(-4, 0) + reply(-4, 0))
         self.engine.cut(now)
         self.engine.tick(now + 1000)
@@ -198,17 +198,17 @@ class EngineTest(support.PartnerCase):
         self.introduce(400)
         self.told.clear()
         self.engine.received(1500, reply(-4, 0))
-        self.assertEqual((self.engine.state, self.engine.is_running, self.engine.is_introduced()), (State.CONNECTED, True, False))
+        self.assertEqual((self.engine.state, self.engine.is_running, self.engine.is_authenticated()), (State.CONNECTED, True, False))
         with self.assertLogs("dirwolleu.connection", "ERROR") as logged:
             self.engine.received(1600, REFUSAL + frame(support.notice("/a")) + REFUSAL)
         self.assertEqual([one.getMessage() for one in logged.records], ["the server refuses the credentials of the scheme x509"])
         self.assertEqual((self.engine.state, self.engine.is_running, self.engine.session_id()), (State.LOST, False, 0))
         self.assertEqual(self.told, [(watch, (EventType.CHANGED, State.CONNECTED, "/a")), (listen, State.LOST)])  # what came with it is told first
         self.assertIsNone(self.engine.kept("/a"))
-        self.assertEqual(self.engine.take_orders(), (True, None, b""))
+        self.assertEqual(self.engine.take_commands(), (True, None, b""))
         for now in (2000, 10_000):
             self.engine.tick(now)
-            self.assertEqual(self.engine.take_orders(), (False, None, b""))
+            self.assertEqual(self.engine.take_commands(), (False, None, b""))
 
     def test_what_waits_where_credentials_are_refused(self) -> None:
         """A change that was sent after them may have happened."""
@@ -234,16 +234,16 @@ class EngineTest(support.PartnerCase):
         self.engine.addresses(2000, 0, 1)
         self.admit(2000)
         self.engine.received(2100, reply(-4, 0) + reply(-4, 0))
-        self.assertTrue(self.engine.is_introduced())
+        self.assertTrue(self.engine.is_authenticated())
 
     def test_an_attempt_that_is_given_up_is_hung_up(self) -> None:
         self.engine.cut(300)
         self.engine.tick(1000)
-        self.assertEqual(self.engine.take_orders().dial, (0, 1333))  # a third of the timeout, which is four seconds
+        self.assertEqual(self.engine.take_commands().dial, (0, 1333))  # a third of the timeout, which is four seconds
         self.engine.tick(2332)
-        self.assertFalse(self.engine.take_orders().hangs_up)
+        self.assertFalse(self.engine.take_commands().hangs_up)
         self.engine.tick(2333)
-        self.assertEqual(self.engine.take_orders()[:2], (True, None))
+        self.assertEqual(self.engine.take_commands()[:2], (True, None))
 
     def test_the_core_has_few_calls_at_once(self) -> None:
         calls = [self.ask(requests.get("/a", None)) for _ in range(MOST_HANDED + 1)]
@@ -280,7 +280,7 @@ class EngineTest(support.PartnerCase):
         self.admit(1000, 40_000)
         limits = {2.0: CallTimeoutError, None: CallTimeoutError}
         calls = [self.ask(requests.set("/a", b"x", -1), limit, 1000) for limit in limits]
-        self.engine.take_orders()
+        self.engine.take_commands()
         for now in sorted({*range(1100, 7200, 100), 2999, 6999}):
             self.engine.tick(now)
             self.assertEqual(sum(call.done() for call in calls), (now >= 3000) + (now >= 7000))
@@ -295,14 +295,14 @@ class EngineTest(support.PartnerCase):
             self.assertLessEqual(self.engine.deadline() or 0, ends)
             self.engine.received(now, NOTICE)
             self.engine.tick(now)
-            orders = self.engine.take_orders()
-            self.assertEqual(orders.hangs_up, now == ends)
-            if is_ping(orders.frames):
+            commands = self.engine.take_commands()
+            self.assertEqual(commands.hangs_up, now == ends)
+            if is_ping(commands.frames):
                 self.engine.received(now, reply(-2, 9))
 
     def test_a_call_waits_for_two_thirds_of_the_timeout(self) -> None:
         call = self.ask(requests.set("/a", b"x", -1))
-        self.engine.take_orders()
+        self.engine.take_commands()
         self.wait(300, 2867)  # two thirds of four seconds, rounded up
         with self.raises(ConnectionLoss, -4):
             call.result(0)
@@ -310,19 +310,19 @@ class EngineTest(support.PartnerCase):
     def test_a_ping_waits_for_two_thirds_of_the_timeout(self) -> None:
         """Notices are no answers to it, and neither are those to a call."""
         self.engine.tick(1533)
-        self.assertTrue(is_ping(self.engine.take_orders().frames))
+        self.assertTrue(is_ping(self.engine.take_commands().frames))
         call = self.ask(requests.get("/a", None), now=1600)
-        self.engine.take_orders()
+        self.engine.take_commands()
         self.engine.received(1700, reply(1, 9, 0, buffer(b"one") + STAT_BYTES))
         self.assertTrue(call.done())
         for now in (*range(1800, 4199, 100), 4199, 4200):
             self.engine.received(now, NOTICE)
             self.engine.tick(now)
-            self.assertEqual(self.engine.take_orders().hangs_up, now == 4200)
+            self.assertEqual(self.engine.take_commands().hangs_up, now == 4200)
 
     def test_a_raw_call_waits_for_two_thirds_of_the_timeout(self) -> None:
         call = self.ask(records.create2("/a", b"x", None, Mode()))
-        self.engine.take_orders()
+        self.engine.take_commands()
         self.wait(300, 2867)
         with self.raises(ConnectionLoss, -4):
             call.result(0)
@@ -368,9 +368,9 @@ class EngineTest(support.PartnerCase):
 
     def test_the_oldest_call_that_waits_counts(self) -> None:
         calls = [self.ask(requests.get("/a", None))]
-        self.engine.take_orders()
+        self.engine.take_commands()
         calls.append(self.ask(requests.get("/b", None), now=1000))
-        self.engine.take_orders()
+        self.engine.take_commands()
         self.engine.received(1500, reply(1, 9, 0, buffer(b"one") + STAT_BYTES))
         self.wait(1600, 3667)
         self.assertEqual([call.done() for call in calls], [True, False])  # a read is asked again
@@ -378,14 +378,14 @@ class EngineTest(support.PartnerCase):
     def test_an_admission_waits_for_two_thirds_of_the_timeout_that_was_granted_last(self) -> None:
         self.engine.cut(300)
         self.engine.tick(1000)
-        self.assertIsNotNone(self.engine.take_orders().dial)
+        self.assertIsNotNone(self.engine.take_commands().dial)
         self.engine.opened(1000)
-        self.engine.take_orders()
+        self.engine.take_commands()
         came = iter(struct.pack(">i", 1000) + bytes(996))
         for now in (*range(1100, 3667, 100), 3666, 3667):
             self.engine.received(now, bytes([next(came)]))
             self.engine.tick(now)
-            self.assertEqual(self.engine.take_orders().hangs_up, now == 3667)
+            self.assertEqual(self.engine.take_commands().hangs_up, now == 3667)
 
     def test_an_answer_that_came_while_nobody_looked_is_in_time(self) -> None:
         """A notice is before it in the stream, and it is looked at when it was due already."""
@@ -396,7 +396,7 @@ class EngineTest(support.PartnerCase):
         self.assertEqual([self.engine.in_time(now) for now in (2866, 2867, 2900)], [2866] * 3)
         self.engine.received(self.engine.in_time(2900), NOTICE + reply(1, 9, 0, buffer(b"one") + STAT_BYTES))
         self.engine.tick(2900)
-        self.assertEqual((call.done(), self.engine.take_orders().hangs_up), (True, False))
+        self.assertEqual((call.done(), self.engine.take_commands().hangs_up), (True, False))
 
     def test_why_a_connection_is_left_is_told(self) -> None:
         """A read of the session's own that is answered by a server that has the session no more, and a call that is not answered."""
@@ -457,14 +457,14 @@ class EngineTest(support.PartnerCase):
         self.engine.received(300, reply(1, 9, -118))
         with self.raises(SessionMovedError, -118):
             moved.result(0)
-        self.assertTrue(self.engine.take_orders().hangs_up)
+        self.assertTrue(self.engine.take_commands().hangs_up)
 
     def test_what_was_to_be_written_goes_with_its_connection(self) -> None:
         self.ask(requests.get("/a", None))
         self.engine.cut(300)
         self.engine.tick(1000)
         self.engine.opened(1000)
-        frames = self.engine.take_orders().frames
+        frames = self.engine.take_commands().frames
         self.assertEqual(struct.unpack(">iiqi", frames[:20]), (45, 0, 0, 6000))
         self.assertEqual(len(frames), 49)
 
@@ -481,7 +481,7 @@ class EngineTest(support.PartnerCase):
         self.engine.ask(200, requests.get("/a", None), waiter)
         waiter.cancel()
         self.engine.take_handed(200)
-        self.assertEqual(self.engine.take_orders().frames, b"")
+        self.assertEqual(self.engine.take_commands().frames, b"")
 
     def test_answers_to_pings_are_found_however_they_come(self) -> None:
         answers = [
@@ -504,7 +504,7 @@ class EngineTest(support.PartnerCase):
                 self.engine.received(400, b"bytes")
         with self.raises(ConnectionLoss, -4):
             lost.result(0)
-        self.assertEqual((self.engine.session_id(), self.engine.take_orders().hangs_up), (session, True))
+        self.assertEqual((self.engine.session_id(), self.engine.take_commands().hangs_up), (session, True))
 
     def test_each_code_has_its_error(self) -> None:
         for kind in ZookeeperError.__subclasses__():

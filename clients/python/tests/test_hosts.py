@@ -19,7 +19,7 @@ from test_library import CONNECT_RESPONSE
 from dirwolleu import Client, EventType, Mark, NoNodeError, State, WatchedEvent
 from dirwolleu._aio_link import address_at
 from dirwolleu._hosts import Place, Servers, hosts_of
-from dirwolleu._session import Dial, Session, Sign
+from dirwolleu._session import Dial, PlainAction, Session
 from dirwolleu.testing import Server
 
 WRONG = (
@@ -87,7 +87,7 @@ class HostsTest(PartnerCase):
             servers.replace(after)
             told = session.addresses(400, *servers.arrange(servers.hosts.servers)) + session.moment(800)
             places = [action.place for action in told if isinstance(action, Dial)]
-            self.assertEqual(Sign.HANG_UP in told, len(places) == 1)
+            self.assertEqual(PlainAction.HANG_UP in told, len(places) == 1)
             found.append(self.dialled(servers, 1, places)[0].port if places else None)
         return found
 

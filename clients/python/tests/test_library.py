@@ -24,7 +24,7 @@ from dirwolleu import _library as library
 from dirwolleu import _session as of_session
 from dirwolleu._library import Answer, Drop, Report, Send, StateChange
 from dirwolleu._root import Root
-from dirwolleu._session import NO_LIMIT, Dial, Session, Sign
+from dirwolleu._session import NO_LIMIT, Dial, PlainAction, Session
 from dirwolleu.types import DataStat, Stat
 
 HEADER = support.CLIENTS.parent / "include" / "dirwolleu.h"
@@ -317,7 +317,7 @@ class MachineTest(unittest.TestCase):
         session.delete(200, 1, NO_LIMIT, "/a", -1)
         dropped, *others = session.received(300, struct.pack(">i", -5))
         self.assertTrue(isinstance(dropped, Drop) and dropped.fault == "F1" and dropped.words)
-        self.assertEqual(others, [Answer(1, 1, 0, 0, None, None, []), StateChange(library.IDLE), Sign.HANG_UP])
+        self.assertEqual(others, [Answer(1, 1, 0, 0, None, None, []), StateChange(library.IDLE), PlainAction.HANG_UP])
 
     def test_a_session_is_put_away_and_taken_up(self) -> None:
         saved = connected().saved()

@@ -21,10 +21,10 @@ from dirwolleu._session import (
     Dial,
     MemberAdded,
     MemberRemoved,
+    PlainAction,
     Refused,
     Session,
     Shown,
-    Sign,
     TimedOut,
     TreeBounded,
     TreeComplete,
@@ -65,8 +65,8 @@ class SessionTest(unittest.TestCase):
         session = self.session()
         self.assertEqual(session.moment(100), [])  # there is no address
         self.assertEqual(session.addresses(100, 0, 1, True), [Dial(0, 2000)])
-        self.assertEqual((session.deadline(), session.moment(2099), session.moment(2100)), (2100, [], [Sign.HANG_UP]))
-        self.assertEqual(session.opened(2101), [Sign.HANG_UP])  # it comes too late
+        self.assertEqual((session.deadline(), session.moment(2099), session.moment(2100)), (2100, [], [PlainAction.HANG_UP]))
+        self.assertEqual(session.opened(2101), [PlainAction.HANG_UP])  # it comes too late
         self.assertEqual(session.moment(2434), [Dial(0, 2000)])
         self.assertEqual(session.failed(2500), [])
         self.assertEqual(session.moment(2768), [Dial(0, 2000)])
@@ -152,7 +152,7 @@ class SessionTest(unittest.TestCase):
         session.opened(1000)
         told = session.received(1000, EXPIRED)
         answer = Answer(2, library.AFTER_EXPIRY, 0, 0, None, None, [])
-        self.assertEqual(told, [StateChange(library.EXPIRED), Sign.HANG_UP, answer, Sign.RENEWED, Dial(0, 2000)])
+        self.assertEqual(told, [StateChange(library.EXPIRED), PlainAction.HANG_UP, answer, PlainAction.RENEWED, Dial(0, 2000)])
         self.assertEqual((session.saved()[:8], session.last_zxid()), (bytes(8), 9))
 
     def test_what_is_followed_is_kept_good(self) -> None:
@@ -199,7 +199,7 @@ class SessionTest(unittest.TestCase):
         session = self.connected()
         told: list[Action] = session.received(200, struct.pack(">i", 5_000_000))
         self.assertIsInstance(told[0], Drop)
-        self.assertEqual(told[1:], [StateChange(library.IDLE), Sign.HANG_UP])
+        self.assertEqual(told[1:], [StateChange(library.IDLE), PlainAction.HANG_UP])
 
     def test_a_session_is_closed(self) -> None:
         session = self.connected()

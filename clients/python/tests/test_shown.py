@@ -92,7 +92,7 @@ class AioTest(AioCase, ShownRules):
 class SecretTest(unittest.TestCase):
     def test_a_credential_is_not_shown(self) -> None:
         for client in (Client("127.0.0.1:1", auth_data=[("digest", "bob:secret")]), aio.Client("127.0.0.1:1", auth_data=[("digest", b"bob:secret")])):
-            self.assertNotIn("secret", repr(vars(client._engine._introductions)))
+            self.assertNotIn("secret", repr(vars(client._engine._credentials)))
             self.assertNotIn("secret", repr(client))
         credential = credential_of("digest", "bob:secret")
         self.assertEqual((repr(credential), credential.credential), ("Credential(scheme='digest', credential=..)", b"bob:secret"))

@@ -343,11 +343,11 @@ class TurnTest(StoppingCase):
             return type(error), self.is_over, self.started.state
 
     def test_an_answer_is_had_where_its_turn_fails(self) -> None:
-        answers, is_at_rest = self.engine.contact.answers, self.engine.is_at_rest
+        answers, is_at_rest = self.engine.connection_stats.answers, self.engine.is_at_rest
         failures = [RuntimeError("the turn fails")]
 
         def fail_once() -> Any:
-            if failures and self.engine.contact.answers > answers:
+            if failures and self.engine.connection_stats.answers > answers:
                 raise failures.pop()
             return is_at_rest()
 

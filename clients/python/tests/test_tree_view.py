@@ -56,10 +56,10 @@ class GrowingTest(unittest.TestCase):
 
     def admit(self, now: int) -> None:
         """A connection that was asked for is made, and a server accepts the session."""
-        self.assertIsNotNone(self.engine.take_orders().dial)
+        self.assertIsNotNone(self.engine.take_commands().dial)
         self.engine.opened(now)
         self.engine.received(now, CONNECT_RESPONSE)
-        self.engine.take_orders()
+        self.engine.take_commands()
 
     def planted(self, most: int = 9) -> TreeView:
         """The tree, once the session follows it."""
@@ -74,7 +74,7 @@ class GrowingTest(unittest.TestCase):
         self.engine.take_handed(200)
 
     def frames(self) -> bytes:
-        return self.engine.take_orders().frames
+        return self.engine.take_commands().frames
 
     def come(self, *frames: bytes, now: int = 300) -> None:
         self.engine.received(now, b"".join(frames))
@@ -234,7 +234,7 @@ class GrowingTest(unittest.TestCase):
             self.come(b"bytes", now=400)
         self.assertEqual((tree.is_current(), tree.ticket, len(self.nodes(tree))), (False, None, 2))
         self.engine.tick(400)
-        self.assertIsNotNone(self.engine.take_orders().dial)
+        self.assertIsNotNone(self.engine.take_commands().dial)
         self.engine.opened(600)
         self.engine.received(600, CONNECT_RESPONSE)
         self.assertTrue(self.frames().endswith(read(1, "/t", True).frame + list_of(2, "/t")))
@@ -263,7 +263,7 @@ class GrowingTest(unittest.TestCase):
         self.engine.begin()
         self.engine.addresses(500, 0, 1)
         self.engine.take_handed(500)
-        self.engine.take_orders()
+        self.engine.take_commands()
         self.engine.opened(600)
         self.engine.received(600, CONNECT_RESPONSE)
         self.assertTrue(self.frames().endswith(read(1, "/t", True).frame + list_of(2, "/t")))

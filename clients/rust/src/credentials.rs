@@ -1,4 +1,4 @@
-//! Who a session is, and the calls that wait for a server's word on it.
+//! The credentials of a session, and the calls that wait for a server's answer to one.
 
 use crate::moment::Moment;
 use std::hint::black_box;
@@ -7,7 +7,7 @@ use std::mem;
 /// The moment that never comes.
 const FOREVER: Moment = Moment::from_millis(u64::MAX);
 
-/// Who a session is, in the words of a scheme. The secret is overwritten where it is let go.
+/// A scheme and its secret, which is overwritten when it is dropped.
 #[derive(Clone, PartialEq, Eq)]
 pub(crate) struct Credential {
     pub(crate) scheme: String,
@@ -26,21 +26,21 @@ impl Credential {
 impl Drop for Credential {
     fn drop(&mut self) {
         self.secret.fill(0);
-        black_box(&self.secret); // so that they are overwritten, though nobody reads them any more
+        black_box(&self.secret); // so that it is overwritten, though nobody reads it any more
     }
 }
 
-/// A credential, and the calls that wait for the first word on it, each to a moment.
-struct Introduction {
+/// A credential, and the calls that wait for the first answer to it, each up to a moment.
+struct CredentialEntry {
     credential: Credential,
     is_accepted: bool,
     calls: Vec<(u64, Moment)>,
 }
 
-/// The credentials of a session, each at the place that its machine has for it. They are kept for the next machine.
+/// The credentials of a session, each at its place in the machine. They are kept for the next machine.
 #[derive(Default)]
 pub(crate) struct Credentials {
-    all: Vec<Introduction>,
+    all: Vec<CredentialEntry>,
 }
 
 impl Credentials {
@@ -60,7 +60,7 @@ impl Credentials {
 
     /// A credential was handed in: its place.
     pub(crate) fn add(&mut self, credential: Credential) -> usize {
-        self.all.push(Introduction {
+        self.all.push(CredentialEntry {
             credential,
             is_accepted: false,
             calls: Vec::new(),
@@ -73,22 +73,22 @@ impl Credentials {
         self.all.iter().map(|it| it.credential.clone()).collect()
     }
 
-    /// A call waits for a server's word on the credential of this place. Whether one has accepted it already.
+    /// Lets a call wait for a server's answer to the credential of this place. `true` if one has accepted it already.
     pub(crate) fn wait(&mut self, place: usize, ticket: u64, until: Moment) -> bool {
-        let introduction = &mut self.all[place];
-        if !introduction.is_accepted {
-            introduction.calls.push((ticket, until));
+        let entry = &mut self.all[place];
+        if !entry.is_accepted {
+            entry.calls.push((ticket, until));
         }
-        introduction.is_accepted
+        entry.is_accepted
     }
 
     /// A server has accepted the credential of this place: the tickets of the calls that have waited for that.
     pub(crate) fn accept(&mut self, place: usize) -> Vec<u64> {
-        let Some(introduction) = self.all.get_mut(place) else {
+        let Some(entry) = self.all.get_mut(place) else {
             return Vec::new();
         };
-        introduction.is_accepted = true;
-        let calls = mem::take(&mut introduction.calls).into_iter();
+        entry.is_accepted = true;
+        let calls = mem::take(&mut entry.calls).into_iter();
         calls.map(|(ticket, _)| ticket).collect()
     }
 
@@ -101,8 +101,8 @@ impl Credentials {
     /// The tickets of the calls whose limit has come: they wait no more.
     pub(crate) fn take_late(&mut self, now: Moment) -> Vec<u64> {
         let mut late = Vec::new();
-        for introduction in &mut self.all {
-            introduction.calls.retain(|(ticket, until)| {
+        for entry in &mut self.all {
+            entry.calls.retain(|(ticket, until)| {
                 let is_late = *until <= now;
                 late.extend(is_late.then_some(*ticket));
                 !is_late

@@ -18,7 +18,7 @@ from typing import TYPE_CHECKING, Any, Callable, NamedTuple, Optional
 from dirwolleu import _requests as requests
 from dirwolleu._asked import Asked
 from dirwolleu._clock import moment
-from dirwolleu._contact import Contact
+from dirwolleu._connection_stats import ConnectionStats
 from dirwolleu._credentials import Credential
 from dirwolleu._driver import Driver
 from dirwolleu._engine import Engine, Tell
@@ -132,10 +132,10 @@ class KazooEngine(Engine):
         half = self._half_ms()
         if half is None:
             return
-        if self._probed_at is not None and self.contact.heard_at >= self._probed_at:
+        if self._probed_at is not None and self.connection_stats.heard_at >= self._probed_at:
             self._probed_at = None
         if self._probed_at is None:
-            if now - self.contact.heard_at >= half:
+            if now - self.connection_stats.heard_at >= half:
                 self._probe(now)
         elif now - self._probed_at >= half:
             self.drop(now, f"the server was not heard for {2 * half / 1000:g} seconds")
@@ -144,7 +144,7 @@ class KazooEngine(Engine):
         deadline, half = super().deadline(), self._half_ms()
         if half is None or deadline is None:
             return deadline
-        since = self.contact.heard_at if self._probed_at is None else self._probed_at
+        since = self.connection_stats.heard_at if self._probed_at is None else self._probed_at
         return min(deadline, since + half)
 
     def is_recast(self) -> bool:
@@ -188,10 +188,10 @@ class KazooPolicy:
         self._admissions = self._dials = 0
         self._until: Optional[float] = None
 
-    def is_over(self, contact: Contact) -> bool:
+    def is_over(self, stats: ConnectionStats) -> bool:
         """Whether no server is looked for any more, after a connection or an attempt that has ended now."""
-        if contact.admissions != self._admissions:
-            self._admissions, self._dials, self._until = contact.admissions, 0, None
+        if stats.admissions != self._admissions:
+            self._admissions, self._dials, self._until = stats.admissions, 0, None
             self._retry.reset()
         self._dials += 1
         if self._until is None and self._retry.deadline is not None:
@@ -227,7 +227,7 @@ class KazooDriver(Driver):
         self._on_end = on_end
 
     def _dial(self, place: int) -> None:
-        if self._is_first or not self._policy.is_over(self._engine.contact):
+        if self._is_first or not self._policy.is_over(self._engine.connection_stats):
             self._is_first = False
             return super()._dial(place)
         logger.warning("no server was found within the policy for connections: the client ends")

@@ -17,7 +17,7 @@ from dirwolleu import _plans as plans
 from dirwolleu import _records as records
 from dirwolleu import _requests as requests
 from dirwolleu import exceptions as own
-from dirwolleu._credentials import Credential, Introduction
+from dirwolleu._credentials import Credential, CredentialCall
 from dirwolleu._handle import Listing, Standing
 from dirwolleu._hosts import Hosts, Servers
 from dirwolleu._plans import Plan
@@ -725,7 +725,7 @@ class KazooClient:
         check("credential", credential, str, "string")
         known = credential_of(scheme, credential)
         self.auth_data.add((scheme, credential))
-        return self._send(Introduction(known), forms.true)
+        return self._send(CredentialCall(known), forms.true)
 
     def transaction(self) -> TransactionRequest:
         """Several changes that happen together or not at all."""

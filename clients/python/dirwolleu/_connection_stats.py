@@ -1,4 +1,4 @@
-"""What was counted of servers and of calls."""
+"""Counters of connections and calls, and the pings that wait for their answers."""
 
 from __future__ import annotations
 
@@ -19,8 +19,8 @@ def is_ping(frame: bytes) -> bool:
 class Pings:
     """The pings on one connection that wait for their answers.
 
-    The session takes the answers, and tells nothing of them. So the bytes that come while a ping waits are searched for how an answer
-    begins. The data of a node may have the same bytes: then a ping counts as answered as soon as they come.
+    The session takes the answers and does not report them. So while a ping waits, the bytes that come are searched for the beginning of
+    an answer. The data of a node may have the same bytes; then the ping counts as answered when they come.
     """
 
     def __init__(self) -> None:
@@ -32,15 +32,15 @@ class Pings:
         self.waiting.append(now)
 
     def answered_by(self, data: Union[bytes, memoryview]) -> Iterator[int]:
-        """When those were sent that these bytes answer."""
+        """When each ping was sent that these bytes answer."""
         seen = self._tail + data
         for _ in range(min(seen.count(_PONG), len(self.waiting))):
             yield self.waiting.popleft()
         self._tail = seen[1 - len(_PONG) :] if self.waiting else b""
 
 
-class Contact:
-    """What was heard of servers. Moments are milliseconds."""
+class ConnectionStats:
+    """Counters of connections and calls. Moments are milliseconds."""
 
     dials: int = 0
     """How many attempts to connect there were."""
@@ -58,10 +58,10 @@ class Contact:
     """How many sessions have expired."""
 
     heard_at: int = 0
-    """The last moment at which a server that had accepted the session was heard, or at which dialling began."""
+    """When a server that had accepted the session was heard last, or when dialling began."""
 
     proved_at: Optional[int] = None
-    """When the newest call or ping was handed in that a server has answered: what it told before that answer is in."""
+    """When the newest call or ping was handed in that a server has answered. All that the server sent before that answer has been taken in."""
 
     round_trip: Optional[float] = None
     """How long answers take of late, in milliseconds."""
