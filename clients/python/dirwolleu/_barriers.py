@@ -1,4 +1,4 @@
-"""Barriers, for both kinds of clients: by kazoo's nodes."""
+"""Barriers for both clients, with kazoo's nodes."""
 
 from __future__ import annotations
 
@@ -20,7 +20,7 @@ _READY = "ready"
 
 
 def _until(news: News, is_done: Callable[[News], Steps[bool]]) -> Steps[None]:
-    """Tries again until it is done. Lost connections and expired sessions are lived through."""
+    """Tries until it is done, through lost connections and expired sessions."""
     while True:
         news.clear()
         try:
@@ -33,17 +33,17 @@ def _until(news: News, is_done: Callable[[News], Steps[bool]]) -> Steps[None]:
 
 
 class BaseBarrier(Generic[AnyClient]):
-    """A barrier, for both kinds of clients."""
+    """A barrier, for both clients."""
 
     def __init__(self, client: AnyClient, path: str) -> None:
         self._client, self._path = client, path
 
     def _create(self) -> Steps[None]:
-        """Puts the barrier up, where it is not."""
+        """Puts the barrier up, if it is not."""
         return patiently(self._client._engine, lambda: plans.ensure_path(self._path, None))
 
     def _remove(self) -> Steps[bool]:
-        """Takes the barrier away, and answers whether it was seen to be there."""
+        """Takes the barrier away, and returns whether it was there."""
         return patiently(self._client._engine, self._delete)
 
     def _delete(self) -> Plan[bool]:
@@ -54,9 +54,9 @@ class BaseBarrier(Generic[AnyClient]):
         return True
 
     def _wait(self, timeout: Optional[float] = None) -> Steps[bool]:
-        """Waits until there is no barrier, for at most this many seconds, and answers whether that came to pass.
+        """Waits until there is no barrier, for at most this many seconds, and returns whether it is gone.
 
-        Lost connections and expired sessions are lived through.
+        It waits through lost connections and expired sessions.
         """
         news: News = yield GetNews()
         with self._client._engine.news(news.set):
@@ -67,7 +67,7 @@ class BaseBarrier(Generic[AnyClient]):
         return True
 
     def _is_open(self, news: News) -> Steps[bool]:
-        """Whether there is no barrier; if there is one, waits for news of it."""
+        """Whether there is no barrier. If there is one, it waits for news first."""
         if (yield requests.exists(self._path, lambda _: news.set())) is None:
             return True
         yield Wait(None)
@@ -75,7 +75,7 @@ class BaseBarrier(Generic[AnyClient]):
 
 
 class BaseDoubleBarrier(Generic[AnyClient]):
-    """A double barrier, for both kinds of clients."""
+    """A double barrier, for both clients."""
 
     def __init__(
         self, client: AnyClient, path: str, num_clients: int, identifier: str = "", name: Optional[str] = None
@@ -88,9 +88,9 @@ class BaseDoubleBarrier(Generic[AnyClient]):
         self._own, self._ready = plans.child_of(path, self._name), plans.child_of(path, _READY)
 
     def _enter(self, timeout: Optional[float] = None) -> Steps[bool]:
-        """Waits until all have come, for at most this many seconds, and answers whether they have.
+        """Waits until all have come, for at most this many seconds, and returns whether they have.
 
-        Where they have not, this one is withdrawn. A member whose session ends meanwhile comes again in the next one.
+        If they have not, this member withdraws. A member whose session ends meanwhile comes again in the next one.
         """
         news: News = yield GetNews()
         is_in = False
@@ -106,7 +106,7 @@ class BaseDoubleBarrier(Generic[AnyClient]):
         return is_in
 
     def _leave(self, timeout: Optional[float] = None) -> Steps[bool]:
-        """Waits until all have left, for at most this many seconds, and answers whether they have. This one has."""
+        """Leaves, waits until all have left, for at most this many seconds, and returns whether they have."""
         news: News = yield GetNews()
         with self._client._engine.news(news.set):
             try:
@@ -117,7 +117,7 @@ class BaseDoubleBarrier(Generic[AnyClient]):
         return True
 
     def _withdraw(self) -> Steps[None]:
-        """Deletes the node of this one. Where its session is over, so is the node."""
+        """Deletes this member's node. If its session is over, the node is gone too."""
         try:
             yield from patiently(self._client._engine, self._delete)
         except SessionExpiredError:
@@ -130,7 +130,7 @@ class BaseDoubleBarrier(Generic[AnyClient]):
             pass
 
     def _have_come(self, news: News) -> Steps[bool]:
-        """Makes the node of this one, and answers whether the barrier is ready: whoever is the last one says so."""
+        """Makes this member's node, and returns whether the barrier is ready. The last member says so."""
         yield from self._make()
         if (yield requests.exists(self._ready, lambda _: news.set())) is not None:
             return True
@@ -153,7 +153,7 @@ class BaseDoubleBarrier(Generic[AnyClient]):
         return sorted(name for name in names if name != _READY)
 
     def _have_left(self, news: News) -> Steps[bool]:
-        """Deletes the node of this one, and answers whether all are gone. The first one in the order of names goes last."""
+        """Deletes this member's node, and returns whether all are gone. The first in the order of names goes last."""
         yield from self._delete(self._ready)
         names = yield from self._members()
         if not names or names == [self._name]:

@@ -1,4 +1,4 @@
-"""What both clients show without asking a server."""
+"""What both clients have in common, and what they show without asking a server."""
 
 from __future__ import annotations
 
@@ -79,15 +79,15 @@ class Shown:
             raise TypeError(f"a policy is a Retry, and not {type(retry).__name__}")
         self._retry, self._tls, self._sasl = retry, ssl, sasl
         self._tasks: dict[Any, None] = {}
-        """What is done that nobody waits for, until it is done."""
+        """Work that nobody waits for, until it is done."""
         self._prepare()
 
     def _prepare(self) -> None:
-        """Makes what the client of this kind holds besides."""
+        """Makes the state that only this kind of client has."""
         raise NotImplementedError
 
     def __repr__(self) -> str:
-        """Its hosts, and how it stands to them: no secret."""
+        """Its hosts, state and session; no secret."""
         return f"<{_named(self)} of {self._servers.hosts.text}: {self.state.value}, session {self.session_id:#x}>"
 
     def __reduce__(self) -> str:
@@ -96,43 +96,43 @@ class Shown:
     if not TYPE_CHECKING:
 
         def __getattr__(self, name: str) -> Any:
-            """Says of kazoo's names of recipes where these are."""
+            """Says where a recipe is that kazoo's client has as an attribute."""
             package, is_recipe = _named(self).rpartition(".")[0], name in sys.modules["dirwolleu.recipes"].__all__
             hint = f": {package}.{name}(client, ..) makes one" if is_recipe else ""
             raise AttributeError(f"a {_named(self)} has no {name}{hint}")
 
     def _tell(self, function: Callable[[Any], object], argument: Any) -> object:
-        """Has a function of the program called, not within this call."""
+        """Lets a function of the program be called later, not within this call."""
         raise NotImplementedError
 
     def _call_back(self, function: Callable[[Any], object], argument: Any) -> None:
-        """Calls a function of the program, where callbacks are called."""
+        """Calls a function of the program in the thread or loop of the callbacks."""
         raise NotImplementedError
 
     def _act(self) -> None:
-        """Has what was asked be done."""
+        """Wakes the connection, which sends what was asked."""
         raise NotImplementedError
 
     def _begin(
         self, begin: Callable[[News], Steps[Any]], end: Callable[[Any, Optional[BaseException]], object]
     ) -> None:
-        """Has steps done that nobody waits for. `begin` makes them of the news that they wait for."""
+        """Starts steps that nobody waits for. `begin` makes them from the news that they wait for."""
         raise NotImplementedError
 
     def _do_first(self, begin: Callable[[News], Steps[Result]]) -> Optional[Result]:
-        """Has steps done before this returns, if the client waits for its answers and is started."""
+        """Does steps before it returns, if the client waits for its answers and is started."""
         raise NotImplementedError
 
     @property
     def chroot(self) -> str:
-        """The node of the servers that the program knows as `/`: empty where that is the servers' own."""
+        """The servers' node that the program knows as `/`; empty for the servers' own root."""
         return self._servers.hosts.root.path
 
     def set_hosts(self, hosts: str) -> None:
-        """Goes on with these servers. The session moves to another one, as after a cut, if its own is not among them, and by the
-        chance by which there are more than before: as those of ZooKeeper's own clients do. Else it stays.
+        """Goes on with these servers. The session moves to another server, as after a lost connection, if its own is not in the list;
+        if the list has grown, it moves with the probability that balances the load, as in ZooKeeper's own clients.
 
-        Raises `ValueError` where the text is no list of hosts, or has another root than before.
+        Raises `ValueError` if the text is no list of hosts, or has another root than before.
 
             client.set_hosts("new-1:2181,new-2:2181")
         """
@@ -141,7 +141,7 @@ class Shown:
 
     @property
     def state(self) -> State:
-        """How the client stands to the servers."""
+        """The state of the client's session and connection."""
         return self._engine.state
 
     @property
@@ -151,7 +151,7 @@ class Shown:
 
     @property
     def session_id(self) -> int:
-        """The number of the session, 0 where none was begun. It is the owner of the client's ephemeral nodes."""
+        """The number of the session, or 0 before the first one. It is the owner of the client's ephemeral nodes."""
         return self._engine.session_id()
 
     @property
@@ -161,15 +161,15 @@ class Shown:
 
     @property
     def session_timeout(self) -> float:
-        """The timeout of the session in seconds: the one that a server granted last, or the one to ask for."""
+        """The timeout of the session in seconds: the one that a server granted last, or else the one that the client asks for."""
         return self._engine.timeout()
 
     @property
     def saved_session(self) -> Optional[bytes]:
-        """What takes the session up in another client, maybe of another process. It is a secret. None where no session
-        was begun.
+        """The bytes by which another client, maybe of another process, takes the session up, or None before the first session. They
+        are a secret.
 
-        One client at a time has a session: close this one before.
+        Only one client at a time may have a session: close this one first.
         """
         return self._engine.saved() if self.session_id else None
 
@@ -178,19 +178,19 @@ class Shown:
         self._engine.add_listener(checked_function("a listener", listener))
 
     def remove_listener(self, listener: Listener) -> None:
-        """Stops calling the listener. Raises `ValueError` where it was not added."""
+        """Stops calling the listener. Raises `ValueError` if it was not added."""
         self._engine.remove_listener(listener)
 
     def observe(self, function: Callable[[Observation], object]) -> None:
-        """Has a function called with each `CallEvent`, `ConnectionEvent` and `Transfer` from now on: see `dirwolleu.metrics`.
+        """Calls a function with each `CallEvent`, `ConnectionEvent` and `Transfer` from now on: see `dirwolleu.metrics`.
 
-        It is called within the client's own steps, in their order. Other clients wait for these: so it is to be quick, and calls nothing of
-        any client that waits.
+        The function runs within the client's own steps, in their order, and other clients wait for these steps. So it has to be
+        quick, and must not call a function of any client that waits.
         """
         self._engine.observe(checked_function("what observes", function))
 
     def stats(self) -> Stats:
-        """What the client has counted since it was made: dials, connections, calls, the time that answers take.
+        """The client's counters since it was made: dials, connections, calls, the time that answers take.
 
             stats = client.stats()
             print(stats.connections - 1, "reconnects,", stats.waiting, "calls wait")
@@ -198,20 +198,20 @@ class Shown:
         return self._engine.stats()
 
     def age(self) -> float:
-        """How old what is kept can be, in seconds: infinity where no server has answered yet.
+        """The greatest age of kept answers, in seconds; infinity if no server has answered yet.
 
-        So long ago the newest ping or call was handed in that the server has answered. Whatever that server knew by then of
-        the nodes that the client watches, it has told. The server may itself be behind the others. It counts the time for
-        which the machine was suspended, if the system tells that, as Linux does; so does `within` of other calls.
+        It is the time since the newest answered ping or call was handed in: by then, the server had reported all that it knew
+        of the watched nodes. The server itself may be behind the others. On systems that tell it, as Linux does, the age includes
+        the time for which the machine was suspended; so does `within` of other calls.
         """
         proved_at = self._engine.connection_stats.proved_at
         return math.inf if proved_at is None else max(moment() - proved_at, 0) / 1000
 
     def kept(self, path: str, within: Optional[float] = None) -> Optional[Kept]:
-        """What is kept of a node that `get`, `exists` or `follow` read with a watch, or None. It asks no server.
+        """The kept answer for a node that `get`, `exists` or `follow` read with a watch, or None. It asks no server.
 
-        With `within`, in seconds, it is only what is good and of this age at most: what the server of this client held
-        so long ago, or later. An idle client hears its server every third of the timeout.
+        With `within`, in seconds, it returns only a good answer of at most this age: one that the client's server held that
+        long ago, or later. An idle client hears its server every third of the timeout.
 
             kept = client.kept("/config", within=5.0)
             data = kept.data if kept is not None else client.get("/config", watch=True)[0]
@@ -219,9 +219,9 @@ class Shown:
         return self._within(within, lambda: self._engine.kept(path))
 
     def kept_children(self, path: str, within: Optional[float] = None) -> Optional[KeptChildren]:
-        """What is kept of the children of a node that `get_children` read with a watch, or None. It asks no server.
+        """The kept names of the children of a node that `get_children` read with a watch, or None. It asks no server.
 
-        `within` is that of `kept`.
+        `within` works as in `kept`.
         """
         return self._within(within, lambda: self._engine.kept_children(path))
 
@@ -234,11 +234,10 @@ class Shown:
         return kept if kept.mark is Mark.GOOD and age <= within else None
 
     def snapshot(self, nodes: Iterable[str] = (), parents: Iterable[str] = ()) -> Optional[Snapshot]:
-        """What is kept of several nodes, and of the names below several parents, of one moment. It asks no server.
+        """The kept answers for several nodes, and for the names below several parents, of one moment. It asks no server.
 
-        The proved core makes it: all of it is what the servers' history has at its zxid, whatever was told between the reads.
-        None where some of it is not kept, or not good: read that, with a watch. Of a node that is not there, its absence is
-        kept by `exists`.
+        The proved core makes it: all of it is the servers' history at its zxid, whatever notices came between the reads. It
+        is None if some of it is not kept, or not good: read that with a watch. `exists` keeps the absence of a node.
 
             found = client.snapshot(nodes=["/host", "/port"], parents=["/workers"])
             if found is not None:
@@ -248,15 +247,13 @@ class Shown:
         return self._engine.snapshot(tuple(nodes), tuple(parents))
 
     def forget_stale(self) -> None:
-        """Forgets all kept answers that are stale. Until then, what was read with a watch takes memory."""
+        """Forgets all stale kept answers. Until then, each answer that was read with a watch takes memory."""
         self._engine.forget_stale()
 
     def DataWatch(self, path: str, function: Optional[Callable[..., object]] = None) -> watches.DataWatch:
-        """Calls a function with a node's data whenever they have changed, as in kazoo: see `dirwolleu.DataWatch`."""
+        """Calls a function with a node's data after each change, as in kazoo: see `dirwolleu.DataWatch`."""
         return watches.DataWatch(self, path, function)
 
     def ChildrenWatch(self, path: str, function: Optional[Callable[..., object]] = None) -> watches.ChildrenWatch:
-        """Calls a function with the names of a node's children whenever they have changed, as in kazoo: see
-        `dirwolleu.ChildrenWatch`.
-        """
+        """Calls a function with the names of a node's children after each change, as in kazoo: see `dirwolleu.ChildrenWatch`."""
         return watches.ChildrenWatch(self, path, function)

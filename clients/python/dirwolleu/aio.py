@@ -47,7 +47,7 @@ LONGEST_FAREWELL = 2.0
 
 
 class _Waiter(asyncio.Future[Any]):
-    """What waits for an answer. It belongs to the event loop, which also sends."""
+    """A future of the event loop, which also sends."""
 
     def begin(self) -> bool:
         return not self.done()
@@ -56,7 +56,7 @@ class _Waiter(asyncio.Future[Any]):
 def _waits(
     call: Callable[Concatenate[Client, Given], Wanted[Result]]
 ) -> Callable[Concatenate[Client, Given], Coroutine[Any, Any, Result]]:
-    """A coroutine function that waits for what a call asks for."""
+    """A coroutine function of a client that makes a call and waits for the answer."""
 
     async def waits(client: Client, /, *given: Given.args, **named: Given.kwargs) -> Result:
         wanted, timeout = call(client, *given, **named)
@@ -68,7 +68,7 @@ def _waits(
 def _sends(
     call: Callable[Concatenate[Client, Given], Wanted[Result]]
 ) -> Callable[Concatenate[Client, Given], asyncio.Future[Result]]:
-    """What hands in at once what a call asks for. One request needs no task."""
+    """A function of a client that makes a call at once and answers a future. One request needs no task."""
 
     def sends(client: Client, /, *given: Given.args, **named: Given.kwargs) -> asyncio.Future[Result]:
         wanted, timeout = call(client, *given, **named)
@@ -80,12 +80,12 @@ def _sends(
 class Client(Shown):
     """A client of ZooKeeper whose functions are coroutines. It belongs to the event loop in which it is started.
 
-    The parameters and what calls raise are those of `dirwolleu.Client`. Watches and listeners are functions or
-    coroutine functions, which the event loop calls. A call that is cancelled may still happen at the server, within its
-    bound, also where it waits for a connection. Whoever cancels all tasks of the loop, as `asyncio.run` does at its end, leaves the connection as
-    it is, so that `stop` can still end the session.
+    It has the parameters and the errors of `dirwolleu.Client`. The event loop calls watches and listeners, which are functions or
+    coroutine functions. A cancelled call may still happen at the server, within its bound, even if it waits for a
+    connection. Cancelling all tasks of the loop, as `asyncio.run` does at its end, leaves the connection open, so that
+    `stop` can still end the session.
 
-    Each call has a second one whose name ends in `_async`: it is handed in at once, and answers an `asyncio.Future`.
+    Each call has a second form whose name ends in `_async`. It hands the call in at once and returns an `asyncio.Future`.
 
         futures = [client.get_async(f"/config/{name}") for name in names]
         data = [(await future)[0] for future in futures]
@@ -111,8 +111,8 @@ class Client(Shown):
     async def start(self, timeout: Optional[float] = 15.0) -> None:
         """Begins to connect, and waits until a server has accepted the session.
 
-        Raises `TimeoutError`, and stops, where that takes longer than `timeout` seconds; None is no bound. Raises
-        `AuthFailedError`, and stops, where the server refuses credentials.
+        Raises `TimeoutError`, and stops, if that takes longer than `timeout` seconds; None is no bound. Raises
+        `AuthFailedError`, and stops, if the server refuses credentials.
         """
         if not self._engine.is_running:
             await self.stop()  # where the session has ended by itself, its driver is there still
@@ -132,8 +132,8 @@ class Client(Shown):
     async def stop(self) -> None:
         """Ends the session, with its ephemeral nodes and its watches.
 
-        `start` begins another session. Where no server has ended the session within a third of its timeout, and within
-        2 seconds, it lives on for its timeout.
+        `start` begins another session. If no server ends the session within a third of its timeout, and within 2 seconds,
+        it lives on for its timeout.
         """
         if self._driver is None:
             return
@@ -148,7 +148,7 @@ class Client(Shown):
     async def close(self) -> None:
         """Frees what the client holds; it can't be started again.
 
-        The session of a client that was not stopped lives on for its timeout, and `saved_session` can be taken up.
+        If the client was not stopped, its session lives on for its timeout, and another client can take up `saved_session`.
         """
         for task in list(self._tasks):
             task.cancel()
@@ -191,15 +191,15 @@ class Client(Shown):
     add_auth_async = _sends(calls.add_auth)
 
     def transaction(self) -> AsyncTransaction:
-        """Several changes that happen together or not at all: see `AsyncTransaction`."""
+        """Begins several changes that happen together or not at all: see `AsyncTransaction`."""
         return AsyncTransaction(self._call)
 
     async def retry(
         self, function: Callable[..., Awaitable[Returned]], *arguments: Any, **keywords: Any
     ) -> Returned:
-        """Awaits a coroutine function again while it raises an error after which that is safe.
+        """Awaits a coroutine function, and awaits it again while it raises an error after which that is safe.
 
-        That is by the policy of the client; without one it is `Retry()`.
+        It follows the client's policy, or else `Retry()`.
 
             stat = await client.retry(client.exists, "/config")
         """
@@ -212,19 +212,19 @@ class Client(Shown):
             await asyncio.sleep(pause)
 
     async def follow(self, path: str) -> AsyncGenerator[Kept, None]:
-        """Yields what a node holds, and again whenever that has changed, as `follow` of `dirwolleu.Client` does."""
+        """Yields a node's data, and yields again after each change, as `follow` of `dirwolleu.Client` does."""
         async for kept in self._follow(following.data_of(self._engine, path)):
             yield kept
 
     async def follow_children(self, path: str) -> AsyncGenerator[KeptChildren, None]:
-        """Yields the names of a node's children, and again whenever these have changed, as `follow_children` of
-        `dirwolleu.Client` does.
+        """Yields the names of a node's children, and yields again after each change, as `follow_children` of `dirwolleu.Client`
+        does.
         """
         async for kept in self._follow(following.children_of(self._engine, path)):
             yield kept
 
     def tree(self, path: str, *, most: int = MOST_NODES) -> AsyncTree:
-        """Reads all nodes at and below a path, and reads again what changes, as `tree` of `dirwolleu.Client` does."""
+        """Reads all nodes at and below a path, and reads again those that change, as `tree` of `dirwolleu.Client` does."""
         tree = AsyncTree(self, path, most)
         self._act()
         return tree
@@ -243,11 +243,11 @@ class Client(Shown):
         return self._drive(steps_of.by_policy(request, self._retry, steps_of.until_of(timeout)))
 
     async def _run(self, plan: Plan[Result], timeout: Optional[float] = None) -> Result:
-        """Asks what a plan asks for, one request after the other, within a number of seconds in all."""
+        """Asks the requests of a plan, one after the other, within a number of seconds in all."""
         return await self._drive(steps_of.run(plan, self._retry, steps_of.until_of(timeout)))
 
     async def _drive(self, steps: Steps[Result], news: Optional[asyncio.Event] = None) -> Result:
-        """Does steps, one after the other. What a step raises is theirs to handle, and so is it to be cancelled."""
+        """Does steps, one after the other. The steps handle the errors and cancellations that they raise."""
         news = news or asyncio.Event()
         try:
             step = next(steps)
@@ -290,7 +290,7 @@ class Client(Shown):
     def _begin(
         self, begin: Callable[[AnyNews], Steps[Any]], end: Callable[[Any, Optional[BaseException]], object]
     ) -> None:
-        """Has a task of the event loop do steps, from the start of the client on."""
+        """Lets a task of the event loop do steps, from the start of the client on."""
 
         async def run() -> None:
             news = asyncio.Event()

@@ -54,7 +54,7 @@ LONGEST_LEAVING = 1.0
 
 
 def _waits(call: Callable[Concatenate[Client, Given], Wanted[Result]]) -> Callable[Concatenate[Client, Given], Result]:
-    """What waits for what a call asks for."""
+    """A function of a client that makes a call and waits for the answer."""
 
     def waits(client: Client, /, *given: Given.args, **named: Given.kwargs) -> Result:
         wanted, timeout = call(client, *given, **named)
@@ -66,7 +66,7 @@ def _waits(call: Callable[Concatenate[Client, Given], Wanted[Result]]) -> Callab
 def _sends(
     call: Callable[Concatenate[Client, Given], Wanted[Result]]
 ) -> Callable[Concatenate[Client, Given], concurrent.futures.Future[Result]]:
-    """What hands in what a call asks for, and does not wait."""
+    """A function of a client that makes a call and answers a future."""
 
     def sends(client: Client, /, *given: Given.args, **named: Given.kwargs) -> concurrent.futures.Future[Result]:
         wanted, timeout = call(client, *given, **named)
@@ -79,41 +79,43 @@ class Client(Shown):
     """A client of ZooKeeper whose functions wait for their answers. Any thread may call them.
 
     `hosts` is a text like `host:port,host:port/root`. Each dial looks the name up again and goes to one of its
-    addresses; the order of the hosts is left to chance, unless `randomize_hosts` is false. A port that is left out is 2181, and an
-    IPv6 address is in brackets. The root, which is known as a chroot, is the node that the program knows as `/`: all
-    paths of calls, answers, events and kept answers are below it. `timeout` is that of the session in seconds, as it is
-    asked for; a server grants what lies between its own bounds. `saved` takes up the session of another client, as its
-    `saved_session` told it.
+    addresses, in a random order of the hosts unless `randomize_hosts` is false. The default port is 2181, and an IPv6 address
+    is in brackets. The root, also called a chroot, is the node that the program knows as `/`: all paths of calls, answers,
+    events and kept answers are below it. `timeout` is the session's timeout in seconds that the client asks for; a server
+    grants a value within its own bounds. `saved` takes up the session of another client, from its `saved_session`.
 
-    `auth_data` are credentials, each a scheme and its text, which are sent first on each connection, and so are those of
-    `add_auth`. If a server refuses one of them, the session is over: the state is `LOST`, nothing is kept, and no server is
-    dialled until the client is started again. With `sasl` the client logs in before them: see `dirwolleu.sasl`. With `ssl` the
-    connections are TLS: see `dirwolleu.tls_context`. By `retry`, a policy, each call is asked again where that is safe; without it none
-    is.
+    `auth_data` are credentials, pairs of a scheme and its text. The client sends them first on each connection, with those of
+    `add_auth`. If a server refuses one of them, the session is over: the state is `LOST`, nothing is kept, and the client
+    dials no server until it is started again. With `sasl` the client logs in first: see `dirwolleu.sasl`. With `ssl` the
+    connections use TLS: see `dirwolleu.tls_context`. With `retry`, a policy, the client asks a call again if that is safe.
 
-    A frame that comes has at most `longest_answer` bytes after its length, and one that is sent `longest_request`: the least
-    that they may be, unless you say more, and at most 1,073,741,823. A longer answer, as the names of very many children, ends the
-    connection; a longer request raises `TooLargeError`. The servers' `jute.maxbuffer` has to be as high.
+    `longest_answer` and `longest_request` bound the bytes of a frame that comes and of one that is sent, after its length. The
+    defaults are the least values, and the greatest is 1,073,741,823. A longer answer, such as the names of very many children,
+    ends the connection; a longer request raises `TooLargeError`. Set `jute.maxbuffer` of the servers as high.
 
-    What the session is handed, and what it sends, is written into the file `record`, from its beginning: `zk_shell` plays it again,
-    to show a fault. No password is in it, nor a credential; paths and data are. If it cannot be written any further, that
-    is logged, and the session goes on.
+    The file `record` gets all that the session is given and sends, from the beginning; `zk_shell` replays it to show a fault. It
+    has paths and data, but no password and no credential. If writing fails, the client logs that, and the session goes on.
 
-    A call waits for a server and for its answer within a bound: its own `timeout` in seconds, which counts all tries,
-    or that of the session. Where its connection is lost, a read is asked again, and a write is not. By the time that it
-    returns or raises, all that came with its answer is taken in, and functions are told of it: `state` and the next
-    call meet that.
+    A call waits for a server and its answer for at most its own `timeout` in seconds, all tries together, or else the session's
+    timeout. If its connection is lost, a read is asked again and a write is not. When the call returns or raises, the
+    client has taken in all that came with the answer and told its functions of it: `state` and the next call see that.
 
-    What all calls may raise: `ConnectionLoss` where the connection ended before the reply to a write;
-    `NotConnectedError`, which is one, where a call without a `timeout` could not be sent in time; `CallTimeoutError`
-    where no answer came in time; `SessionExpiredError`; `ConnectionClosedError` where the client is not started;
-    `AuthFailedError` where a server has refused credentials of the client on a connection, until it is started again;
-    `ValueError` where the path is none or a version does not fit into 32 bits; `TypeError`, at once, where a value is of another
-    type; and another `ZookeeperError` where the server answers with an error.
+    Every call may raise:
+
+    - `ConnectionLoss`: the connection ended before the reply to a write;
+    - `NotConnectedError`, a `ConnectionLoss`: a call without a `timeout` could not be sent in time;
+    - `CallTimeoutError`: no answer came in time;
+    - `SessionExpiredError`;
+    - `ConnectionClosedError`: the client is not started;
+    - `AuthFailedError`: a server has refused a credential, and the client was not started again since;
+    - `ValueError`: the path is invalid, or a version does not fit into 32 bits;
+    - `TypeError`, at once: a value has another type;
+    - another `ZookeeperError`: the server answered with an error.
+
     `may_have_happened` of an error says whether a change may have happened, or may still happen.
 
-    Each call has a second one whose name ends in `_async`, which sends and does not wait: it answers a
-    `concurrent.futures.Future`. It is not asked again.
+    Each call has a second form whose name ends in `_async`. It sends without waiting and returns a
+    `concurrent.futures.Future`; it is never asked again.
 
         futures = [client.get_async(f"/config/{name}") for name in names]
         data = [future.result()[0] for future in futures]
@@ -123,10 +125,10 @@ class Client(Shown):
             data, stat = client.get("/config", timeout=2.0)
             client.set("/config", b"new", version=stat.version)
 
-    Functions that it calls (watches and listeners) run one after the other in a thread of their own, and may call the
-    client. So may a signal handler, and a call that an exception of a handler ends, such as KeyboardInterrupt, leaves
-    the client as it is: the call may have happened, or may happen yet, within its bound. In a child that was forked after `start`, calls raise
-    `ConnectionClosedError`, and `stop` and `close` do nothing.
+    Watches and listeners run one after the other in a thread of their own, and may call the client. So may a signal handler.
+    If a handler's exception, such as KeyboardInterrupt, ends a call, the client stays as it is: the call may have happened, or
+    may still happen within its bound. In a child that was forked after `start`, calls raise `ConnectionClosedError`, and
+    `stop` and `close` do nothing.
     """
 
     def _prepare(self) -> None:
@@ -153,8 +155,8 @@ class Client(Shown):
     def start(self, timeout: Optional[float] = 15.0) -> None:
         """Begins to connect, and waits until a server has accepted the session.
 
-        Raises `TimeoutError`, and stops, where that takes longer than `timeout` seconds; None is no bound. Raises
-        `AuthFailedError`, and stops, where the server refuses credentials.
+        Raises `TimeoutError`, and stops, if that takes longer than `timeout` seconds; None is no bound. Raises
+        `AuthFailedError`, and stops, if the server refuses credentials.
         """
         with ending.resting(timeout):
             self._start(timeout)
@@ -181,8 +183,8 @@ class Client(Shown):
     def stop(self) -> None:
         """Ends the session, with its ephemeral nodes and its watches, and the threads of the client.
 
-        `start` begins another session. Where no server has ended the session within a third of its timeout, and within
-        2 seconds, it lives on for its timeout. For a callback that runs it waits 5 seconds at most.
+        `start` begins another session. If no server ends the session within a third of its timeout, and within 2 seconds,
+        it lives on for its timeout. `stop` waits at most 5 seconds for a callback that runs.
         """
         if self._is_here():
             self._stop(self._threads() or self._past)
@@ -190,7 +192,7 @@ class Client(Shown):
     def close(self) -> None:
         """Frees what the client holds; it can't be started again.
 
-        The session of a client that was not stopped lives on for its timeout, and `saved_session` can be taken up.
+        If the client was not stopped, its session lives on for its timeout, and another client can take up `saved_session`.
         """
         if not self._is_here():
             return
@@ -240,13 +242,13 @@ class Client(Shown):
     add_auth_async = _sends(calls.add_auth)
 
     def transaction(self) -> Transaction:
-        """Several changes that happen together or not at all: see `Transaction`."""
+        """Begins several changes that happen together or not at all: see `Transaction`."""
         return Transaction(self._call)
 
     def retry(self, function: Callable[..., Returned], *arguments: Any, **keywords: Any) -> Returned:
-        """Calls a function again while it raises an error after which that is safe, by the policy of the client.
+        """Calls a function, and calls it again while it raises an error after which that is safe.
 
-        Without a policy it is `Retry()`. The function is to be safe to call again up to each of its writes.
+        It follows the client's policy, or else `Retry()`. The function has to be safe to repeat up to each of its writes.
 
             version = client.retry(client.exists, "/config").version
         """
@@ -259,20 +261,21 @@ class Client(Shown):
             time.sleep(pause)
 
     def follow(self, path: str) -> Generator[Kept, None, None]:
-        """Yields what a node holds, and again whenever that has changed, through reconnects and new sessions.
+        """Yields a node's data, and yields again after each change, through reconnects and new sessions.
 
-        Each answer was good when it came; one that a notice ended at once has the zxid of the node's last change. Where the
-        node changes more than once between two of them, the last one is told. Where there is no node, that is told too. The core
-        keeps it good: it reads it again after each change, and a second after a refusal. It ends when the client is stopped or closed, or its credentials are refused, and raises
-        what `get` raises for other reasons than the connection, the session and the load of a server, such as
-        `NoAuthError`. A code of a server that has no error of its own here is logged at WARNING, and the node is read again.
+        Each answer was good when it came; if a notice ended it at once, it has the zxid of the node's last change. If the node
+        changes several times in between, the last state is yielded. The absence of the node is yielded too. The core reads the
+        node again after each change, and a second after a refusal. The generator ends when the client is stopped or
+        closed, or when its credentials are refused. It raises the errors of `get` that do not come from the connection, the
+        session or the load of a server, such as `NoAuthError`. A server's code without an error class here is logged at
+        WARNING, and the node is read again.
         """
         return self._follow(following.data_of(self._engine, path))
 
     def follow_children(self, path: str) -> Generator[KeptChildren, None, None]:
-        """Yields the names of a node's children, and again whenever these have changed, as `follow` does.
+        """Yields the names of a node's children, and yields again after each change, as `follow` does.
 
-        Where there is no node, that is told: `exists` is false then, and there are no names.
+        If there is no node, `exists` is false and there are no names.
 
             for kept in client.follow_children("/config"):
                 print(kept.names, "at zxid", kept.last_zxid)
@@ -281,9 +284,9 @@ class Client(Shown):
         return self._follow(following.children_of(self._engine, path))
 
     def tree(self, path: str, *, most: int = MOST_NODES) -> Tree:
-        """Reads all nodes at and below a path, of which there are `most` at most, and reads again what changes.
+        """Reads all nodes at and below a path, at most `most` of them, and reads again those that change.
 
-        Each of its snapshots is of one moment. Close it where it is wanted no longer.
+        Each of its snapshots is of one moment. Close the tree when you need it no longer.
 
             with client.tree("/config") as tree:
                 snapshot = tree.wait(timeout=10)
@@ -316,12 +319,11 @@ class Client(Shown):
         return result
 
     def _run(self, plan: Plan[Result], timeout: Optional[float] = None) -> Result:
-        """Asks what a plan asks for, one request after the other, within a number of seconds in all."""
+        """Asks the requests of a plan, one after the other, within a number of seconds in all."""
         return self._drive(steps_of.run(plan, self._retry, steps_of.until_of(timeout)))
 
     def _drive(self, steps: Steps[Result], news: Optional[News] = None) -> Result:
-        """Does steps in this thread, one after the other. What a step raises is theirs to handle, and so is an interrupt.
-        """
+        """Does steps in this thread, one after the other. The steps handle the errors and interrupts that they raise."""
         self._check_process()
         news = news or News()
         try:
@@ -375,7 +377,7 @@ class Client(Shown):
         self._act()
 
     def _act(self) -> None:
-        """Has the thread of the connection look for what is to be done."""
+        """Wakes the thread of the connection, which looks for work."""
         threads = self._running.get("threads")
         if threads is not None and not threads.loop.act():
             threads = self._threads()  # those have ended: there may be later ones
@@ -391,7 +393,7 @@ class Client(Shown):
     def _begin(
         self, begin: Callable[[AnyNews], Steps[Any]], end: Callable[[Any, Optional[BaseException]], object]
     ) -> None:
-        """Has the thread of the callbacks do steps, from the start of the client on."""
+        """Lets the thread of the callbacks do steps, from the start of the client on."""
         self._engine.check_process()
         tasks = self._tasks
 
@@ -405,7 +407,7 @@ class Client(Shown):
             task.start()
 
     def _begin_plan(self, plan: Plan[Any], timeout: Optional[float] = None) -> Future:
-        """Has the thread of the callbacks ask what a plan asks for."""
+        """Lets the thread of the callbacks ask the requests of a plan."""
         self._check_process()
         future = Future(self._tell)
         future.begin()
@@ -426,13 +428,13 @@ class Client(Shown):
             threads.loop.later(seconds, function)
 
     def _is_connected(self, threads: Threads) -> bool:
-        """Whether a server has accepted the session that these threads keep. Raises an error where none will."""
+        """Whether a server has accepted the session that these threads keep. Raises an error if none will."""
         if threads.are_over() or threads.have_begun and self._engine.refused:
             raise self._engine.why_over("the client was stopped")
         return threads.have_begun and self._engine.is_authenticated()
 
     def _wait(self, condition: Callable[[], bool], until: Optional[float]) -> bool:
-        """Waits until a condition holds, or up to a moment. The engine tells the news of it."""
+        """Waits until a condition holds, at most up to a moment. The engine's news wake it."""
         news = News()
         with self._engine.news(news.set):
             while not condition():
@@ -441,7 +443,7 @@ class Client(Shown):
         return True
 
     def _threads(self) -> Optional[Threads]:
-        """The threads of the client, where it was started and these are not over."""
+        """The threads of the client, if it was started and they are not over."""
         while (threads := self._running.get("threads")) is not None and threads.are_over():
             self._past, self._running = threads, threads.later
         return threads
@@ -459,7 +461,7 @@ class Client(Shown):
         function(argument)
 
     def _tell(self, function: Callable[[Any], object], argument: Any) -> bool:
-        """Has the thread of the callbacks call a function, if there is one."""
+        """Lets the thread of the callbacks, if there is one, call a function."""
         threads = self._threads()
         return threads is not None and threads.callbacks.tell(function, argument)
 
@@ -470,8 +472,8 @@ class Client(Shown):
             threads.loop.stop(self._engine.leave, LONGEST_LEAVING)
 
     def _begin_threads(self, until: Optional[float] = None) -> Optional[Threads]:
-        """The threads of the client, which are started where there are none. Where they are just being stopped, it waits for
-        that before: up to a moment, and then there are none.
+        """The threads of the client, which it starts if there are none. If they are being stopped, it waits for that first, at most
+        up to a moment; then there are none.
         """
         while True:
             threads = self._threads()
@@ -485,7 +487,7 @@ class Client(Shown):
                 return None
 
     def _start_threads(self) -> Optional[Threads]:
-        """Starts threads, and answers them: None where somebody else was first. A stop may come at any moment of it."""
+        """Starts threads and returns them, or None if somebody else was first. A stop may come at any moment."""
         from dirwolleu._threads import Threads  # here, since not each program that imports the package starts a client
 
         made = Threads(self._driver(), self._engine, self._sleepers, self._begin_tasks)
@@ -506,7 +508,7 @@ class Client(Shown):
             task.start()
 
     def _driver(self) -> Driver:
-        """What keeps the client connected, once it is started."""
+        """Keeps the client connected, once it is started."""
         from dirwolleu._driver import Driver
 
         return Driver(self._servers, self._engine, self._tls, self._sasl)
@@ -522,7 +524,7 @@ class Client(Shown):
 
 
 _started: dict[weakref.ref[Client], None] = {}
-"""The clients that were started. It is listed in a single step of the interpreter, while threads may start others."""
+"""The clients that were started. Listing them is a single step of the interpreter, while threads may start others."""
 
 
 @atexit.register

@@ -21,21 +21,21 @@ from dirwolleu.types import Stat
 __all__ = ["AsyncTransaction", "Outcome", "Transaction"]
 
 Outcome = Union[str, Stat, bool]
-"""What an operation brings: the path of a node that was made, the Stat of one that was set, else True, as in kazoo."""
+"""The result of an operation: the path of a created node, the Stat of one that was set, or else True, as in kazoo."""
 
 _CREATE, _DELETE, _SET_DATA, _CHECK = 1, 2, 5, 13
 _ROLLED_BACK, _NOT_TRIED = 0, -2
 
 
 class _Part(NamedTuple):
-    """One operation: its number, its body, and what takes its result."""
+    """One operation: its number, its body, and the reader of its result."""
 
     operation: int
     path: str
     body: Callable[[Root], bytes]
     read: Callable[[Reader, Root], Outcome]
     named: str
-    """The path that has to be the path of a node."""
+    """The path that has to be valid for a node."""
 
 
 def _versioned(path: str, version: int, data: bytes = b"") -> Callable[[Root], bytes]:
@@ -43,7 +43,7 @@ def _versioned(path: str, version: int, data: bytes = b"") -> Callable[[Root], b
 
 
 class _Operations:
-    """The operations of a transaction, which both kinds have."""
+    """The operations of a transaction, for both clients."""
 
     def __init__(self) -> None:
         self._parts: list[_Part] = []
@@ -57,22 +57,22 @@ class _Operations:
         ephemeral: bool = False,
         sequence: bool = False,
     ) -> None:
-        """Makes a node. Its result is its path."""
+        """Creates a node. The result is its path."""
         mode = Mode(ephemeral, sequence)
         body = records.create_body(path, value, acl, mode)
         self._parts.append(_Part(_CREATE, path, body, records.read_path, records.place_of(path, mode)))
 
     def delete(self, path: str, version: int = -1) -> None:
-        """Deletes a node of this version, where -1 is any. Its result is True."""
+        """Deletes a node that has this version; -1 is any. The result is True."""
         self._parts.append(_Part(_DELETE, path, _versioned(path, version), lambda *_: True, path))
 
     def set_data(self, path: str, value: Optional[bytes], version: int = -1) -> None:
-        """Sets the data of a node of this version, where -1 is any. Its result is the node's `Stat`."""
+        """Sets the data of a node that has this version; -1 is any. The result is its `Stat`."""
         body = _versioned(path, version, jute.buffer(checked_data(value)))
         self._parts.append(_Part(_SET_DATA, path, body, records.read_stat, path))
 
     def check(self, path: str, version: int) -> None:
-        """Lets the transaction happen only if the node has this version, where -1 is any. Its result is True."""
+        """Lets the transaction happen only if the node has this version; -1 is any. The result is True."""
         self._parts.append(_Part(_CHECK, path, _versioned(path, version), lambda *_: True, path))
 
     def __len__(self) -> int:
@@ -93,7 +93,7 @@ class _Operations:
 
 
 def _outcomes(parts: list[_Part], reader: Reader, root: Root) -> list[Outcome]:
-    """What each operation has brought. Raises the error of the one that was refused."""
+    """The result of each operation. Raises the error of the one that was refused."""
     outcomes: list[Outcome] = []
     codes: list[int] = []
     for part in parts:
@@ -121,7 +121,7 @@ def _raise(parts: list[_Part], codes: list[int]) -> None:
 class Transaction(_Operations):
     """Several changes that happen together or not at all, in their order.
 
-    `commit` sends them. Within `with`, the end of the block does, unless an error leaves it.
+    `commit` sends them. In a `with` block, the end of the block does, unless an error leaves it.
 
         with client.transaction() as transaction:
             transaction.check("/config", version=3)
@@ -134,13 +134,13 @@ class Transaction(_Operations):
         super().__init__()
         self._ask = ask
         self.results: list[Outcome] = []
-        """What each operation has brought, in their order; nothing before `commit`."""
+        """The results of the operations, in their order; empty before `commit`."""
 
     def commit(self, timeout: Optional[float] = None) -> list[Outcome]:
-        """Does all of it, and tells what each operation has brought.
+        """Does all operations, and returns their results.
 
-        Raises `TransactionFailedError` where one is refused; then nothing has happened. `ConnectionLoss` and
-        `CallTimeoutError` say that all of it may have happened.
+        Raises `TransactionFailedError` if one is refused; then nothing has happened. After `ConnectionLoss` and
+        `CallTimeoutError` all of it may have happened.
         """
         self.results = self._ask(self.request(), timeout)
         return self.results
@@ -156,16 +156,16 @@ class Transaction(_Operations):
 
 
 class AsyncTransaction(_Operations):
-    """A `Transaction` of the client for asyncio: `commit` is a coroutine, and `async with` does it at its end."""
+    """A `Transaction` of the client for asyncio: `commit` is a coroutine, and the end of an `async with` block commits."""
 
     def __init__(self, ask: Callable[[RawRequest[list[Outcome]], Optional[float]], Awaitable[list[Outcome]]]) -> None:
         super().__init__()
         self._ask = ask
         self.results: list[Outcome] = []
-        """What each operation has brought, in their order; nothing before `commit`."""
+        """The results of the operations, in their order; empty before `commit`."""
 
     async def commit(self, timeout: Optional[float] = None) -> list[Outcome]:
-        """Does all of it, as `Transaction.commit` does."""
+        """Does all operations, as `Transaction.commit` does."""
         self.results = await self._ask(self.request(), timeout)
         return self.results
 
