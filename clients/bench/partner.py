@@ -17,7 +17,7 @@ from typing import Any, Callable, NamedTuple, Optional
 
 __all__ = [
     "CLOSE_SESSION", "EXISTS", "GET_DATA", "PASSWORD", "PING", "SET_WATCHES", "STAT", "WAIT", "Asked", "Connected", "Partner", "Peer", "RawServer",
-    "begin_making", "data_reply", "notice", "reply",
+    "begin_making", "buffer", "data_reply", "framed", "notice", "reply", "text", "texts",
 ]  # fmt: skip
 
 WAIT = 60.0
@@ -31,6 +31,23 @@ def begin_making() -> tuple[subprocess.Popen[str], int]:
     maker = subprocess.Popen(command, stdin=subprocess.PIPE, stdout=subprocess.PIPE, text=True)
     assert maker.stdout is not None
     return maker, int(maker.stdout.readline().split()[1])
+
+
+def framed(*payloads: bytes) -> bytes:
+    """Each payload after its length."""
+    return b"".join(map(buffer, payloads))
+
+
+def buffer(data: bytes) -> bytes:
+    return struct.pack(">i", len(data)) + data
+
+
+def text(value: str) -> bytes:
+    return buffer(value.encode())
+
+
+def texts(*values: str) -> bytes:
+    return struct.pack(">i", len(values)) + b"".join(map(text, values))
 
 
 class Partner:
@@ -119,7 +136,7 @@ class Peer:
         self.send(struct.pack(">iiq", 0, 0, 0) + PASSWORD + b"\0")
 
     def send(self, *payloads: bytes) -> None:
-        self.send_bytes(b"".join(struct.pack(">i", len(payload)) + payload for payload in payloads))
+        self.send_bytes(framed(*payloads))
 
     def send_bytes(self, data: bytes) -> None:
         self.connection.sendall(data)
@@ -157,11 +174,11 @@ def reply(asked: Asked, body: bytes = b"", code: int = 0, zxid: int = 5) -> byte
 
 
 def notice(path: str, event: int = 3) -> bytes:
-    return struct.pack(">iqiii", -1, -1, 0, event, 3) + struct.pack(">i", len(path)) + path.encode()
+    return struct.pack(">iqiii", -1, -1, 0, event, 3) + text(path)
 
 
 def data_reply(asked: Asked, data: bytes, zxid: int = 5) -> bytes:
-    return reply(asked, struct.pack(">i", len(data)) + data + STAT, zxid=zxid)
+    return reply(asked, buffer(data) + STAT, zxid=zxid)
 
 
 class RawServer:

@@ -9,17 +9,13 @@ import unittest
 from typing import Optional
 
 import server  # noqa: F401  it finds the package
-from partner import WAIT, Partner, Peer
+from partner import WAIT, Partner, Peer, framed, text
 
 from dirwolleu.testing import _raw as raw
 from dirwolleu.testing._library import Bench
 
 PASSWORD_OF_NONE = struct.pack(">i", 16) + bytes(16)
 OPEN_ACL = struct.pack(">ii", 1, 31) + struct.pack(">i", 5) + b"world" + struct.pack(">i", 6) + b"anyone"
-
-
-def text(value: str) -> bytes:
-    return struct.pack(">i", len(value)) + value.encode()
 
 
 class Caller(Peer):
@@ -59,7 +55,7 @@ class RawTest(unittest.TestCase):
             bench.connect(1)
             for payload in (connect, struct.pack(">ii", 1, kind) + text("/") + bytes(64)):
                 self.assertTrue(bench.is_open)
-                bench.hear(struct.pack(">i", len(payload)) + payload)
+                bench.hear(framed(payload))
                 self.assertTrue(bench.process(1))
                 said = bench.say()
             self.assertEqual((said, bench.is_open), (b"", False), kind)
@@ -163,7 +159,7 @@ class ServerTest(unittest.TestCase):
         connect = struct.pack(">iqiq", 0, 0, 6000, 0) + PASSWORD_OF_NONE + b"\0"
         for scheme, code in (("digest", 0), ("none", -115)):
             peer, auth = self.peer(), struct.pack(">iii", -4, 100, 0) + text(scheme) + text("a:b")
-            peer.connection.sendall(b"".join(struct.pack(">i", len(one)) + one for one in (connect, auth)))
+            peer.connection.sendall(framed(connect, auth))
             self.assertEqual((peer.heard() or b"")[4:8], struct.pack(">i", 6000))
             self.assertEqual(header(peer.heard()), (-4, 0, code))
             if code:

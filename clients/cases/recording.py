@@ -20,7 +20,7 @@ from typing import Callable
 HERE = pathlib.Path(__file__).resolve().parent
 sys.path.insert(0, str(HERE.parent / "python" / "tests"))
 
-from support import WAIT, Peer, RawServer, data_reply, notice, reply  # noqa: E402
+from support import WAIT, Peer, RawServer, data_reply, framed, notice, reply, text  # noqa: E402
 
 SHELL = HERE.parents[1] / "prebuilt/x86_64-linux/zk_shell"
 PASSWORD, SECRET = b"sixteen-bytes-pw", b"anna:secret"
@@ -121,13 +121,13 @@ class Server:
 
     def take_credential(self, peer: Peer) -> bytes:
         """The answer to it."""
-        same("the credential", peer.take().body, struct.pack(">ii", 0, 6) + b"digest" + struct.pack(">i", len(SECRET)) + SECRET)
+        same("the credential", peer.take().body, struct.pack(">i", 0) + framed(b"digest", SECRET))
         return struct.pack(">iqi", -4, 5, 0)
 
     def go_on_first(self, peer: Peer) -> None:
         peer.send(ADMISSION)
         create = peer.take()
-        peer.send(reply(create, struct.pack(">i", len(PATH)) + PATH.encode()))
+        peer.send(reply(create, text(PATH)))
         peer.send(self.take_credential(peer))
         peer.send(data_reply(peer.take(), b"one"))
         self.changed.wait(WAIT)

@@ -6,7 +6,7 @@ import threading
 import time
 
 from follow import ASKS, Followed
-from partner import GET_DATA, PING, STAT
+from partner import GET_DATA, PING, STAT, buffer
 from programs import BOUND, DATA, SLACK, Case
 
 CHANGED = struct.pack(">iqi", -1, -1, 0) + struct.pack(">iii", 3, 3, 7) + b"/config"
@@ -14,7 +14,7 @@ CHANGED = struct.pack(">iqi", -1, -1, 0) + struct.pack(">iii", 3, 3, 7) + b"/con
 
 def reply(xid, zxid, text):
     """The reply to a getData that is of this zxid."""
-    return struct.pack(">iqi", xid, zxid, 0) + struct.pack(">i", len(text)) + text + STAT
+    return struct.pack(">iqi", xid, zxid, 0) + buffer(text) + STAT
 
 
 class Servers(Followed):

@@ -5,16 +5,11 @@ import struct
 import subprocess
 import time
 
-from partner import EXISTS, GET_DATA, PING, STAT
+from partner import EXISTS, GET_DATA, PING, STAT, texts
 from programs import BOUND, Case, program
 
 PROGRAM = program("tree")
 GET_CHILDREN2 = 12
-
-
-def names(*all_of_them):
-    spelled = [struct.pack(">i", len(name)) + name for name in all_of_them]
-    return struct.pack(">i", len(spelled)) + b"".join(spelled) + STAT
 
 
 class Tree(Case):
@@ -118,7 +113,7 @@ class Tree(Case):
                 elif kind == GET_DATA:
                     line.answer(xid, 0, struct.pack(">i", 4) + b"root" + STAT)
                 elif kind == GET_CHILDREN2:
-                    line.answer(xid, 0, names() if is_child else names(b"a"))
+                    line.answer(xid, 0, texts(*([] if is_child else ["a"])) + STAT)
                 else:
                     line.answer(xid, 0, b"" if kind == PING else STAT)
                 self.assertIn(kind, (GET_DATA, GET_CHILDREN2, EXISTS, PING))

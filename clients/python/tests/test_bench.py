@@ -6,10 +6,9 @@ Bytes come by single ones, and changes when the test says.
 from __future__ import annotations
 
 import queue
-import struct
 from typing import Any
 
-from support import WAIT, PartnerCase, Peer
+from support import WAIT, PartnerCase, Peer, framed
 
 from dirwolleu import Client
 from dirwolleu.testing import _library as library
@@ -30,7 +29,7 @@ class BenchTest(PartnerCase):
         changes = dict(self.changes)
         for number in range(1000):
             payload = peer.take_payload()
-            bench.hear(struct.pack(">i", len(payload)) + payload)
+            bench.hear(framed(payload))
             self.assertTrue(bench.process(1))
             if number in changes:
                 self.assertEqual(bench.change(2, library.WRITTEN, "/a", changes[number]), 0)

@@ -412,9 +412,9 @@ class SessionRules(ClientCase):
         self.assertGreaterEqual(other.last_zxid, client.last_zxid)
 
     def test_a_server_that_is_behind_is_not_read(self) -> None:
-        partner, empty = self.partner(), self.partner()
+        partner, late = self.partner(), self.partner()
         partner.do("create /a one")
-        client = self.client(f"{partner.host},{empty.host}", randomize_hosts=False)
+        client = self.client(f"{partner.host},{late.host}", randomize_hosts=False)
         client.get("/a", watch=True)
         partner.do("down")
         within(lambda: client.state is State.SUSPENDED)
@@ -423,7 +423,7 @@ class SessionRules(ClientCase):
         self.assertEqual(struct.unpack(">q", saved[-8:])[0], client.last_zxid)
         time.sleep(0.5)
         self.assertIs(client.state, State.SUSPENDED)
-        empty.do("create /a two", "create /b", "create /c")
+        late.do("create /a two", "create /b", "create /c")
         within(lambda: client.connected)
         self.assertEqual(client.get("/a")[0], b"two")
 

@@ -10,7 +10,8 @@ from typing import Any, Callable, Optional
 from unittest import mock
 
 import support
-from test_library import CONNECT_RESPONSE, STAT, STAT_BYTES, buffer, frame, reply
+from support import buffer, framed
+from test_library import CONNECT_RESPONSE, STAT, STAT_BYTES, reply
 
 from dirwolleu import (
     AuthFailedError,
@@ -43,7 +44,7 @@ from dirwolleu.security import OPEN_ACL_UNSAFE
 from dirwolleu.transaction import Transaction
 
 
-NOTICE = frame(support.notice("/elsewhere"))
+NOTICE = framed(support.notice("/elsewhere"))
 REFUSAL = reply(-4, 0, -115)
 
 
@@ -200,7 +201,7 @@ class EngineTest(support.PartnerCase):
         self.engine.received(1500, reply(-4, 0))
         self.assertEqual((self.engine.state, self.engine.is_running, self.engine.is_authenticated()), (State.CONNECTED, True, False))
         with self.assertLogs("dirwolleu.connection", "ERROR") as logged:
-            self.engine.received(1600, REFUSAL + frame(support.notice("/a")) + REFUSAL)
+            self.engine.received(1600, REFUSAL + framed(support.notice("/a")) + REFUSAL)
         self.assertEqual([one.getMessage() for one in logged.records], ["the server refuses the credentials of the scheme x509"])
         self.assertEqual((self.engine.state, self.engine.is_running, self.engine.session_id()), (State.LOST, False, 0))
         self.assertEqual(self.told, [(watch, (EventType.CHANGED, State.CONNECTED, "/a")), (listen, State.LOST)])  # what came with it is told first

@@ -18,6 +18,7 @@ import unittest
 from unittest import mock
 
 import support
+from support import buffer, framed, texts
 
 from dirwolleu import _handle as handle
 from dirwolleu import _library as library
@@ -42,20 +43,12 @@ STAT = Stat(2, 5, 1000, 2000, 3, 4, 0, 0, 5, 1, 6)
 STAT_BYTES = struct.pack(">qqqqiiiqiiq", *STAT)
 
 
-def frame(payload: bytes) -> bytes:
-    return struct.pack(">i", len(payload)) + payload
-
-
-def buffer(data: bytes) -> bytes:
-    return struct.pack(">i", len(data)) + data
-
-
 def reply(xid: int, zxid: int, code: int = 0, body: bytes = b"") -> bytes:
-    return frame(struct.pack(">iqi", xid, zxid, code) + body)
+    return framed(struct.pack(">iqi", xid, zxid, code) + body)
 
 
-CONNECT_RESPONSE = frame(struct.pack(">iiq", 0, 4000, 0x1234) + buffer(PASSWORD) + b"\0")
-CONNECT_REQUEST = frame(struct.pack(">iqiq", 0, 0, 6000, 0) + buffer(bytes(16)) + b"\0")
+CONNECT_RESPONSE = framed(struct.pack(">iiq", 0, 4000, 0x1234) + buffer(PASSWORD) + b"\0")
+CONNECT_REQUEST = framed(struct.pack(">iqiq", 0, 0, 6000, 0) + buffer(bytes(16)) + b"\0")
 
 
 def connected(root: Root = Root()) -> Session:
@@ -152,7 +145,7 @@ class MachineTest(unittest.TestCase):
     def test_a_read_is_kept_until_it_is_reported(self) -> None:
         session = connected()
         request = struct.pack(">ii", 1, 4) + buffer(b"/a") + b"\1"
-        self.assertEqual(session.get_data(200, 7, NO_LIMIT, "/a", True), [Send(frame(request))])
+        self.assertEqual(session.get_data(200, 7, NO_LIMIT, "/a", True), [Send(framed(request))])
         answer = Answer(7, 0, library.DATA, 0, STAT, b"hello", [], 9)
         self.assertEqual(session.received(300, reply(1, 9, 0, buffer(b"hello") + STAT_BYTES)), [answer])
         stat = DataStat(2, 5, 1000, 2000, 3, 0, 5)
@@ -178,7 +171,7 @@ class MachineTest(unittest.TestCase):
         sent = session.create(200, 1, NO_LIMIT, "/a", None, library.EPHEMERAL)
         self.assertTrue(isinstance(sent[0], Send) and sent[0].frame[4:].startswith(create))
         set_data = struct.pack(">ii", 2, 5) + buffer(b"/a") + buffer(b"") + struct.pack(">i", 4)
-        self.assertEqual(session.set_data(200, 2, NO_LIMIT, "/a", b"", 4), [Send(frame(set_data))])
+        self.assertEqual(session.set_data(200, 2, NO_LIMIT, "/a", b"", 4), [Send(framed(set_data))])
         created = session.received(300, reply(1, 9, 0, buffer(b"/a")))
         self.assertEqual(created, [Answer(1, 0, library.CREATED, 0, None, b"/a", [], 9)])
         session.received(300, reply(2, 10, -103))
@@ -202,7 +195,7 @@ class MachineTest(unittest.TestCase):
     def test_names_of_each_length_are_kept_in_byte_order(self) -> None:
         session, names = connected(), ["b", "n" * 300, "", "ö", *map(str, range(2000))]
         session.get_children(200, 1, NO_LIMIT, "/a", True)
-        spelled = struct.pack(">i", len(names)) + b"".join(buffer(name.encode()) for name in names)
+        spelled = texts(*names)
         session.received(300, reply(1, 9, 0, spelled + STAT_BYTES))
         self.assertEqual(session.peek_children("/a"), ((1, tuple(sorted(names)), STAT.pzxid), 9))
         self.assertEqual(session.peek_children("/b"), ((0, (), 0), 9))
@@ -269,7 +262,7 @@ class MachineTest(unittest.TestCase):
         self.assertEqual(session.snapshot([], []), (([], []), 9))
         with self.assertRaisesRegex(ValueError, "^b is no path"):
             session.snapshot(["/ö", "b"], ["/ö"])
-        session.received(400, frame(struct.pack(">iqiii", -1, -1, 0, 3, 3) + buffer("/ö".encode())))
+        session.received(400, framed(struct.pack(">iqiii", -1, -1, 0, 3, 3) + buffer("/ö".encode())))
         self.assertEqual(session.snapshot(paths, ["/ö"]), (None, 9))
         self.assertEqual(session.snapshot(["/none"], ["/ö"]), ((nodes[:1], children), 9))
 
@@ -324,7 +317,7 @@ class MachineTest(unittest.TestCase):
         session = Session(6000, 1, saved, addresses=1)
         session.moment(100)
         request = struct.pack(">iqiq", 0, 0, 6000, 0x1234) + buffer(PASSWORD) + b"\0"
-        self.assertIn(Send(frame(request)), session.opened(100))
+        self.assertIn(Send(framed(request)), session.opened(100))
         self.assertEqual(Session(6000, 1, saved, addresses=1).saved(), saved)
 
     def test_what_is_wrong_is_said(self) -> None:

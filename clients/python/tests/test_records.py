@@ -14,7 +14,7 @@ import unittest
 from typing import Any, Callable
 
 from both import AioCase, BothCase, in_thread
-from support import EXISTS, GET_DATA, PING, SET_WATCHES, STAT, TIMEOUT, WAIT, Asked, PartnerCase, Peer, data_reply, notice, reply, within
+from support import EXISTS, GET_DATA, PING, SET_WATCHES, STAT, TIMEOUT, WAIT, Asked, PartnerCase, Peer, data_reply, notice, reply, text, within
 
 from dirwolleu import (
     AuthFailedError,
@@ -42,10 +42,6 @@ from dirwolleu.types import Stat
 
 GET_ACL, SET_ACL, SYNC, MULTI, CREATE2, CONTAINER, TTL, MULTI_READ, AUTH = 6, 7, 9, 14, 15, 19, 21, 22, 100
 GET_EPHEMERALS, COUNT, WHO_AM_I = 103, 104, 107
-
-
-def text(value: str) -> bytes:
-    return struct.pack(">i", len(value.encode())) + value.encode()
 
 
 def header(kind: int, is_last: bool = False, code: int = -1) -> bytes:

@@ -7,7 +7,7 @@ import hashlib
 import struct
 from typing import Any, Callable, Optional
 
-from support import PASSWORD, TIMEOUT, WAIT, Asked, Peer, PartnerCase, reply
+from support import PASSWORD, TIMEOUT, WAIT, Asked, PartnerCase, Peer, buffer, framed, reply
 
 import dirwolleu
 from dirwolleu import aio
@@ -26,7 +26,7 @@ def token_of(asked: Asked) -> bytes:
 
 
 def tokened(asked: Asked, token: bytes, code: int = 0) -> bytes:
-    return reply(asked, struct.pack(">i", len(token)) + token, code, zxid=0)
+    return reply(asked, buffer(token), code, zxid=0)
 
 
 def proof(response: bytes, username: str, password: str, act: str) -> str:
@@ -169,8 +169,8 @@ class SaslTest(PartnerCase):
         sends: list[bytes] = []
         login = Login(digest_md5("app", "secret"))
         connected = struct.pack(">iiiq", 36, 0, 6000, 7) + PASSWORD
-        challenge = struct.pack(">iqi", -1001, 0, 0) + struct.pack(">i", len(CHALLENGE)) + CHALLENGE
-        for byte in connected + struct.pack(">i", len(challenge)) + challenge:
+        challenge = struct.pack(">iqi", -1001, 0, 0) + buffer(CHALLENGE)
+        for byte in connected + framed(challenge):
             frames, passed = login.take(bytes([byte]))
             self.assertIsNone(passed)
             sends.append(frames)

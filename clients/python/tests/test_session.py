@@ -8,7 +8,8 @@ import struct
 import unittest
 from unittest import mock
 
-from test_library import CONNECT_REQUEST, CONNECT_RESPONSE, STAT, STAT_BYTES, buffer, frame, reply
+from support import buffer, framed, text, texts
+from test_library import CONNECT_REQUEST, CONNECT_RESPONSE, STAT, STAT_BYTES, reply
 
 from dirwolleu import _handle as handle
 from dirwolleu import _library as library
@@ -30,14 +31,14 @@ from dirwolleu._session import (
     TreeComplete,
 )
 
-EXPIRED = frame(struct.pack(">iiq", 0, 0, 0) + buffer(bytes(16)) + b"\0")
+EXPIRED = framed(struct.pack(">iiq", 0, 0, 0) + buffer(bytes(16)) + b"\0")
 CONNECTED = [StateChange(library.CONNECTED)]
 FIRST = 2**63
 """The ticket of the first node of a tree that is not the data of its root."""
 
 
 def asked(xid: int, kind: int, path: str, rest: bytes = b"") -> Send:
-    return Send(frame(struct.pack(">ii", xid, kind) + buffer(path.encode()) + rest))
+    return Send(framed(struct.pack(">ii", xid, kind) + text(path) + rest))
 
 
 def read(xid: int, path: str, watch: bool = False) -> Send:
@@ -45,7 +46,7 @@ def read(xid: int, path: str, watch: bool = False) -> Send:
 
 
 def names(*listed: str) -> bytes:
-    return struct.pack(">i", len(listed)) + b"".join(buffer(name.encode()) for name in listed) + STAT_BYTES
+    return texts(*listed) + STAT_BYTES
 
 
 class SessionTest(unittest.TestCase):
@@ -203,7 +204,7 @@ class SessionTest(unittest.TestCase):
 
     def test_a_session_is_closed(self) -> None:
         session = self.connected()
-        self.assertEqual(session.close_session(200, 1, NO_LIMIT), [Send(frame(struct.pack(">ii", 1, -11)))])
+        self.assertEqual(session.close_session(200, 1, NO_LIMIT), [Send(framed(struct.pack(">ii", 1, -11)))])
         told = session.received(300, reply(1, 9))
         self.assertEqual(told[:2], [Answer(1, 0, library.DONE, 0, None, None, [], 9), StateChange(library.SESSION_CLOSED)])
 

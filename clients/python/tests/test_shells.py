@@ -20,7 +20,7 @@ from concurrent.futures import ThreadPoolExecutor
 from typing import Callable, Optional
 from unittest.mock import patch
 
-from support import CLIENTS, CLOSE_SESSION, STAT, WAIT, Asked, Peer, RawServer, data_reply, notice, reply
+from support import CLIENTS, CLOSE_SESSION, STAT, WAIT, Asked, Peer, RawServer, data_reply, framed, notice, reply
 
 from dirwolleu.__main__ import main
 from dirwolleu.shell.words import COMMANDS, PROGRAM
@@ -79,10 +79,6 @@ BARE: list[list[str]] = [
     *(["set", *words, "--version", "x"] for words in (["h:x", "a"], ["/a"], ["a", "zz", "--hex"], ["/a", "zz", "--hex"], ["/a", "--null"], ["/a", "x", "--wait", "y"])),
 ]  # fmt: skip
 """Lines without servers that are refused, or ask for help: what may stand before a command, and which of several faults is told."""
-
-
-def framed(*payloads: bytes) -> bytes:
-    return b"".join(struct.pack(">i", len(payload)) + payload for payload in payloads)
 
 
 def header(xid: int, zxid: int = 5) -> bytes:
@@ -162,7 +158,7 @@ def answers(answer: Callable[[Asked], bytes], peer: Peer) -> None:
 def listing(names: list[bytes], asked: Asked) -> bytes:
     """The names below /a, and none below another node."""
     found = names if asked.body[4:6] == b"/a" and asked.body[:4] == b"\0\0\0\2" else []
-    return reply(asked, struct.pack(">i", len(found)) + b"".join(struct.pack(">i", len(name)) + name for name in found) + STAT)
+    return reply(asked, struct.pack(">i", len(found)) + framed(*found) + STAT)
 
 
 Serve = Callable[[Peer], None]

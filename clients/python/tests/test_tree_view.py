@@ -8,7 +8,8 @@ from typing import Any, Optional
 from unittest import mock
 
 from test_engine import Future
-from test_library import CONNECT_RESPONSE, STAT_BYTES, buffer, reply
+from support import buffer, text
+from test_library import CONNECT_RESPONSE, STAT_BYTES, reply
 from test_session import asked, names, read
 
 from dirwolleu import NoAuthError, NoNodeError, TooManyWatchesError
@@ -25,7 +26,7 @@ CHANGED, CHILD = 3, 4
 
 
 def notice(path: str, event: int = CHANGED) -> bytes:
-    return reply(-1, -1, 0, struct.pack(">ii", event, 3) + buffer(path.encode()))
+    return reply(-1, -1, 0, struct.pack(">ii", event, 3) + text(path))
 
 
 def data(xid: int, text: str = "one", zxid: int = 9) -> bytes:

@@ -16,7 +16,7 @@ from collections.abc import Coroutine, Iterator
 from typing import Any, Callable, NamedTuple, Optional, cast
 from unittest import mock
 
-from support import PASSWORD, Asked, Connected, PartnerCase
+from support import PASSWORD, Asked, Connected, PartnerCase, framed
 
 from dirwolleu import _aio_link as aio_link
 from dirwolleu import aio
@@ -167,7 +167,7 @@ class _Served(asyncio.Protocol):
             payload, self._came = self._came[4:end], self._came[end:]
             answer = self._take(payload) if self._is_admitted else self._admit(payload)
             if answer is not None:
-                self._transport.write(struct.pack(">i", len(answer)) + answer)
+                self._transport.write(framed(answer))
 
     def _take(self, payload: bytes) -> Optional[bytes]:
         xid, kind = struct.unpack(">ii", payload[:8])
