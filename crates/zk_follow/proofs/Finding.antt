@@ -1,8 +1,8 @@
 -- Who is named by outputs is found, and who is not found is quiet as before.
 use Rattle.std.proofs.Common.{◌≡◌, ◌≤◌, ◌<◌, ◌+◌, ◌∙◌, ◌++◌, ◌∷◌, ◌||◌, ◌&&◌, ◌⊎◌, inl, inr, ℕ, Bool, true, false, List, [], length}
-use Rattle.std.proofs.Common.{get_or, map, take}
+use Rattle.std.proofs.Common.{cond, get_or, map, take}
 use Rattle.std.proofs.Common.{refl, sym, ap, subst, arith}
-use Rattle.std.specs.Prelude.{◌==◌, nat_lt, IfOk, Result, Ok, Err}
+use Rattle.std.specs.Prelude.{◌==◌, nat_lt}
 use Rattle.std.specs.List.{list_any}
 use Rattle.std.proofs.lemmas.List.{get_or-map, get_or_append_left, get_or_default, length-append, length-map}
 use Rattle.std.proofs.lemmas.List.Folds.{list_any_more}
@@ -21,10 +21,13 @@ use Rattle.zk_follow.specs.Following.{was_shown, AreQuietBut, AreVisited, IsVisi
 use Rattle.zk_follow.specs.inner.Following.{Asks}
 use Rattle.zk_follow.specs.Places.{has_place, key_of, AreFound}
 use Rattle.zk_follow.specs.inner.Places.{is_named, AreSameBut}
-use Rattle.zk_follow.specs.inner.Resting.{is_about, is_about_all, tells_fields, AreLeft, AreTold}
+use Rattle.zk_follow.specs.Owning.{AreOwn}
+use Rattle.zk_follow.specs.inner.Owning.{asks_to_watch, is_of}
+use Rattle.zk_follow.specs.inner.Resting.{is_about, is_about_all, is_beside, tells_fields, AreLeft, AreTold}
 use Rattle.zk_follow.proofs.Forgetting.{after_forgetting}
 use Rattle.zk_follow.proofs.Hearing.{all_same_path, all_same_ticket}
-use Rattle.zk_follow.proofs.Resting.{quiet_parts, rests_at, rests_on, rests_still, told_same}
+use Rattle.zk_follow.proofs.Owning.{own_input}
+use Rattle.zk_follow.proofs.Resting.{quiet_parts, rests_at, rests_on, rests_still, told_same, unheard_about}
 use Rattle.zk_follow.proofs.Placing.{among_before, among_last}
 use Rattle.zk_follow.proofs.Staying.{or_false}
 use Rattle.zk_follow.proofs.Telling.{any_said}
@@ -57,28 +60,40 @@ named_first ticket path (output ∷ outputs) e =
     by (Report at side event) e = e
     by _ e = refl
 
--- where no output is about each, those are named whom one is about
-about_named : (ticket : ℕ) (path : Text) (output : Output)
-    → is_about_all output ≡ false → is_named ticket path output ≡ false → is_about ticket path output ≡ false
-about_named ticket path (Answer its outcome) of_all unnamed = ap (λ b. b || tells_fields outcome) unnamed ∙ of_all
-about_named ticket path (Report at side event) of_all unnamed = unnamed
-about_named ticket path (Enters state) of_all unnamed = absurd cc
-about_named ticket path _ of_all unnamed = refl
-
-pub all_named : (ticket : ℕ) (path : Text) (outputs : List Output) → list_any is_about_all outputs ≡ false
-    → list_any (is_about ticket path) outputs ≡ true → list_any (is_named ticket path) outputs ≡ true
-all_named ticket path [] of_all e = absurd cc
-all_named ticket path (output ∷ outputs) of_all e =
-    let parts = or_false (is_about_all output) (list_any is_about_all outputs) of_all in
-    by (is_named ticket path output) refl parts.0 (all_named ticket path outputs parts.1)
+-- where no output is about each, those are named whom one is about, or one is about their path by its ticket
+about_named : {A : Type 0} (foreign : Bool) (all : List (Subject A)) (ticket : ℕ) (path : Text) (output : Output)
+    → is_about_all foreign output ≡ false → is_named ticket path output ≡ false → is_beside all path output ≡ false
+    → is_about foreign all ticket path output ≡ false
+about_named foreign all ticket path (Answer its outcome) of_all unnamed beside =
+    ap (λ b. b || (tells_fields outcome && (foreign || is_of all its path))) unnamed
+    ∙ by (tells_fields outcome) foreign (is_of all its path) of_all beside
   where
-    by : (b : Bool) → is_named ticket path output ≡ b → is_about_all output ≡ false
-        → (list_any (is_about ticket path) outputs ≡ true → list_any (is_named ticket path) outputs ≡ true)
-        → (b || list_any (is_named ticket path) outputs) ≡ true
-    by true f of_all rest = refl
-    by false f of_all rest =
-        let none = about_named ticket path output of_all f in
-        rest (sym (ap (λ b. b || list_any (is_about ticket path) outputs) none) ∙ e)
+    by : (fields is_foreign is_its : Bool) → (is_foreign && fields) ≡ false → (fields && is_its) ≡ false
+        → (fields && (is_foreign || is_its)) ≡ false
+    by true true is_its e f = e
+    by true false is_its e f = f
+    by false is_foreign is_its e f = refl
+about_named foreign all ticket path (Report at side event) of_all unnamed beside = unnamed
+about_named foreign all ticket path (Enters state) of_all unnamed beside = absurd cc
+about_named foreign all ticket path _ of_all unnamed beside = refl
+
+pub all_named : {A : Type 0} (foreign : Bool) (all : List (Subject A)) (ticket : ℕ) (path : Text) (outputs : List Output)
+    → list_any (is_about_all foreign) outputs ≡ false → list_any (is_about foreign all ticket path) outputs ≡ true
+    → (list_any (is_named ticket path) outputs ≡ true) ⊎ (list_any (is_beside all path) outputs ≡ true)
+all_named foreign all ticket path [] of_all e = absurd cc
+all_named foreign all ticket path (output ∷ outputs) of_all e =
+    let parts = or_false (is_about_all foreign output) (list_any (is_about_all foreign) outputs) of_all in
+    by (is_named ticket path output) (is_beside all path output) refl refl parts.0 (all_named foreign all ticket path outputs parts.1)
+  where
+    by : (b c : Bool) → is_named ticket path output ≡ b → is_beside all path output ≡ c → is_about_all foreign output ≡ false
+        → (list_any (is_about foreign all ticket path) outputs ≡ true
+        → (list_any (is_named ticket path) outputs ≡ true) ⊎ (list_any (is_beside all path) outputs ≡ true))
+        → ((b || list_any (is_named ticket path) outputs) ≡ true) ⊎ ((c || list_any (is_beside all path) outputs) ≡ true)
+    by true c f g of_all rest = inl refl
+    by false true f g of_all rest = inr refl
+    by false false f g of_all rest =
+        let none = about_named foreign all ticket path output of_all f g in
+        rest (sym (ap (λ b. b || list_any (is_about foreign all ticket path) outputs) none) ∙ e)
 
 -- ---- who is left
 
@@ -88,20 +103,26 @@ module _ {A : Type 0} (index : Index A) (subjects : List (Subject A)) (count : i
   within_count k within = omega (arith, within, count)
 
   -- after a step of the client, who is not among these places rests, and no output is about it
-  pub left_by : (moment : ℕ) (view : View) (turn : Turn) (after : View) → RuleAt moment view turn after
+  pub left_by : (foreign : Bool) (moment : ℕ) (view : View) (turn : Turn) (after : View) → RuleAt moment view turn after
+      → (foreign ≡ false → asks_to_watch turn.input ≡ false) → (foreign ≡ false → AreOwn subjects view.pending)
       → (awake places : List ℕ) → AreQuietBut view index.count subjects awake
       → ((at : ℕ) → at < index.count → is_among at awake ≡ true → is_among at places ≡ true)
       → ((ticket : ℕ) (path : Text) (at : ℕ) → at < index.count → has_place index.keys ticket at ≡ true
-      → has_place index.keys (key_of path) at ≡ true → list_any (is_about ticket path) turn.outputs ≡ true → is_among at places ≡ true)
+      → has_place index.keys (key_of path) at ≡ true → list_any (is_about foreign subjects ticket path) turn.outputs ≡ true
+      → is_among at places ≡ true)
       → AreLeft after turn.outputs subjects places
-  left_by moment view turn after rule awake places quiet had about k d within none =
+  left_by foreign moment view turn after rule asks own awake places quiet had about k d within none =
       let s : Subject A = get_or subjects k d in
       let fits = within_count k within in
       let its = found.1 k d fits in
-      let silent : list_any (is_about s.ticket s.path) turn.outputs ≡ false =
-      unless (list_any (is_about s.ticket s.path) turn.outputs) (is_among k places) (about s.ticket s.path k fits its.0 its.1) none in
+      let silent : list_any (is_about foreign subjects s.ticket s.path) turn.outputs ≡ false =
+      unless (list_any (is_about foreign subjects s.ticket s.path) turn.outputs) (is_among k places)
+      (about s.ticket s.path k fits its.0 its.1) none in
       let asleep : is_among k awake ≡ false = unless (is_among k awake) (is_among k places) (had k fits) none in
-      (rests_at moment view turn after rule s silent (quiet_parts view s (quiet k d fits asleep)).0, silent)
+      let rests = (quiet_parts view s (quiet k d fits asleep)).0 in (
+        rests_at foreign subjects moment view turn after rule (λ going. own_input subjects turn.input (asks going)) own s silent rests,
+        unheard_about foreign subjects s.ticket s.path turn.outputs silent,
+      )
 
   -- and is quiet after the visits of others
   pub quiet_by_step : (moment : ℕ) (view : View) (turn : Turn) (between after : View) → RuleAt moment view turn between
@@ -151,7 +172,7 @@ found_still index old new size same found = (
 )
 
 module _ {A : Type 0} (now : ℕ) where
-  visit_keeps : (subject new : Subject A) → IsVisited now subject new → (new.ticket ≡ subject.ticket) × (new.path ≡ subject.path)
+  pub visit_keeps : (subject new : Subject A) → IsVisited now subject new → (new.ticket ≡ subject.ticket) × (new.path ≡ subject.path)
   visit_keeps subject new visited = by visited.3
     where
       by : Visits now visited.0 subject visited.1 visited.2 new → (new.ticket ≡ subject.ticket) × (new.path ≡ subject.path)
@@ -292,7 +313,7 @@ pub none_quiet : {A : Type 0} (view : View) (count : ℕ) (subjects : List (Subj
 none_quiet view count subjects awake none k d fits away = absurd (omega (arith, fits, none))
 
 -- a subject that comes last is not in the index
-pub found_after : {A : Type 0} (index : Index A) (subjects : List (Subject A)) (last : Subject A)
+found_after : {A : Type 0} (index : Index A) (subjects : List (Subject A)) (last : Subject A)
     → AreFound index subjects → AreFound index (subjects ++ last ∷ [])
 found_after index subjects last found = (
   omega (arith, found.0, length-append subjects (last ∷ [])),
@@ -304,11 +325,23 @@ found_after index subjects last found = (
       ),
 )
 
-pub quiet_after : {A : Type 0} (view : View) (count : ℕ) (subjects : List (Subject A)) (last : Subject A) (awake : List ℕ)
+quiet_after : {A : Type 0} (view : View) (count : ℕ) (subjects : List (Subject A)) (last : Subject A) (awake : List ℕ)
     → count ≤ length subjects → AreQuietBut view count subjects awake → AreQuietBut view count (subjects ++ last ∷ []) awake
 quiet_after view count subjects last awake within quiet k d fits none =
     ap (λ (s : Subject _). is_quiet view s) (get_or_append_left subjects (last ∷ []) d k (omega (arith, fits, within)))
     ∙ quiet k d fits none
+
+-- it comes there where there is room
+pub found_pushed : {A : Type 0} (pushed : Bool) (index : Index A) (old new : List (Subject A)) (last : Subject A)
+    → new ≡ cond pushed (old ++ last ∷ []) old → AreFound index old → AreFound index new
+found_pushed true index old new last is found = subst (AreFound index) (sym is) (found_after index old last found)
+found_pushed false index old new last is found = subst (AreFound index) (sym is) found
+
+pub quiet_pushed : {A : Type 0} (pushed : Bool) (view : View) (count : ℕ) (old new : List (Subject A)) (last : Subject A) (awake : List ℕ)
+    → new ≡ cond pushed (old ++ last ∷ []) old → count ≤ length old → AreQuietBut view count old awake → AreQuietBut view count new awake
+quiet_pushed true view count old new last awake is within quiet =
+    subst (λ all. AreQuietBut view count all awake) (sym is) (quiet_after view count old last awake within quiet)
+quiet_pushed false view count old new last awake is within quiet = subst (λ all. AreQuietBut view count all awake) (sym is) quiet
 
 -- one output more is gone over
 pub named_more : {A : Type 0} (test : Output → Bool) (outputs : List (Made A)) (index : ℕ) (item : Made A)
@@ -326,17 +359,6 @@ named_more {A} test outputs index item within is e = by (list_any test (said (ta
         → (list_any test (said (take index outputs)) ≡ true) ⊎ (test (output_view item) ≡ true)
     by true f g = inl f
     by false f g = inr g
-
--- the same of what is found
-pub about_by : {A E V : Type 0} (items : V → List ℕ) (index : Index A) (outputs : List Output)
-    → list_any is_about_all outputs ≡ false → (result : Result V E)
-    → IfOk result (λ all. (ticket : ℕ) (path : Text) (at : ℕ) → at < index.count → has_place index.keys ticket at ≡ true
-    → has_place index.keys (key_of path) at ≡ true → list_any (is_named ticket path) outputs ≡ true → is_among at (items all) ≡ true)
-    → IfOk result (λ all. (ticket : ℕ) (path : Text) (at : ℕ) → at < index.count → has_place index.keys ticket at ≡ true
-    → has_place index.keys (key_of path) at ≡ true → list_any (is_about ticket path) outputs ≡ true → is_among at (items all) ≡ true)
-about_by items index outputs of_all (Ok all) named = λ ticket path at fits its other e.
-    named ticket path at fits its other (all_named ticket path outputs of_all e)
-about_by items index outputs of_all (Err fault) named = named
 
 -- one more is among them
 pub woken_more : (at place : ℕ) (places : List ℕ) → (at < place → is_among at places ≡ true) → at < place + 1

@@ -1,6 +1,7 @@
 -- Lemmas on subjects: a read is a call that waits until it is answered, and subjects are visited one after the other, each
 -- changed in place.
 pub mod Waiting
+pub mod Owning
 pub mod Staying
 pub mod Reading
 pub mod Hearing
@@ -17,5 +18,8 @@ pub mod Placing
 pub mod Skipping
 pub mod Counting
 pub mod Finding
+pub mod Owned
+pub mod Beside
 pub mod Taking
+pub mod Parting
 pub mod Again

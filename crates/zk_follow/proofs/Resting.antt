@@ -24,18 +24,17 @@ use Rattle.zk_follow.specs.Following.{answered, heard, heard_all, is_kept, is_re
 use Rattle.zk_follow.specs.Following.{says_none, taken}
 use Rattle.zk_follow.specs.Following.{is_quiet, told_after, told_of, was_shown, woken, woken_progress, IsCounted, IsFollowed}
 use Rattle.zk_follow.specs.inner.Following.{Asks}
-use Rattle.zk_follow.specs.inner.Places.{AreSameBut}
+use Rattle.zk_follow.specs.inner.Places.{is_heard_by, AreSameBut}
+use Rattle.zk_follow.specs.Owning.{AreOwn}
+use Rattle.zk_follow.specs.inner.Owning.{is_of}
 use Rattle.zk_follow.specs.Following.{holds, is_due, is_resting, IsVisited}
 use Rattle.zk_follow.specs.inner.Resting.{is_about, is_report, tells_fields, AreAtRest, AreDueBut, AreLeft}
 use Rattle.zk_follow.specs.inner.Resting.{AreUnmoved}
 use Rattle.zk_follow.proofs.Forgetting.{after_forgetting, holds_still}
-use Rattle.zk_follow.proofs.Staying.{or_false, Stays, stays_at}
+use Rattle.zk_follow.proofs.Owning.{IsOwnInput}
+use Rattle.zk_follow.proofs.Staying.{and_parts, or_false, Stays, stays_at}
 
 -- ---- what rests
-
-pub and_parts : (a b : Bool) → (a && b) ≡ true → (a ≡ true) × (b ≡ true)
-and_parts true b e = (refl, e)
-and_parts false b e = absurd cc
 
 pub not_parts : (a : Bool) → not a ≡ true → a ≡ false
 not_parts true e = absurd cc
@@ -86,20 +85,34 @@ shown_by cache Child path e = ap (λ b. b || is_kept says_none (cache.nodes path
 
 -- what says nothing of a subject leaves it as it is
 module _ {A : Type 0} (now : ℕ) (subject : Subject A) where
-  heard_same : (output : Output) → is_about subject.ticket subject.path output ≡ false → heard now subject output ≡ subject
-  heard_same (Answer ticket outcome) e =
-      ap (λ b. cond b (answered now outcome subject) subject) (or_false (subject.ticket == ticket) (tells_fields outcome) e).0
+  heard_same : (output : Output) → is_heard_by subject.ticket subject.path output ≡ false → heard now subject output ≡ subject
+  heard_same (Answer ticket outcome) e = ap (λ b. cond b (answered now outcome subject) subject) e
   heard_same (Report at side event) e = ap (λ b. cond b (record subject { is_there = false }) subject) e
   heard_same (Enters state) e = absurd cc
   heard_same _ e = refl
 
-  pub all_heard_same : (outputs : List Output) → list_any (is_about subject.ticket subject.path) outputs ≡ false
+  pub all_heard_same : (outputs : List Output) → list_any (is_heard_by subject.ticket subject.path) outputs ≡ false
       → heard_all now subject outputs ≡ subject
   all_heard_same [] e = refl
   all_heard_same (output ∷ outputs) e =
-      let parts = or_false (is_about subject.ticket subject.path output)
-      (list_any (is_about subject.ticket subject.path) outputs) e in
+      let parts = or_false (is_heard_by subject.ticket subject.path output)
+      (list_any (is_heard_by subject.ticket subject.path) outputs) e in
       ap (λ (s : Subject A). heard_all now s outputs) (heard_same output parts.0) ∙ all_heard_same outputs parts.1
+
+-- who is told of nothing that is about it hears nothing
+pub unheard_about : {A : Type 0} (foreign : Bool) (all : List (Subject A)) (ticket : ℕ) (path : Text) (outputs : List Output)
+    → list_any (is_about foreign all ticket path) outputs ≡ false → list_any (is_heard_by ticket path) outputs ≡ false
+unheard_about foreign all ticket path [] e = refl
+unheard_about foreign all ticket path (output ∷ outputs) e =
+    let parts = or_false (is_about foreign all ticket path output) (list_any (is_about foreign all ticket path) outputs) e in
+    ap (λ b. b || list_any (is_heard_by ticket path) outputs) (by output parts.0)
+    ∙ unheard_about foreign all ticket path outputs parts.1
+  where
+    by : (output : Output) → is_about foreign all ticket path output ≡ false → is_heard_by ticket path output ≡ false
+    by (Answer its outcome) e = (or_false (ticket == its) (tells_fields outcome && (foreign || is_of all its path)) e).0
+    by (Report at side event) e = e
+    by (Enters state) e = absurd cc
+    by _ e = refl
 
 module _ {A : Type 0} (now : ℕ) (view : View) (subject : Subject A) (rest : is_resting view subject ≡ true) where
   pub rest_shown : is_shown view.cache subject.side subject.path ≡ true
@@ -118,7 +131,7 @@ module _ {A : Type 0} (now : ℕ) (view : View) (subject : Subject A) (rest : is
       ap (λ (p : Progress). record subject { progress = woken_progress now p }) due
       ∙ ap (λ (p : Progress). record subject { progress = p }) (sym due)
 
-  pub unmoved : (outputs : List Output) → list_any (is_about subject.ticket subject.path) outputs ≡ false
+  pub unmoved : (outputs : List Output) → list_any (is_heard_by subject.ticket subject.path) outputs ≡ false
       → (heard_all now subject outputs ≡ subject) × (woken now subject ≡ subject)
   unmoved outputs silent = (all_heard_same now subject outputs silent, woken_same)
 
@@ -149,13 +162,14 @@ rested_at : {A : Type 0} (view after : View) (subject : Subject A)
 rested_at view after subject parts stays =
     record { due = parts.due; missing = parts.missing; there = parts.there; stays = stays }
 
-pub rests_at : {A : Type 0} (moment : ℕ) (view : View) (turn : Turn) (after : View) → RuleAt moment view turn after → (subject : Subject A)
-    → list_any (is_about subject.ticket subject.path) turn.outputs ≡ false → is_resting view subject ≡ true
-    → is_resting after subject ≡ true
-rests_at moment view turn after rule subject silent e =
+pub rests_at : {A : Type 0} (foreign : Bool) (all : List (Subject A)) (moment : ℕ) (view : View) (turn : Turn) (after : View)
+    → RuleAt moment view turn after → (foreign ≡ false → IsOwnInput all turn.input) → (foreign ≡ false → AreOwn all view.pending)
+    → (subject : Subject A) → list_any (is_about foreign all subject.ticket subject.path) turn.outputs ≡ false
+    → is_resting view subject ≡ true → is_resting after subject ≡ true
+rests_at foreign all moment view turn after rule asks own subject silent e =
     let parts = parts_of view subject e in
     rests_by after subject (rested_at view after subject parts
-    (stays_at subject.ticket subject.path subject.side moment view turn after rule silent parts.stays))
+    (stays_at foreign all subject.ticket subject.path subject.side moment view turn after rule asks own silent parts.stays))
 
 pub rests_on : {A : Type 0} (view after : View) → Asks view after → (subject : Subject A)
     → is_resting view subject ≡ true → is_resting after subject ≡ true

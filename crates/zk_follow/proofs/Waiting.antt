@@ -17,7 +17,8 @@ use Rattle.zk_session.specs.declared.states.State.{State}
 use Rattle.zk_session.specs.declared.states.State.TheVariants.{Idle, Connecting, Connected}
 use Rattle.zk_turns.specs.Turns.{Outcome, Behind, WatchesRefused, Signal, Opens, Comes, Cuts, Ticks, Calls, Forget, Halt, Input, Opened}
 use Rattle.zk_turns.specs.Turns.{Bytes, Cut, Now, Call, Output, Answer, Enters, Turn, signals_of}
-use Rattle.zk_turns.specs.Past.{Happening, Began, Came, Took, Dropped, Lost, Asked, Ticked, Halted, Accepted, Expiry, Replies, Watches_set}
+use Rattle.zk_turns.specs.Past.{Happening, Began, Came, Took, Dropped, Forgot, Lost, Asked, Ticked, Halted, Accepted, Expiry, Replies}
+use Rattle.zk_turns.specs.Past.{Watches_set}
 use Rattle.zk_turns.specs.View.{View}
 use Rattle.zk_turns.specs.Taken.{longest_of, phase_of, taken_of, welcome_by, reading, leaves_watch, refusal, caused, happenings, opens}
 use Rattle.zk_turns.specs.Taken.{of_cutting, cut}
@@ -98,10 +99,11 @@ other_part ticket question last same = let e : false ≡ true = ap is_part same 
 
 -- ---- happenings
 
--- a reply that is taken is the reply to what waits first, and the client does not halt
+-- a reply that is taken is the reply to what waits first, and the client forgets nothing and does not halt
 abbrev pub FitsReply : Happening → View → Type 0
 FitsReply (Took (Replies ticket question zxid result)) view = First (Call_waits ticket question) view.pending
 FitsReply (Took (Watches_set last zxid)) view = First (Part_waits last) view.pending
+FitsReply Forgot view = ⊥
 FitsReply Halted view = ⊥
 FitsReply _ view = Unit {0}
 

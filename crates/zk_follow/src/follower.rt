@@ -13,17 +13,21 @@ ghost use Rattle.zk_follow.specs.Following.{due_again, first_again, first_of, ag
 ghost use Rattle.zk_follow.specs.Following.{how_many_reading, taken, unfollowed_all};
 ghost use Rattle.zk_follow.specs.Following.{AreFollowed, AreQuietBut, AreVisited, BreaksOff, IsAhead, IsCounted, Steps};
 ghost use Rattle.zk_follow.specs.inner.Following.{AreSeen, Asks, Reads};
+ghost use Rattle.zk_follow.specs.Owning.{AreOwn};
+ghost use Rattle.zk_follow.specs.inner.Owning.{asks_to_watch};
 ghost use Rattle.zk_follow.specs.Places.{AreFound};
 ghost use Rattle.zk_follow.specs.inner.Places.{AreSameBut, IsAscending};
 ghost use Rattle.zk_follow.specs.inner.Resting.{AreAtRest, AreDueBut, AreLeft};
 
+use crate::about::asks_to_watch;
 use crate::heard::take_all;
 use crate::index::{Index, fit_all};
+use crate::leaving::{awake_left, index_of};
 use crate::news::{News, tell_all};
 use crate::progress::Progress;
 use crate::stop::FollowerStop;
 use crate::subject::Subject;
-use crate::tickets::remove_all;
+use crate::tickets::{Tickets, remove_all};
 use std::alloc::{AllocError, Allocator, Global};
 use std::mem;
 use zk_client::{Client, Input, Output, Path, Side};
@@ -39,9 +43,12 @@ pub struct Follower<A: Allocator + Copy = Global> {
     index: Index<A>,
     /// The places of those that may not be quiet. A step visits these, those that its outputs name, and no other in the index.
     awake: Vec<usize, A>,
+    /// Whether a call may be on its way that is to leave a watch and is no read of a subject.
+    is_foreign: bool,
     ghost counted: { All (IsCounted (view_of client)) subjects.items } by { Prim.hlevel props },
     ghost found: { AreFound index subjects.items } by { Prim.hlevel props },
     ghost rest: { AreQuietBut (view_of client) index.count subjects.items awake.items } by { Prim.hlevel props },
+    ghost own: { is_foreign ≡ false → AreOwn subjects.items (view_of client).pending } by { Prim.hlevel props },
 }
 
 /// How many subjects count as being read, if those at these places alone do.
@@ -153,11 +160,14 @@ fn advance_all<A: Allocator + Copy>(
     index: &Index<A>,
     awake: &mut Vec<usize, A>,
     client: &mut Client<A>,
+    is_foreign: bool,
     now: u64,
     input: Input<A>,
     outputs: &mut Vec<Output<A>, A>,
 ) -> Result<(), FollowerStop>
     requires counted { All (IsCounted (view_of client.old)) subjects.old }
+    requires own { is_foreign ≡ false → AreOwn subjects.old (view_of client.old).pending }
+    requires asks { is_foreign ≡ false → asks_to_watch (input_view input) ≡ false }
     requires sized { 0 < length index.now.keys.buckets.items }
     requires count { index.now.count ≡ length subjects.old }
     requires found { AreFound index.now subjects.old }
@@ -174,7 +184,13 @@ fn advance_all<A: Allocator + Copy>(
     let Ok(()) = client.step_at_into(now, input, outputs) else {
         return Err(FollowerStop::Halted);
     };
-    let Ok(places) = index.with_those_about(alloc, awake.as_slice(), outputs.as_slice()) else {
+    let Ok(places) = index.with_those_about(
+        alloc,
+        is_foreign,
+        subjects,
+        awake.as_slice(),
+        outputs.as_slice(),
+    ) else {
         return Err(FollowerStop::Memory);
     };
     let mut made = Vec::new(alloc);
@@ -202,11 +218,14 @@ fn advance<A: Allocator + Copy>(
     index: &mut Index<A>,
     awake: &mut Vec<usize, A>,
     client: &mut Client<A>,
+    is_foreign: bool,
     now: u64,
     input: Input<A>,
     outputs: &mut Vec<Output<A>, A>,
 ) -> Result<(), FollowerStop>
     requires counted { All (IsCounted (view_of client.old)) subjects.old }
+    requires own { is_foreign ≡ false → AreOwn subjects.old (view_of client.old).pending }
+    requires asks { is_foreign ≡ false → asks_to_watch (input_view input) ≡ false }
     requires found { AreFound index.old subjects.old }
     requires rest { AreQuietBut (view_of client.old) index.old.count subjects.old awake.old.items }
     ensures followed { OnOk result (AreFollowed now (view_of client.new) subjects.new) }
@@ -224,7 +243,28 @@ fn advance<A: Allocator + Copy>(
     let Ok(()) = fit_all(alloc, subjects, index, awake) else {
         return Err(FollowerStop::Memory);
     };
-    advance_all(alloc, subjects, index, awake, client, now, input, outputs)
+    advance_all(
+        alloc, subjects, index, awake, client, is_foreign, now, input, outputs,
+    )
+}
+
+/// Whether a call may be on its way, once this is handed over, that is to leave a watch and is no read of a subject.
+fn may_be_foreign<A: Allocator>(is_foreign: bool, input: &Input<A>) -> bool
+    ensures before { result ≡ false → is_foreign ≡ false }
+    ensures input { result ≡ false → asks_to_watch (input_view input.now) ≡ false }
+{
+    is_foreign || asks_to_watch(input)
+}
+
+/// Whether a call may be on its way still that is to leave a watch and is no read of a subject: not if none is.
+fn is_foreign_still<A: Allocator + Copy>(client: &Client<A>, is_foreign: bool) -> bool
+    ensures { (subjects : List (Subject A)) → (is_foreign ≡ false → AreOwn subjects (view_of client.now).pending)
+        → result ≡ false → AreOwn subjects (view_of client.now).pending }
+{
+    if !is_foreign {
+        return false;
+    }
+    client.pending_calls() > 0
 }
 
 /// The place of the first subject of this ticket.
@@ -346,6 +386,7 @@ impl<A: Allocator + Copy> Follower<A> {
             subjects: Vec::new(alloc),
             index: Index::new(alloc),
             awake: Vec::new(alloc),
+            is_foreign: true,
         }
     }
 
@@ -388,6 +429,7 @@ impl<A: Allocator + Copy> Follower<A> {
         ensures err { OnErr result (self.new.subjects.items ≡ []) }
         ensures broke { OnErr result (BreaksOff (view_of self.old.client) (view_of self.new.client)) }
     {
+        let is_foreign = may_be_foreign(self.is_foreign, &input);
         let subjects = self.subjects.as_mut_slice();
         match advance(
             self.alloc,
@@ -395,13 +437,18 @@ impl<A: Allocator + Copy> Follower<A> {
             &mut self.index,
             &mut self.awake,
             &mut self.client,
+            is_foreign,
             now,
             input,
             outputs,
         ) {
-            Ok(()) => Ok(()),
+            Ok(()) => {
+                self.is_foreign = is_foreign_still(&self.client, is_foreign);
+                Ok(())
+            }
             Err(stop) => {
                 self.index = Index::new(self.alloc);
+                self.is_foreign = true;
                 self.subjects.clear();
                 Err(stop)
             }
@@ -428,6 +475,7 @@ impl<A: Allocator + Copy> Follower<A> {
     {
         self.index = Index::new(self.alloc);
         self.awake.clear();
+        self.is_foreign = is_foreign_still(&self.client, true);
         remove(&mut self.subjects, ticket);
     }
 
@@ -438,9 +486,20 @@ impl<A: Allocator + Copy> Follower<A> {
         ensures subjects { OnOk result (self.new.subjects.items ≡ unfollowed_all tickets.now self.old.subjects.items) }
         ensures same { OnErr result (self.new.subjects.items ≡ self.old.subjects.items) }
     {
-        self.index = Index::new(self.alloc);
-        self.awake.clear();
-        remove_all(self.alloc, &mut self.subjects, tickets)
+        let gone = Tickets::of(self.alloc, tickets)?;
+        let awake = awake_left(
+            self.alloc,
+            self.subjects.as_slice(),
+            &gone,
+            self.index.count(),
+            self.awake.as_slice(),
+        )?;
+        remove_all(&mut self.subjects, &gone);
+        let (index, awake) = index_of(self.alloc, self.subjects.as_slice(), awake);
+        self.index = index;
+        self.awake = awake;
+        self.is_foreign = is_foreign_still(&self.client, true);
+        Ok(())
     }
 
     /// Takes the stale answers out of what the client keeps. What is good stays, so each subject stays followed. It takes no memory.
@@ -492,6 +551,7 @@ impl<A: Allocator + Copy> Follower<A> {
             Ok(()) => Ok(()),
             Err(fault) => {
                 self.index = Index::new(self.alloc);
+                self.is_foreign = true;
                 self.subjects.truncate(0);
                 Err(fault)
             }

@@ -1,21 +1,22 @@
 //! Which subjects outputs name, found in a time that does not rise with the number of subjects.
 
-ghost use Rattle.std.specs.Prelude.{◌≡◌, ◌<◌, ◌+◌, ◌-◌, ◌^◌, ℕ, All, true, false, length, IfOk, OnOk};
+ghost use Rattle.std.specs.Prelude.{◌≡◌, ◌<◌, ◌+◌, ◌-◌, ◌^◌, ◌&&◌, ℕ, All, true, false, length, slice_index_or, IfOk, OnOk};
 ghost use Rattle.std.specs.List.{list_any};
 ghost use Rattle.zk_nodes.specs.Path.{Text};
-ghost use Rattle.zk_client.specs.Views.{output_view, said};
-ghost use Rattle.zk_follow.specs.inner.Resting.{is_about};
+ghost use Rattle.zk_client.specs.Views.{outcome_view, output_view, said};
+ghost use Rattle.zk_follow.specs.inner.Resting.{is_about, is_beside, tells_fields};
+ghost use Rattle.zk_follow.specs.inner.Owning.{is_of};
 ghost use Rattle.zk_follow.specs.Places.{has_place, key_of, AreFound};
 ghost use Rattle.zk_follow.specs.inner.Places.{is_heard_by, is_named, IsAscending};
 ghost use Rattle.zk_follow.specs.Following.{AreQuietBut};
 ghost use Rattle.zk_follow.specs.Following.{is_among};
 ghost use Rattle.zk_turns.specs.View.{View};
 
-use crate::about::has_one_about_all;
+use crate::about::{has_one_about_all, tells_fields};
 use crate::places::{Places, add_below, all_below, key_of, put_in_order};
 use crate::subject::Subject;
 use std::alloc::{AllocError, Allocator};
-use zk_client::Output;
+use zk_client::{Outcome, Output};
 
 /// The places of the first subjects by their tickets, and by the keys of their paths.
 #[derive(Drop)]
@@ -88,7 +89,7 @@ impl<A: Allocator + Copy> Index<A> {
     }
 
     /// Becomes an index of all of these, of which it is one of the first. An error means that memory ran out.
-    fn fit(&mut self, alloc: A, subjects: &[Subject<A>]) -> Result<(), AllocError>
+    pub(crate) fn fit(&mut self, alloc: A, subjects: &[Subject<A>]) -> Result<(), AllocError>
         requires { AreFound self.old subjects.now }
         ensures sized { OnOk result (0 < length self.new.keys.buckets.items) }
         ensures count { OnOk result (self.new.count ≡ length subjects.now) }
@@ -186,25 +187,142 @@ impl<A: Allocator + Copy> Index<A> {
         Ok(all)
     }
 
+    /// Adds the places of those that have the path of a subject at one of these places.
+    fn add_at_paths(
+        &self,
+        subjects: &[Subject<A>],
+        places: &[usize],
+        all: &mut Vec<usize, A>,
+    ) -> Result<(), AllocError>
+        requires sized { 0 < length self.now.keys.buckets.items }
+        requires within { All (λ at. at < length subjects.now) places.now }
+        ensures below { OnOk result (All (λ at. at < self.now.count) all.old.items → All (λ at. at < self.now.count) all.new.items) }
+        ensures had { OnOk result ((at : ℕ) → at < self.now.count → is_among at all.old.items ≡ true → is_among at all.new.items ≡ true) }
+        ensures each { OnOk result ((k at : ℕ) (d : Subject A) → is_among k places.now ≡ true → at < self.now.count
+            → has_place self.now.keys (key_of (slice_index_or subjects.now k d).path) at ≡ true → is_among at all.new.items ≡ true) }
+    {
+        for place in places {
+            let key = key_of(subjects[*place].path.as_str());
+            self.keys.add_at(key, self.count, all)?;
+        }
+        Ok(())
+    }
+
+    /// Adds the places of those that have the path of a subject of this ticket.
+    fn add_siblings(
+        &self,
+        alloc: A,
+        subjects: &[Subject<A>],
+        ticket: u64,
+        all: &mut Vec<usize, A>,
+    ) -> Result<(), AllocError>
+        requires sized { 0 < length self.now.keys.buckets.items }
+        requires count { self.now.count ≡ length subjects.now }
+        requires found { AreFound self.now subjects.now }
+        ensures below { OnOk result (All (λ at. at < self.now.count) all.old.items → All (λ at. at < self.now.count) all.new.items) }
+        ensures had { OnOk result ((at : ℕ) → at < self.now.count → is_among at all.old.items ≡ true → is_among at all.new.items ≡ true) }
+        ensures siblings { OnOk result ((path : Text) (at : ℕ) → at < self.now.count → has_place self.now.keys (key_of path) at ≡ true
+            → is_of subjects.now ticket path ≡ true → is_among at all.new.items ≡ true) }
+    {
+        let places = self.places_at(alloc, ticket)?;
+        self.add_at_paths(subjects, places.as_slice(), all)
+    }
+
+    /// Adds the places of those beside which a call of this ticket is answered with the fields of a node.
+    fn add_answered(
+        &self,
+        alloc: A,
+        subjects: &[Subject<A>],
+        ticket: u64,
+        outcome: &Outcome<A>,
+        all: &mut Vec<usize, A>,
+    ) -> Result<(), AllocError>
+        requires sized { 0 < length self.now.keys.buckets.items }
+        requires count { self.now.count ≡ length subjects.now }
+        requires found { AreFound self.now subjects.now }
+        ensures below { OnOk result (All (λ at. at < self.now.count) all.old.items → All (λ at. at < self.now.count) all.new.items) }
+        ensures had { OnOk result ((at : ℕ) → at < self.now.count → is_among at all.old.items ≡ true → is_among at all.new.items ≡ true) }
+        ensures beside { OnOk result ((path : Text) (at : ℕ) → at < self.now.count → has_place self.now.keys (key_of path) at ≡ true
+            → (tells_fields (outcome_view outcome.now) && is_of subjects.now ticket path) ≡ true → is_among at all.new.items ≡ true) }
+    {
+        if tells_fields(outcome) {
+            return self.add_siblings(alloc, subjects, ticket, all);
+        }
+        Ok(())
+    }
+
+    /// Adds the places of those beside which an output answers with the fields of a node.
+    fn add_beside(
+        &self,
+        alloc: A,
+        subjects: &[Subject<A>],
+        output: &Output<A>,
+        all: &mut Vec<usize, A>,
+    ) -> Result<(), AllocError>
+        requires sized { 0 < length self.now.keys.buckets.items }
+        requires count { self.now.count ≡ length subjects.now }
+        requires found { AreFound self.now subjects.now }
+        ensures below { OnOk result (All (λ at. at < self.now.count) all.old.items → All (λ at. at < self.now.count) all.new.items) }
+        ensures had { OnOk result ((at : ℕ) → at < self.now.count → is_among at all.old.items ≡ true → is_among at all.new.items ≡ true) }
+        ensures beside { OnOk result ((path : Text) (at : ℕ) → at < self.now.count → has_place self.now.keys (key_of path) at ≡ true
+            → is_beside subjects.now path (output_view output.now) ≡ true → is_among at all.new.items ≡ true) }
+    {
+        match output {
+            Output::Answer { ticket, outcome } => {
+                self.add_answered(alloc, subjects, *ticket, outcome, all)
+            }
+            _ => Ok(()),
+        }
+    }
+
+    /// Adds the places of those beside which outputs answer with the fields of a node.
+    fn add_all_beside(
+        &self,
+        alloc: A,
+        subjects: &[Subject<A>],
+        outputs: &[Output<A>],
+        all: &mut Vec<usize, A>,
+    ) -> Result<(), AllocError>
+        requires sized { 0 < length self.now.keys.buckets.items }
+        requires count { self.now.count ≡ length subjects.now }
+        requires found { AreFound self.now subjects.now }
+        ensures below { OnOk result (All (λ at. at < self.now.count) all.old.items → All (λ at. at < self.now.count) all.new.items) }
+        ensures had { OnOk result ((at : ℕ) → at < self.now.count → is_among at all.old.items ≡ true → is_among at all.new.items ≡ true) }
+        ensures beside { OnOk result ((path : Text) (at : ℕ) → at < self.now.count → has_place self.now.keys (key_of path) at ≡ true
+            → list_any (is_beside subjects.now path) (said outputs.now) ≡ true → is_among at all.new.items ≡ true) }
+    {
+        for output in outputs {
+            self.add_beside(alloc, subjects, output, all)?;
+        }
+        Ok(())
+    }
+
     /// The places of these, and of those that outputs may be about, in order. An error means that memory ran out.
     pub(crate) fn with_those_about(
         &self,
         alloc: A,
+        is_foreign: bool,
+        subjects: &[Subject<A>],
         places: &[usize],
         outputs: &[Output<A>],
     ) -> Result<Vec<usize, A>, AllocError>
-        requires { 0 < length self.now.keys.buckets.items }
+        requires sized { 0 < length self.now.keys.buckets.items }
+        requires count { self.now.count ≡ length subjects.now }
+        requires found { AreFound self.now subjects.now }
         ensures ascend { IfOk result (λ all. IsAscending all.items) }
         ensures below { IfOk result (λ all. All (λ at. at < self.now.count) all.items) }
         ensures had { IfOk result (λ all. (at : ℕ) → at < self.now.count → is_among at places.now ≡ true → is_among at all.items ≡ true) }
         ensures about { IfOk result (λ all. (ticket : ℕ) (path : Text) (at : ℕ) → at < self.now.count
             → has_place self.now.keys ticket at ≡ true → has_place self.now.keys (key_of path) at ≡ true
-            → list_any (is_about ticket path) (said outputs.now) ≡ true → is_among at all.items ≡ true) }
+            → list_any (is_about is_foreign subjects.now ticket path) (said outputs.now) ≡ true → is_among at all.items ≡ true) }
     {
-        if has_one_about_all(outputs) {
+        if has_one_about_all(is_foreign, outputs) {
             return all_below(alloc, self.count);
         }
-        self.with_named(alloc, places, outputs)
+        let mut all = self.with_named(alloc, places, outputs)?;
+        self.add_all_beside(alloc, subjects, outputs, &mut all)?;
+        put_in_order(&mut all);
+        Ok(all)
     }
 }
 

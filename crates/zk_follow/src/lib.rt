@@ -10,6 +10,7 @@ mod follower;
 mod heard;
 mod index;
 mod kept;
+mod leaving;
 mod news;
 mod places;
 mod progress;

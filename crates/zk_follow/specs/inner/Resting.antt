@@ -1,5 +1,5 @@
 -- What contracts of private functions say of subjects that rest: nobody has to believe it.
-use Rattle.std.specs.Prelude.{◌≡◌, ◌<◌, ◌==◌, ◌||◌, ℕ, Bool, true, false, List, length}
+use Rattle.std.specs.Prelude.{◌≡◌, ◌<◌, ◌==◌, ◌&&◌, ◌||◌, ℕ, Bool, true, false, List, length}
 use Rattle.std.specs.Prelude.{slice_index_or, bytes_eq}
 use Rattle.std.specs.List.{list_any}
 use Rattle.zk_nodes.specs.Path.{Text}
@@ -9,6 +9,8 @@ use Rattle.zk_turns.specs.Turns as turns
 use Rattle.zk_turns.specs.View.{View}
 use Rattle.zk_follow.specs.declared.subject.Subject.{Subject}
 use Rattle.zk_follow.specs.Following.{heard_all, is_among, is_due, is_quiet, is_reported, is_resting, woken}
+use Rattle.zk_follow.specs.inner.Owning.{is_of}
+use Rattle.zk_follow.specs.inner.Places.{is_heard_by}
 
 -- ---- what outputs are about
 
@@ -16,25 +18,32 @@ abbrev pub tells_fields : Outcome → Bool
 tells_fields (Replied zxid (Found stat)) = true
 tells_fields _ = false
 
--- whether an output may be about a subject of this ticket and this path
-abbrev pub is_about : ℕ → Text → Output → Bool
-is_about ticket path (turns.Answer its outcome) = ticket == its || tells_fields outcome
-is_about ticket path (turns.Report at side event) = bytes_eq at path
-is_about ticket path (Enters state) = true
-is_about ticket path _ = false
+-- Whether an output may be about a subject of this ticket and this path, beside these others. An answer with the fields of a node is about
+-- those at the paths of its ticket, and where a watch may be that of no subject, about all.
+abbrev pub is_about : {A : Type 0} → (is_foreign : Bool) → List (Subject A) → ℕ → Text → Output → Bool
+is_about is_foreign all ticket path (turns.Answer its outcome) =
+    ticket == its || (tells_fields outcome && (is_foreign || is_of all its path))
+is_about is_foreign all ticket path (turns.Report at side event) = bytes_eq at path
+is_about is_foreign all ticket path (Enters state) = true
+is_about is_foreign all ticket path _ = false
 
 -- whether an output may be about each subject
-abbrev pub is_about_all : Output → Bool
-is_about_all (turns.Answer its outcome) = tells_fields outcome
-is_about_all (Enters state) = true
-is_about_all _ = false
+abbrev pub is_about_all : (is_foreign : Bool) → Output → Bool
+is_about_all is_foreign (turns.Answer its outcome) = is_foreign && tells_fields outcome
+is_about_all is_foreign (Enters state) = true
+is_about_all is_foreign _ = false
 
--- Whose place is not among these rests, and the outputs are not about it.
+-- whether an answer has the fields of a node, and a subject of its ticket has this path
+abbrev pub is_beside : {A : Type 0} → List (Subject A) → Text → Output → Bool
+is_beside all path (turns.Answer its outcome) = tells_fields outcome && is_of all its path
+is_beside all path _ = false
+
+-- Whose place is not among these rests, and hears nothing by the outputs.
 abbrev pub AreLeft : {A : Type 0} → View → List Output → List (Subject A) → (places : List ℕ) → Type 0
 AreLeft {A} view outputs subjects places =
     (k : ℕ) (d : Subject A) → k < length subjects → is_among k places ≡ false
     → (is_resting view (slice_index_or subjects k d) ≡ true)
-    × (list_any (is_about (slice_index_or subjects k d).ticket (slice_index_or subjects k d).path) outputs ≡ false)
+    × (list_any (is_heard_by (slice_index_or subjects k d).ticket (slice_index_or subjects k d).path) outputs ≡ false)
 
 -- Whose place is not among these rests.
 abbrev pub AreAtRest : {A : Type 0} → View → List (Subject A) → (places : List ℕ) → Type 0

@@ -9,6 +9,6 @@ use Rattle.zk_follow.proofs.about.has_one_about_all.Goals as goal
 
 pub returns : goal.returns
 returns g c =
-    any_from_yields_List (λ output. is_about_all (output_view output)) _ _ _ c.any.ensures.ran
+    any_from_yields_List (λ output. is_about_all c.args.is_foreign (output_view output)) _ _ _ c.any.ensures.ran
     (YieldsList-from_slice c.args.outputs.now cc) (λ x b q k. search (rules, tests))
-    ∙ sym (any_said is_about_all c.args.outputs.now)
+    ∙ sym (any_said (is_about_all c.args.is_foreign) c.args.outputs.now)

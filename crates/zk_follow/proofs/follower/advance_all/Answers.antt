@@ -58,11 +58,13 @@ visit_all-requires-clause-rest g c =
     let had = subst (λ some. (at : ℕ) → at < index.count → is_among at some ≡ true → is_among at places ≡ true)
     c.as_slice.ensures.value c.in-Ok-with_those_about.ensures.had in
     let about = subst (λ outputs. (ticket : ℕ) (path : Text) (at : ℕ) → at < index.count → has_place index.keys ticket at ≡ true
-    → has_place index.keys (key_of path) at ≡ true → list_any (is_about ticket path) (said outputs) ≡ true → is_among at places ≡ true)
+    → has_place index.keys (key_of path) at ≡ true
+    → list_any (is_about c.args.is_foreign c.args.subjects.now ticket path) (said outputs) ≡ true
+    → is_among at places ≡ true)
     c.as_slice-2.ensures.value c.in-Ok-with_those_about.ensures.about in
     let turn = turn_of c.args.input c.step_at_into.new.outputs.items in
-    let left = left_by index c.args.subjects.now c.requires.count c.requires.found c.args.now view turn
-    (view_of c.step_at_into.new.self) c.in-Ok.ensures.rule awake places quiet had about in
+    let left = left_by index c.args.subjects.now c.requires.count c.requires.found c.args.is_foreign c.args.now view turn
+    (view_of c.step_at_into.new.self) c.in-Ok.ensures.rule c.requires.asks c.requires.own awake places quiet had about in
     subst (λ outputs. AreLeft (view_of c.step_at_into.new.self) (said outputs) c.args.subjects.now c.as_slice-3.result.now)
     (sym c.as_slice-4.ensures.value)
     (subst (AreLeft (view_of c.step_at_into.new.self) (said c.step_at_into.new.outputs.items) c.args.subjects.now)
@@ -83,11 +85,13 @@ returns-in-Ok-append-clause-rest g c =
     let had = subst (λ some. (at : ℕ) → at < index.count → is_among at some ≡ true → is_among at places ≡ true)
     c.as_slice.ensures.value c.in-Ok-with_those_about.ensures.had in
     let about = subst (λ outputs. (ticket : ℕ) (path : Text) (at : ℕ) → at < index.count → has_place index.keys ticket at ≡ true
-    → has_place index.keys (key_of path) at ≡ true → list_any (is_about ticket path) (said outputs) ≡ true → is_among at places ≡ true)
+    → has_place index.keys (key_of path) at ≡ true
+    → list_any (is_about c.args.is_foreign c.args.subjects.now ticket path) (said outputs) ≡ true
+    → is_among at places ≡ true)
     c.as_slice-2.ensures.value c.in-Ok-with_those_about.ensures.about in
     let turn = turn_of c.args.input c.step_at_into.new.outputs.items in
-    let left = left_by index c.args.subjects.now c.requires.count c.requires.found c.args.now view turn
-    (view_of c.step_at_into.new.self) c.in-Ok.ensures.rule awake places quiet had about in
+    let left = left_by index c.args.subjects.now c.requires.count c.requires.found c.args.is_foreign c.args.now view turn
+    (view_of c.step_at_into.new.self) c.in-Ok.ensures.rule c.requires.asks c.requires.own awake places quiet had about in
     quiet_by_step index c.args.subjects.now c.requires.count c.requires.found c.args.now view turn
     (view_of c.step_at_into.new.self) (view_of c.visit_all.new.client) c.in-Ok.ensures.rule c.in_ok-visit_all.ensures.asks
     c.visit_all.new.subjects awake places quiet had left

@@ -2,9 +2,11 @@
 -- the view that the client's `forget_stale` ensures.
 use Rattle.std.proofs.Common.{subst, sym}
 use Rattle.std.specs.Prelude.{All}
+use Rattle.zk_turns.specs.View.{View}
 use Rattle.zk_client.specs.Clients.{view_of}
 use Rattle.zk_follow.specs.Following.{AreFollowed, IsCounted}
 use Rattle.zk_follow.specs.Following.{AreQuietBut}
+use Rattle.zk_follow.specs.Owning.{AreOwn}
 use Rattle.zk_follow.proofs.Forgetting.{all_counted_still, all_followed_still}
 use Rattle.zk_follow.proofs.Finding.{quiet_still}
 use Rattle.zk_follow.proofs.follower.Follower.forget_stale.Goals as goal
@@ -20,6 +22,7 @@ invariant_of-self g c =
       rest = subst (λ after. AreQuietBut after c.args.self.now.index.count items c.args.self.now.awake.items)
           (sym c.forget_stale.ensures.view)
           (quiet_still view c.args.self.now.index.count items c.args.self.now.awake.items c.args.self.now.rest);
+      own = λ going. subst (λ (after : View). AreOwn items after.pending) (sym c.forget_stale.ensures.view) (c.args.self.now.own going);
     }
 
 pub returns-clause-followed : goal.returns-clause-followed

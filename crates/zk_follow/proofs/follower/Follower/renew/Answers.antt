@@ -8,6 +8,7 @@ use Rattle.zk_client.specs.Clients.{view_of}
 use Rattle.zk_follow.specs.Following.{due_again, IsCounted}
 use Rattle.zk_follow.proofs.Visiting.{begun_counted, begun_followed, not_connected, whole_written}
 use Rattle.zk_follow.proofs.Finding.{none_found, none_quiet}
+use Rattle.zk_follow.proofs.Owned.{nothing_own}
 use Rattle.zk_follow.proofs.follower.Follower.renew.Goals as goal
 
 pub invariant_of-self-2 : goal.invariant_of-self-2
@@ -25,6 +26,7 @@ invariant_of-self-2 g c =
           (begun_counted (view_of c.begin_client.new.client) c.args.self.now.subjects.items);
       found = none_found c.new.result _ c.new.ensures;
       rest = none_quiet (view_of c.begin_client.new.client) c.new.result.count _ c.clear.new.self.items c.new.ensures;
+      own = λ going. nothing_own _ _ (ap (λ (v : View). v.pending) c.in_ok-begin_client.ensures.view);
     }
 
 pub returns-clause-subjects : goal.returns-clause-subjects

@@ -3,6 +3,8 @@ use Rattle.std.proofs.Common.{◌≡◌, ◌∙◌, ap, arith, drop, length, map
 use Rattle.std.specs.Prelude.{All}
 use Rattle.zk_client.specs.Clients.{view_of}
 use Rattle.zk_follow.specs.Following.{told_of, IsCounted}
+use Rattle.zk_follow.specs.Owning.{AreOwn}
+use Rattle.zk_follow.proofs.Owned.{own_told}
 use Rattle.zk_follow.proofs.Telling.{All_changed}
 use Rattle.zk_follow.proofs.Visiting.{whole_written}
 use Rattle.zk_follow.specs.Following.{AreQuietBut}
@@ -26,6 +28,8 @@ invariant_of-self g c =
       found = subst (AreFound c.tell_all.new.index) (sym whole) c.in-Ok.ensures.found;
       rest = subst (λ subjects. AreQuietBut view c.tell_all.new.index.count subjects c.tell_all.new.awake.items) (sym whole)
           c.in-Ok.ensures.rest;
+      own = λ going. subst (λ all. AreOwn all view.pending) (sym written)
+          (own_told view c.args.self.now.subjects.items view.pending (c.args.self.now.own going));
     }
 
 pub tell_all-requires-clause-found : goal.tell_all-requires-clause-found

@@ -16,4 +16,5 @@ invariant_of-self g c =
           (IsCounted view) c.args.self.now.subjects.items c.args.self.now.counted);
       found = none_found c.new.result c.remove.new.subjects.items c.new.ensures;
       rest = none_quiet view c.new.result.count c.remove.new.subjects.items c.clear.new.self.items c.new.ensures;
+      own = c.is_foreign_still-self.ensures c.remove.new.subjects.items (λ going. absurd cc);
     }
