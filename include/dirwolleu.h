@@ -170,13 +170,14 @@ enum dw_cause DW_AS_INT32 {
   DW_CAUSE_WATCHES_REFUSED = 5
 };
 
-/* Why a session's read of what is followed, or a call of a contender, was refused. */
+/* Why a session's read of what is followed, or a call of a contender, was refused, and why else a contender pauses. */
 enum dw_refusal DW_AS_INT32 {
   DW_REFUSAL_CODE = 1, /* by the server, with a code */
   DW_REFUSAL_TOO_MANY_WATCHES = 2, /* 65,536 paths of the side are watched */
   DW_REFUSAL_TOO_LARGE = 3, /* the path is too long for a request */
   DW_REFUSAL_CLOSED = 4, /* the session is being closed */
-  DW_REFUSAL_NUMBERS_USED_UP = 5 /* of a contender: the directory has had 2,147,483,647 names */
+  DW_REFUSAL_NUMBERS_USED_UP = 5, /* of a contender: the directory has had 2,147,483,647 names */
+  DW_REFUSAL_MIXED_NAMES = 6 /* of a contender: a name of another family is there. Give it up: no place of its own stays */
 };
 
 /* Errors of the server. It may answer with a number that this list does not name: so a code is an int32_t. */
@@ -229,7 +230,8 @@ enum dw_code DW_AS_INT32 {
  *   DW_KIND_WAITS     another one is before it, and is watched.
  *   DW_KIND_HOLDS     it holds. Its token is zxid, that of the making of its place: whoever the lock protects refuses a smaller one than it has seen.
  *   DW_KIND_LOST      it holds no more: its place is gone, or the session has expired, and it contends on by another place; or it was given up.
- *   DW_KIND_PAUSES    a call of it was refused: refusal says why, with the code of DW_REFUSAL_CODE. It is asked again after a second.
+ *   DW_KIND_PAUSES    a call of it was refused, or a listing says what is in its way: refusal says why, with the code of DW_REFUSAL_CODE. It is
+ *                     asked again after a second.
  *   DW_KIND_GIVEN_UP  it is given up, or the session is closed, and no node of it is there. It is told of no more. */
 typedef struct dw_output {
   enum dw_kind kind;
@@ -412,19 +414,23 @@ enum dw_result dw_session_follow_tree(dw_session *handle, uint64_t now_ms, uint6
 /* The tree of this ticket is followed no more, nor is any node that was taken on for it. Where there is none, the moment alone is noticed. */
 enum dw_result dw_session_unfollow_tree(dw_session *handle, uint64_t now_ms, uint64_t ticket);
 
-/* How the places of contenders are named: a prefix, the guid, a marker and ten digits. All contenders of one lock use names of one family. Each waits
- * for every other one, and a reader for locks and writers alone. */
+/* How the places of contenders are named: a prefix, the guid, a marker and ten digits. All contenders of one lock use names of one family: kazoo's, those
+ * of Curator's locks, or those of its latches. Each waits for every other one of its family, and a reader for locks and writers alone. Families do not
+ * see one another: none holds by a listing with a name of another family, and DW_KIND_PAUSES says so, with DW_REFUSAL_MIXED_NAMES. Of leases several hold
+ * at once: DW_NAMING_LEASES + 3 is the naming of one of three, which holds while fewer than three are before it. All of one directory say the same number.
+ * Semaphores of kazoo and of Curator count their leases within a lock, so that none of these goes into a directory of theirs. */
 enum dw_naming DW_AS_INT32 {
   DW_NAMING_KAZOO = 0, /* of kazoo, guid and __lock__: a lock, an election, a writer */
   DW_NAMING_KAZOO_READER = 1, /* guid and __rlock__ */
   DW_NAMING_CURATOR_LOCK = 2, /* _c_, guid and -lock- */
   DW_NAMING_CURATOR_LATCH = 3, /* _c_, guid and -latch- */
   DW_NAMING_CURATOR_WRITER = 4, /* _c_, guid and -__WRIT__ */
-  DW_NAMING_CURATOR_READER = 5 /* _c_, guid and -__READ__ */
+  DW_NAMING_CURATOR_READER = 5, /* _c_, guid and -__READ__ */
+  DW_NAMING_LEASES = 6 /* and how many hold at once, which is not 0: guid and __lease__ */
 };
 
-/* A contender for a lock or an election joins in a directory, which is made where it is not there. It makes its place, an ephemeral sequential node with
- * these data, null where is_null; watches the last rival before it, and no other; and tells how it stands:
+/* A contender for a lock, an election or a lease joins in a directory, which is made where it is not there. It makes its place, an ephemeral sequential
+ * node with these data, null where is_null; watches the last rival before it, and no other, or of leases as many as hold at once; and tells how it stands:
  *     char guid[32]; // hexadecimal digits, from the random numbers of the system
  *     dw_session_contend(&session, now(), 7, "/locks/job", 10, DW_NAMING_KAZOO, guid, 32, (const uint8_t *)"", 0, true, false);
  *     ..
@@ -440,7 +446,7 @@ enum dw_naming DW_AS_INT32 {
  * answer was lost. After DW_KIND_RENEWED it contends again, and holds by the old place no more. Where another contender has the ticket, the moment alone is
  * noticed. Contenders ask calls of tickets from 3 * 2^62 on, whose answers are not told; reports of the nodes that they watch are told too.
  * It is a step. Also DW_NO_MEMORY; DW_NOT_TEXT for the directory or the guid; DW_NOT_PATH where the directory is none, or no place in it has a path; and
- * DW_NO_SUCH_MODE where the naming is none of enum dw_naming: no step was made. */
+ * DW_NO_SUCH_MODE where the naming is none of enum dw_naming, or that of no lease: no step was made. */
 enum dw_result dw_session_contend(dw_session *handle, uint64_t now_ms, uint64_t ticket, const char *directory,
                                   size_t directory_length, uint32_t naming, const char *guid, size_t guid_length,
                                   const uint8_t *bytes, size_t length, bool is_null, bool may_be_there);
@@ -633,7 +639,8 @@ enum dw_result dw_session_holder(dw_session *handle, const char *directory, size
  *            dw_session_heard_at bounds and the token settles.
  *   DW_NONE  that is not shown, or there is no such contender.
  * Also DW_CLOSED. The token is 0 unless it answers DW_OK. It takes no memory. It is proved that this is what the session's client shows by the listing
- * that the contender has; that this listing is one that the session was answered is not proved yet of a whole session. */
+ * that the contender has, and that the session was answered this listing, if tickets from 3 * 2^62 on are those of contenders' calls alone: a program's
+ * are below 2^63, and those of trees' nodes run from there. */
 enum dw_result dw_session_held(dw_session *handle, uint64_t ticket, int64_t *token);
 
 /* Copies the path of the place of the contender of this ticket, as many bytes as there is room for, and writes how many it has. DW_OK; DW_NONE where it

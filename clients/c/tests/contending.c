@@ -1,14 +1,15 @@
-/* Contenders of the library's own, of two sessions at two servers in memory with one history: what is told of them, that no two hold, that tokens
- * rise, and that no place is left, wherever the connection is cut. */
+/* Contenders of the library's own, of three sessions at three servers in memory with one history: what is told of them, that no more hold than may,
+ * that tokens rise, that none holds beside names of another family, and that no place is left, wherever the connection is cut. */
 #include "dirwolleu.h"
 #include "dirwolleu_bench.h"
 #include "expect.h"
 
 #include <string.h>
 
-enum { TIMEOUT_MS = 9000, TICKET = 7, LISTING = 8, MOST_ROUNDS = 4000, REQUESTS = 12, ROOM = 1 << 16 };
+enum { SIDES = 3, TIMEOUT_MS = 9000, TICKET = 7, LISTING = 8, MOST_ROUNDS = 4000, REQUESTS = 12, ROOM = 1 << 16 };
 
-static const char DIRECTORY[] = "/locks/job", GUIDS[2][33] = {"00112233445566778899aabbccddeeff", "ffeeddccbbaa99887766554433221100"};
+static const char DIRECTORY[] = "/locks/job", GUIDS[SIDES][33] = {
+    "00112233445566778899aabbccddeeff", "ffeeddccbbaa99887766554433221100", "0f1e2d3c4b5a69788796a5b4c3d2e1f0"};
 
 struct side {
     dw_session session;
@@ -19,29 +20,28 @@ struct side {
     bool is_answered;
 };
 
-static struct side sides[2];
+static struct side sides[SIDES];
 static uint64_t now_ms;
 static int64_t last_token;
-static bool is_shared; /* both may hold */
+static int most = 1; /* hold at once */
 static int left; /* after this number of requests the connection of the first side is cut, if it is not below 0 */
 static uint8_t room[ROOM];
-
-static struct side *other_of(const struct side *side)
-{
-    return &sides[side == &sides[0]];
-}
 
 static void expect_ok(enum dw_result result)
 {
     EXPECT_NUMBER(DW_OK, result);
 }
 
-/* Whoever holds has a greater token than all before, and nobody else holds, by what is told and by what is looked up. */
+/* Whoever holds has a greater token than all before, and no more hold than may, by what is told and by what is looked up. */
 static void note_holder(struct side *side, int64_t token)
 {
     int64_t shown = 0;
-    EXPECT(token > last_token && (is_shared || other_of(side)->token == 0));
-    EXPECT(is_shared || dw_session_held(&other_of(side)->session, TICKET, &shown) == DW_NONE);
+    int told = 1, held = 0;
+    for (int i = 0; i < SIDES; i++) {
+        told += &sides[i] != side && sides[i].token != 0;
+        held += dw_session_held(&sides[i].session, TICKET, &shown) == DW_OK;
+    }
+    EXPECT(token > last_token && told <= most && held <= most);
     expect_ok(dw_session_held(&side->session, TICKET, &shown));
     EXPECT_NUMBER(token, shown);
     last_token = side->token = token;
@@ -53,7 +53,7 @@ static void note(struct side *side, const dw_output *output)
     EXPECT_NUMBER(TICKET, output->ticket);
     switch (output->kind) {
     case DW_KIND_HOLDS: note_holder(side, output->zxid); break;
-    case DW_KIND_PAUSES: EXPECT(false); break;
+    case DW_KIND_PAUSES: EXPECT_NUMBER(DW_REFUSAL_MIXED_NAMES, output->refusal); /* fall through */
     default: side->token = 0; break;
     }
 }
@@ -86,7 +86,7 @@ static bool do_all(struct side *side)
     return was_said;
 }
 
-/* The server of one side answers one request, and the other one learns what it changed. Whether there was one. */
+/* The server of one side answers one request, and the others learn what it changed. Whether there was one. */
 static bool serve_one(struct side *side)
 {
     size_t count = 0;
@@ -97,9 +97,9 @@ static bool serve_one(struct side *side)
         expect_ok(dw_session_cut(&side->session, now_ms));
         return true;
     }
-    while (dw_bench_learn(&other_of(side)->bench, &side->bench) == DW_BENCH_OK) {
-    }
-    for (int i = 0; i < 2; i++) {
+    for (int i = 0; i < SIDES; i++) {
+        while (&sides[i] != side && dw_bench_learn(&sides[i].bench, &side->bench) == DW_BENCH_OK) {
+        }
         for (int j = 0; j < REQUESTS; j++) {
             dw_bench_take(&sides[i].bench, 1);
         }
@@ -115,14 +115,14 @@ static bool serve_one(struct side *side)
 static void let_pass(void)
 {
     uint64_t soonest = UINT64_MAX, due = 0;
-    for (int i = 0; i < 2; i++) {
+    for (int i = 0; i < SIDES; i++) {
         if (dw_session_deadline(&sides[i].session, &due) == DW_OK && due < soonest) {
             soonest = due;
         }
     }
     EXPECT(soonest < UINT64_MAX);
     now_ms = soonest > now_ms ? soonest : now_ms;
-    for (int i = 0; i < 2; i++) {
+    for (int i = 0; i < SIDES; i++) {
         expect_ok(dw_session_moment(&sides[i].session, now_ms));
     }
 }
@@ -133,7 +133,7 @@ static void go_on_until(struct side *side, int kind)
     for (int i = 0; kind == 0 ? !side->is_answered : (int)side->told != kind; i++) {
         bool goes_on = false;
         EXPECT(i < MOST_ROUNDS);
-        for (int j = 0; j < 2; j++) {
+        for (int j = 0; j < SIDES; j++) {
             goes_on = do_all(&sides[j]) || goes_on;
             goes_on = serve_one(&sides[j]) || goes_on;
         }
@@ -143,11 +143,11 @@ static void go_on_until(struct side *side, int kind)
     }
 }
 
-static void contend(struct side *side, enum dw_naming naming)
+static void contend(struct side *side, uint32_t naming)
 {
     side->told = (enum dw_kind)0;
     do_all(side);
-    expect_ok(dw_session_contend(&side->session, now_ms, TICKET, DIRECTORY, strlen(DIRECTORY), (uint32_t)naming, GUIDS[side - sides], 32,
+    expect_ok(dw_session_contend(&side->session, now_ms, TICKET, DIRECTORY, strlen(DIRECTORY), naming, GUIDS[side - sides], 32,
                                  (const uint8_t *)"", 0, true, false));
 }
 
@@ -215,7 +215,7 @@ static void cut_at_each_request(void)
 static void read_together(void)
 {
     int64_t token = 0;
-    is_shared = true;
+    most = 2;
     for (int i = 0; i < 2; i++) {
         contend(&sides[i], DW_NAMING_KAZOO_READER);
         go_on_until(&sides[i], DW_KIND_HOLDS);
@@ -225,7 +225,59 @@ static void read_together(void)
         give_up(&sides[i]);
         EXPECT_NUMBER(DW_NONE, dw_session_held(&sides[i].session, TICKET, &token));
     }
-    is_shared = false;
+    most = 1;
+}
+
+/* Two of three hold, and the third one does once either of them has left. */
+static void lease(void)
+{
+    most = 2;
+    for (int leaver = 0; leaver < 2; leaver++) {
+        for (int i = 0; i < SIDES; i++) {
+            contend(&sides[i], DW_NAMING_LEASES + 2);
+            go_on_until(&sides[i], i < most ? DW_KIND_HOLDS : DW_KIND_WAITS);
+        }
+        give_up(&sides[leaver]);
+        go_on_until(&sides[2], DW_KIND_HOLDS);
+        give_up(&sides[2]);
+        give_up(&sides[1 - leaver]);
+        EXPECT_NUMBER(0, count_names(&sides[2]));
+    }
+    most = 1;
+}
+
+/* Beside a name of another family nobody comes to hold. Whoever gives up at that leaves no place; whoever goes on holds once that name is gone. */
+static void mix(uint32_t naming, uint32_t other)
+{
+    contend(&sides[0], naming);
+    go_on_until(&sides[0], DW_KIND_HOLDS);
+    contend(&sides[1], other);
+    go_on_until(&sides[1], DW_KIND_PAUSES);
+    EXPECT_NUMBER(2, count_names(&sides[2]));
+    give_up(&sides[1]);
+    EXPECT_NUMBER(1, count_names(&sides[2]));
+    EXPECT_NUMBER(DW_KIND_HOLDS, sides[0].told);
+    contend(&sides[1], other);
+    go_on_until(&sides[1], DW_KIND_PAUSES);
+    contend(&sides[2], other);
+    go_on_until(&sides[2], DW_KIND_PAUSES);
+    give_up(&sides[0]);
+    go_on_until(&sides[1], DW_KIND_HOLDS);
+    go_on_until(&sides[2], DW_KIND_WAITS);
+    give_up(&sides[1]);
+    go_on_until(&sides[2], DW_KIND_HOLDS);
+    give_up(&sides[2]);
+}
+
+static void mix_names(void)
+{
+    static const uint32_t families[] = {DW_NAMING_KAZOO, DW_NAMING_CURATOR_LOCK, DW_NAMING_CURATOR_LATCH};
+    for (int i = 0; i < 3; i++) {
+        mix(families[i], families[(i + 1) % 3]);
+        mix(families[(i + 1) % 3], families[i]);
+    }
+    mix(DW_NAMING_KAZOO_READER, DW_NAMING_CURATOR_WRITER);
+    mix(DW_NAMING_CURATOR_READER, DW_NAMING_KAZOO);
 }
 
 static void refuse(void)
@@ -261,7 +313,7 @@ static void close_session(void)
 int main(void)
 {
     left = -1;
-    for (int i = 0; i < 2; i++) {
+    for (int i = 0; i < SIDES; i++) {
         EXPECT_NUMBER(DW_BENCH_OK, dw_bench_open(&sides[i].bench, 70 + i));
         expect_ok(dw_session_open(&sides[i].session, TIMEOUT_MS, 1, 42 + (uint64_t)i));
         expect_ok(dw_session_moment(&sides[i].session, now_ms));
@@ -270,8 +322,10 @@ int main(void)
     hand_over();
     cut_at_each_request();
     read_together();
+    lease();
+    mix_names();
     close_session();
-    for (int i = 0; i < 2; i++) {
+    for (int i = 0; i < SIDES; i++) {
         dw_session_free(&sides[i].session);
         dw_bench_close(&sides[i].bench);
     }

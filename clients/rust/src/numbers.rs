@@ -78,6 +78,7 @@ pub(crate) mod refusal {
     pub(crate) const READ_TOO_LARGE: i32 = 3;
     pub(crate) const READ_CLOSED: i32 = 4;
     pub(crate) const NUMBERS_USED_UP: i32 = 5;
+    pub(crate) const MIXED_NAMES: i32 = 6;
 }
 
 pub(crate) mod mode {
@@ -107,6 +108,7 @@ pub(crate) mod naming {
     pub(crate) const CURATOR_LATCH: i32 = 3;
     pub(crate) const CURATOR_WRITER: i32 = 4;
     pub(crate) const CURATOR_READER: i32 = 5;
+    pub(crate) const LEASES: i32 = 6;
 }
 
 pub(crate) mod kept {

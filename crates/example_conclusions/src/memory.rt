@@ -32,9 +32,9 @@ static FIRST: [(&str, &str); 5] = [
 static NUMBERS: [&str; 5] = ["1", "2", "3", "4", "5"];
 
 /// The sessions of other contenders. A server in memory calls its client's session 1.
-const KAZOO: i64 = 2;
+const EARLIER: i64 = 2;
 
-const CURATOR: i64 = 3;
+const LATER: i64 = 3;
 
 /// What happens to a program.
 #[derive(Clone, Copy)]
@@ -96,16 +96,16 @@ static TREE: [(u64, Step); 12] = [
     (12_000, Step::Ends),
 ];
 
-/// A contender waits for kazoo's, and holds; loses its session, while Curator's holds, and does not know it yet; makes two nodes, since an
-/// answer is lost, and removes one; waits, holds, and leaves.
+/// A contender waits for another one, and holds; loses its session, while a later one holds, and does not know it yet; makes two nodes,
+/// since an answer is lost, and removes one; waits, holds, and leaves.
 static LONG: [(u64, Step); 10] = [
     (
         0,
-        Step::World(Event::Edits(&[Edit::Makes("/lock/8f__lock__0000000000", "", KAZOO)])),
+        Step::World(Event::Edits(&[Edit::Makes("/lock/_c_8-lock-0000000000", "", EARLIER)])),
     ),
     (
         1_000,
-        Step::World(Event::Edits(&[Edit::Deletes("/lock/8f__lock__0000000000")])),
+        Step::World(Event::Edits(&[Edit::Deletes("/lock/_c_8-lock-0000000000")])),
     ),
     (2_000, Step::World(Event::Parts)),
     (4_000, Step::World(Event::Expires)),
@@ -113,7 +113,7 @@ static LONG: [(u64, Step); 10] = [
         4_000,
         Step::World(Event::Edits(&[
             Edit::Deletes("/lock/_c_one-lock-0000000001"),
-            Edit::Makes("/lock/_c_9-lock-0000000002", "", CURATOR),
+            Edit::Makes("/lock/_c_9-lock-0000000002", "", LATER),
         ])),
     ),
     (4_000, Step::Writes(5)),

@@ -3,6 +3,7 @@
 pub mod Beginning
 pub mod Chains
 pub mod OwnCalls
+pub mod Nobody
 pub mod Deadlines
 pub mod Parents
 pub mod ReadTexts

@@ -10,7 +10,7 @@ use Rattle.std.specs.List.{flat_map, AllByRecursion, FoldsTo}
 use Rattle.std.specs.declared.alloc.Global.{Global}
 use Rattle.zk_turns.specs.View.{View}
 use Rattle.zk_conclusions.specs.declared.revision.Revision.{Revision}
-use Rattle.zk_contend.specs.Collections.{hall_of, TellsAt}
+use Rattle.zk_contend.specs.Collections.{hall_of, KeepsCalls, TellsAt}
 use Rattle.zk_contend.specs.declared.collection.Contenders.{Contenders}
 use Rattle.zk_agent.specs.Agents.{trail_of, BreaksOff, IsBroken}
 use Rattle.zk_agent.specs.declared.action.Action.{Action}
@@ -122,8 +122,8 @@ pub went_on : (now : ℕ) (joined heard rested : Contenders Global) (agent : Age
     → HearsAll (view_in agent) now joined said heard → TellsMore said [] here
     → AsksAll now (agent, heard) after.agent rested here after.said.items
     → FoldsTo (TellsAt (view_in after.agent)) (hall_of rested []) rested.stirred.untold.items (hall_of after.contenders after.news.items)
-    → WentOn true now joined agent said after
-went_on now joined heard rested agent said here after hears told asks tells =
+    → KeepsCalls rested after.contenders → WentOn true now joined agent said after
+went_on now joined heard rested agent said here after hears told asks tells calls =
     let own : List Part = asks.more.own in
     let all = told_on said (flat_map (λ (part : Part). part.said) own) [] here after.said.items told asks.more.tells in
     record {
@@ -136,6 +136,7 @@ went_on now joined heard rested agent said here after hears told asks tells =
         rested = rested;
         rests = asks.rests;
         tells = tells;
+        calls = calls;
       };
       took = took_all now own (agent, heard) (after.agent, asks.looked) asks.more.asked;
       are_own = all_own now own (agent, heard) (after.agent, asks.looked) asks.more.asked;
@@ -143,7 +144,7 @@ went_on now joined heard rested agent said here after hears told asks tells =
       alone = λ e. absurd (true≢false e);
     }
 
-but_none : {A : Type 0} (said : List (Action A)) → TellsAllBut said said
+pub but_none : {A : Type 0} (said : List (Action A)) → TellsAllBut said said
 but_none [] = refl
 but_none (one ∷ said) = inr (said, refl, but_none said)
 
@@ -170,6 +171,7 @@ goes_with true now joined agent said own device revision goes = record {
   rested = goes.rested;
   rests = goes.rests;
   tells = goes.tells;
+  calls = goes.calls;
 }
 goes_with false now joined agent said own device revision goes = record { nobody = goes.nobody; silent = goes.silent }
 

@@ -1,5 +1,5 @@
 -- The contenders of a device: what they hear of what its agent says, and the calls that they ask.
-use Rattle.std.specs.Prelude.{◌≡◌, ◌≤◌, ◌&&◌, ◌++◌, ℕ, Bool, true, false, not, nat_lt, string_bytes, List, [], drop, length, take}
+use Rattle.std.specs.Prelude.{◌≡◌, ◌≤◌, ◌&&◌, ◌+◌, ◌++◌, ℕ, Bool, true, false, not, nat_lt, string_bytes, List, [], drop, length, take}
 use Rattle.std.specs.Prelude.{Option, Some, None, is_some, option_map, if◌then◌else◌}
 use Rattle.std.specs.List.{FoldsTo}
 use Rattle.std.specs.declared.alloc.Global.{Global}
@@ -17,6 +17,7 @@ use Rattle.zk_contend.specs.declared.collection.Contenders.{Contenders}
 use Rattle.zk_contend.specs.declared.contender.LockContender.{LockContender}
 use Rattle.zk_contend.specs.declared.naming.Naming.{Naming}
 use Rattle.zk_contend.specs.declared.naming.Naming.TheVariants.{Kazoo, KazooReader, CuratorLock, CuratorLatch, CuratorWriter, CuratorReader}
+use Rattle.zk_contend.specs.declared.naming.Naming.TheVariants.{Lease}
 use Rattle.zk_dialler.specs.Dialling.{has_come}
 use Rattle.zk_agent.specs.Agents.{NothingAt}
 use Rattle.zk_agent.specs.declared.action.Action.{Action}
@@ -32,7 +33,7 @@ view_in agent = view_of agent.asker.follower.client
 
 -- ---- who joins, and who is given up
 
--- the number of a naming
+-- the number of a naming; that of leases is as much above 6 as there are leases
 abbrev pub naming_number : Naming → ℕ
 naming_number Kazoo = 0
 naming_number KazooReader = 1
@@ -40,6 +41,7 @@ naming_number CuratorLock = 2
 naming_number CuratorLatch = 3
 naming_number CuratorWriter = 4
 naming_number CuratorReader = 5
+naming_number (Lease most) = 6 + most
 
 -- A contender at its beginning, of a naming by its number.
 pub record IsContender (directory : Text) (number : ℕ) (guid : Text) (bytes : Option (List ℕ)) (may_be_there : Bool)
@@ -140,6 +142,7 @@ pub record Contended (now : ℕ) (joined : Contenders Global) (agent : Agent Glo
   pub rests : Rests (view_in after.agent) now looked rested
   pub tells : FoldsTo (TellsAt (view_in after.agent)) (hall_of rested []) rested.stirred.untold.items
       (hall_of after.contenders after.news.items)
+  pub calls : KeepsCalls rested after.contenders
 
 -- On a device on which nobody has contended yet there is nothing to hear, to ask or to tell.
 pub record IsQuiet (joined : Contenders Global) (after : Device) : Type 0 where

@@ -14,6 +14,7 @@ obstacle_flat why.TooManyWatches = plain (pos 20) (pos 2)
 obstacle_flat why.TooLarge = plain (pos 20) (pos 3)
 obstacle_flat why.SessionClosed = plain (pos 20) (pos 4)
 obstacle_flat why.NumbersUsedUp = plain (pos 20) (pos 5)
+obstacle_flat why.MixedNames = plain (pos 20) (pos 6)
 
 -- How a contender stands. That it contends is told after that it held alone: it has lost its place.
 abbrev pub status_flat : LockStatus → Flat

@@ -1,7 +1,10 @@
 -- When a number is told that is neither 0 nor that of a halt.
-use Rattle.std.specs.Prelude.{⊤, ◌⊎◌, ◌≤ℤ◌, ◌<ℤ◌, ◌<◌, List, ℕ, zero, suc, ℤ, pos, negsuc, IsSome}
+use Rattle.std.specs.Prelude.{⊤, ◌≡◌, ◌⊎◌, ◌≤ℤ◌, ◌<ℤ◌, ◌<◌, List, ℕ, zero, suc, ℤ, pos, negsuc, IsSome}
 use Rattle.std.specs.Str.{IsUtf8}
 use Rattle.zk_nodes.specs.PathFault.{IsPath, fault_of}
+use Rattle.zk_contend.specs.Contenders.{contender_fault}
+use Rattle.zk_contend.specs.declared.naming.Naming.{Naming}
+use Rattle.ffi_device.specs.Contending.{naming_number}
 
 -- nothing is refused
 abbrev pub RefusesNothing : ℤ → Type 0
@@ -30,13 +33,19 @@ abbrev pub RefusesCreate : (path : List ℕ) (mode : ℕ) → ℤ → Type 0
 RefusesCreate path mode (negsuc (suc (suc (suc (suc (suc (suc zero))))))) = 3 < mode
 RefusesCreate path mode code = RefusesPath path code
 
--- A contender: -4 where its directory or its guid is no UTF-8; -5 where the directory is no path, or no place in it has one, which nothing
--- is promised of; -7 where the number is none of a naming; and -2.
+-- no place with this guid, of a naming by its number, has a path in the directory
+abbrev pub HasNoPlace : (directory : List ℕ) (naming : ℕ) (guid : List ℕ) → Type 0
+HasNoPlace directory naming guid =
+    (named : Naming) × (naming_number named ≡ naming) × IsSome (contender_fault directory named guid)
+
+-- A contender: -4 where its directory or its guid is no UTF-8; -5 where the directory is no path, or no place in it has one; -7 where the
+-- number is none of a naming; and -2.
 abbrev pub RefusesContender : (directory : List ℕ) (naming : ℕ) (guid : List ℕ) → ℤ → Type 0
 RefusesContender directory naming guid (negsuc (suc zero)) = ⊤
 RefusesContender directory naming guid (negsuc (suc (suc (suc zero)))) = ¬ (IsUtf8 directory) ⊎ ¬ (IsUtf8 guid)
-RefusesContender directory naming guid (negsuc (suc (suc (suc (suc zero))))) = ⊤
-RefusesContender directory naming guid (negsuc (suc (suc (suc (suc (suc (suc zero))))))) = 5 < naming
+RefusesContender directory naming guid (negsuc (suc (suc (suc (suc zero))))) =
+    IsSome (fault_of directory) ⊎ HasNoPlace directory naming guid
+RefusesContender directory naming guid (negsuc (suc (suc (suc (suc (suc (suc zero))))))) = naming ≡ 6
 RefusesContender directory naming guid code = ⊥
 
 -- All nodes at and below a path: those of the path, and -9 and -10 where these two are so.

@@ -1,6 +1,6 @@
 //! Contenders from bytes, and what is looked up of them.
 
-ghost use Rattle.std.specs.Prelude.{◌≡◌, ◌<◌, IfErr, IfOk, IfSome, None, option_map};
+ghost use Rattle.std.specs.Prelude.{◌≡◌, IfErr, IfOk, IfSome, None, option_map};
 ghost use Rattle.zk_contend.specs.Collections.{one_of, own_at, ShowsOne};
 ghost use Rattle.ffi_device.specs.Codes.{code_of, refusal_code};
 ghost use Rattle.ffi_device.specs.Contending.{naming_number, view_in, CopiesPlace, IsContender};
@@ -20,7 +20,7 @@ use zk_nodes::copied_data;
 // The naming of this number.
 fn naming_of(number: u32) -> Option<Naming>
     ensures some { IfSome result (λ naming. naming_number naming ≡ number) }
-    ensures none { result ≡ None → 5 < number }
+    ensures none { result ≡ None → number ≡ 6 }
 {
     match number {
         0 => Some(Naming::Kazoo),
@@ -29,7 +29,8 @@ fn naming_of(number: u32) -> Option<Naming>
         3 => Some(Naming::CuratorLatch),
         4 => Some(Naming::CuratorWriter),
         5 => Some(Naming::CuratorReader),
-        _ => None,
+        6 => None,
+        _ => Some(Naming::Lease { most: number - 6 }),
     }
 }
 

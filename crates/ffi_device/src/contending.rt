@@ -1,11 +1,12 @@
 //! Contenders of a session: what they hear of what its agent says, and the calls that they ask.
 
 ghost use Rattle.std.specs.Prelude.{◌≡◌, [], true, OnErr, OnOk};
+ghost use Rattle.std.specs.List.{list_any};
 ghost use Rattle.zk_client.specs.Clients.{view_of};
 ghost use Rattle.zk_agent.specs.Agents.{IsBroken};
 ghost use Rattle.ffi_device.specs.inner.Chains.{IsHeardOf, TellsMore};
 ghost use Rattle.ffi_device.specs.Contending.{is_own_answer, HearsAll, HearsAnswer, HearsWhere, Notes};
-ghost use Rattle.ffi_device.specs.inner.Contending.{AsksAll, WentOn};
+ghost use Rattle.ffi_device.specs.inner.Contending.{AsksAll, HasNobody, WentOn};
 
 use crate::device::Device;
 use std::alloc::{AllocError, Global};
@@ -22,6 +23,12 @@ fn is_own_answer(action: &Action<Global>) -> bool
         Action::Answer { ticket, .. } => is_contenders(*ticket),
         _ => false,
     }
+}
+
+fn has_own_answer(actions: &[Action<Global>]) -> bool
+    ensures { result ≡ list_any is_own_answer actions.now }
+{
+    actions.iter().any(|action| is_own_answer(action))
 }
 
 // They note what is told to the program.
@@ -153,7 +160,14 @@ impl Device {
         self.contenders.tell(self.agent.client(), &mut self.news)
     }
 
-    /// After a step of the agent: the contenders go on, if somebody contends. Where nobody does, it costs one test.
+    // Whether no contender is there, no call of one is to be heard of, and nothing of what was said answers one: then nothing is heard.
+    fn has_nobody(&self) -> bool
+        ensures { result ≡ true → HasNobody self.now.contenders self.now.said.items }
+    {
+        self.contenders.is_empty() && !has_own_answer(self.said.as_slice())
+    }
+
+    /// After a step of the agent: the contenders go on, if there is one. If nobody has contended yet, that costs one test.
     pub(crate) fn go_on(&mut self, now: u64) -> Result<(), AllocError>
         ensures went { OnOk result (WentOn self.old.is_contending now self.old.contenders self.old.agent self.old.said.items self.new) }
         ensures broke { OnErr result (IsBroken self.old.agent self.new.agent) }
@@ -163,9 +177,12 @@ impl Device {
         ensures contends { self.new.is_contending ≡ self.old.is_contending }
     {
         self.news.clear();
-        if self.is_contending {
-            return self.contend_on(now);
+        if !self.is_contending {
+            return Ok(());
         }
-        Ok(())
+        if self.has_nobody() {
+            return Ok(());
+        }
+        self.contend_on(now)
     }
 }

@@ -20,6 +20,7 @@ fn obstacle_flat(why: Obstacle) -> Flat
         Obstacle::TooLarge => plain(20, 3),
         Obstacle::SessionClosed => plain(20, 4),
         Obstacle::NumbersUsedUp => plain(20, 5),
+        Obstacle::MixedNames => plain(20, 6),
     }
 }
 

@@ -1,4 +1,7 @@
 -- Lemmas on contenders.
+pub mod Families
+pub mod Leasing
+pub mod Chaining
 pub mod Texts
 pub mod Tellings
 pub mod Covers

@@ -14,9 +14,9 @@ use Rattle.zk_conversation.specs.Results.{Result, NoNode, Refused, Made, Listing
 use Rattle.zk_turns.specs.Meaning.{Among}
 use Rattle.zk_turns.specs.Turns.{Outcome, Replied, ConnectionLoss}
 use Rattle.zk_turns.specs.View.{View}
-use Rattle.zk_conclusions.specs.Numbers.{Kind}
 use Rattle.zk_contend.specs.declared.contender.LockContender.{LockContender}
 use Rattle.zk_contend.specs.declared.listed.Listed.{Listed}
+use Rattle.zk_contend.specs.declared.naming.Naming.{Naming}
 use Rattle.zk_contend.specs.declared.place.Ask.{Ask}
 use Rattle.zk_contend.specs.declared.place.Ask.TheVariants.{Make, Enter, Fence, Look, Clear, ReadOwn, List as ListsAgain, ReadBehind, Leave}
 use Rattle.zk_contend.specs.declared.place.Place.{Place}
@@ -24,7 +24,6 @@ use Rattle.zk_contend.specs.declared.place.Place.TheVariants.{Making, Entering, 
 use Rattle.zk_contend.specs.Contenders.{beginning, is_at, is_behind, is_entering, leaves, noted, IsHeardAs}
 use Rattle.zk_contend.specs.Hearing.{entered, entering, is_place, made, named_if, placed_as, unentered, unsent}
 use Rattle.zk_contend.specs.Listings.{ListingsAreHeard, WasHeard}
-use Rattle.zk_contend.specs.Namings.{kind_in}
 use Rattle.zk_contend.specs.Nodes.{Asks, Closes, Expires, Fails, GivesUp, HearsOne, Leads, Moment, Notes, Stage, Tells}
 use Rattle.zk_contend.specs.Places.{path_in}
 use Rattle.zk_contend.specs.Settling.{cleared, fenced, found_at, is_gone, is_others, is_unread_by, left_by, lost, moved, own_read, unlisted}
@@ -203,10 +202,10 @@ IsAnswer outcome listed = (stat : Stat) × (outcome ≡ Replied listed.zxid (Lis
 same_has : {A : Type 0} (place next : Place A) (listed : Listed A) → next ≡ place → HasListing next listed → HasListing place listed
 same_has {A} place next listed e has = subst (λ (p : Place A). HasListing p listed) e has
 
-listed_has : {A : Type 0} (dir : Text) (kind : Kind) (names : List Name) (zxid : ℤ) (stat : Stat) (place next : Place A)
-    (listed : Listed A) → IsListedAt dir kind names zxid place next → HasListing next listed
+listed_has : {A : Type 0} (dir : Text) (naming : Naming) (names : List Name) (zxid : ℤ) (stat : Stat) (place next : Place A)
+    (listed : Listed A) → IsListedAt dir naming names zxid place next → HasListing next listed
     → HasListing place listed ⊎ IsAnswer (Replied zxid (Listing names stat)) listed
-listed_has {A} dir kind names zxid stat (At own listing) next listed is has =
+listed_has {A} dir naming names zxid stat (At own listing) next listed is has =
     let same : is.0 ≡ listed = subst (λ (p : Place A). HasListing p listed) is.1 has in
     inr (stat, (λ i. Replied (zxids same i) (Listing (all same i) stat)))
   where
@@ -215,23 +214,28 @@ listed_has {A} dir kind names zxid stat (At own listing) next listed is has =
 
     all : is.0 ≡ listed → names ≡ listed.names
     all same = sym is.2 ∙ ap (λ (l : Listed A). l.names) same
-listed_has dir kind names zxid stat place next listed is has = inl (same_has place next listed is has)
+listed_has dir naming names zxid stat place next listed is has = inl (same_has place next listed is has)
 
-names_has : {A : Type 0} (dir : Text) (kind : Kind) (outcome : Outcome) (place next : Place A) (listed : Listed A)
-    → IsListed dir kind outcome place next → HasListing next listed → HasListing place listed ⊎ IsAnswer outcome listed
-names_has dir kind (Replied zxid (Listing names stat)) place next listed is has =
-    listed_has dir kind names zxid stat place next listed is has
-names_has {A} dir kind (Replied zxid NoNode) place next listed is has =
+names_has : {A : Type 0} (dir : Text) (naming : Naming) (outcome : Outcome) (place next : Place A) (listed : Listed A)
+    → IsListed dir naming outcome place next → HasListing next listed → HasListing place listed ⊎ IsAnswer outcome listed
+names_has dir naming (Replied zxid (Listing names stat)) place next listed is has =
+    listed_has dir naming names zxid stat place next listed is has
+names_has {A} dir naming (Replied zxid NoNode) place next listed is has =
     inl (lost_has place listed (subst (λ (p : Place A). HasListing p listed) is has))
-names_has dir kind (Replied zxid _) place next listed is has = inl (same_has place next listed is has)
-names_has dir kind _ place next listed is has = inl (same_has place next listed is has)
+names_has dir naming (Replied zxid _) place next listed is has = inl (same_has place next listed is has)
+names_has dir naming _ place next listed is has = inl (same_has place next listed is has)
 
-heard_has : {A : Type 0} (session : ℤ) (contender : LockContender A) (ask : Ask) (outcome : Outcome) (next : Place A) (listed : Listed A)
-    → Hears session contender ask outcome next → HasListing next listed
-    → HasListing contender.place listed ⊎ IsAnswer outcome listed
+-- the answer to a listing
+abbrev pub IsNamed : {A : Type 0} → Ask → Outcome → Listed A → Type 0
+IsNamed ask outcome listed = (ask ≡ ListsAgain) × IsAnswer outcome listed
+
+pub heard_has : {A : Type 0} (session : ℤ) (contender : LockContender A) (ask : Ask) (outcome : Outcome) (next : Place A)
+    (listed : Listed A) → Hears session contender ask outcome next → HasListing next listed
+    → HasListing contender.place listed ⊎ IsNamed ask outcome listed
 heard_has session contender ListsAgain outcome next listed hears has =
-    names_has contender.directory (kind_in contender.naming) outcome contender.place next listed hears has
-heard_has {A} session contender ReadBehind outcome next listed hears has =
+    elim (names_has contender.directory contender.naming outcome contender.place next listed hears has)
+    [ inl was ↦ inl was | inr answered ↦ inr (refl, answered) ]
+heard_has {A} session contender (ReadBehind at) outcome next listed hears has =
     inl (if_has contender.place (is_unread_by outcome) listed (subst (λ (p : Place A). HasListing p listed) hears has))
 heard_has {A} session contender ask outcome next listed hears has =
     inl (bare_moved contender.place hears.0 listed (bare_becomes session contender contender.place ask outcome hears.0 hears.1)
@@ -245,9 +249,10 @@ asked_has : {A : Type 0} (view : View) (now : ℕ) (contender next : LockContend
 asked_has {A} view now contender next None outcome listed heard has =
     inl (subst (λ (c : LockContender A). HasListing c.place listed) heard has)
 asked_has view now contender next (Some ask) outcome listed heard has =
-    heard_has view.saved.session.session contender ask outcome next.place listed heard.hears has
+    elim (heard_has view.saved.session.session contender ask outcome next.place listed heard.hears has)
+    [ inl was ↦ inl was | inr named ↦ inr named.1 ]
 
-noted_has : {A : Type 0} (contender : LockContender A) (path : Text) (event : Event) (listed : Listed A)
+pub noted_has : {A : Type 0} (contender : LockContender A) (path : Text) (event : Event) (listed : Listed A)
     → HasListing ((noted path event contender).place) listed → HasListing contender.place listed
 noted_has contender path Deleted listed has =
     either_has contender.place (is_at path contender.place) (is_behind path contender.place) listed has
@@ -259,7 +264,7 @@ entering_has : {A : Type 0} (is : Bool) (listed : Listed A) → HasListing (if i
 entering_has true listed has = has
 entering_has false listed has = has
 
-leaves_has : {A : Type 0} (asked : Option Ask) (place : Place A) (listed : Listed A) → HasListing (leaves asked place) listed
+pub leaves_has : {A : Type 0} (asked : Option Ask) (place : Place A) (listed : Listed A) → HasListing (leaves asked place) listed
     → HasListing place listed
 leaves_has asked (At own listing) listed has = absurd has
 leaves_has asked (Making path) listed has = absurd has
@@ -270,7 +275,7 @@ leaves_has asked (Clearing leaving) listed has = has
 leaves_has asked (Leaving own) listed has = has
 leaves_has asked Left listed has = has
 
-renewed_has : {A : Type 0} (is_given_up : Bool) (listed : Listed A) → HasListing (entering is_given_up) listed → ⊥
+pub renewed_has : {A : Type 0} (is_given_up : Bool) (listed : Listed A) → HasListing (entering is_given_up) listed → ⊥
 renewed_has true listed has = has
 renewed_has false listed has = has
 
@@ -315,7 +320,7 @@ run_has first last (moment ∷ moments) listed leads has =
       ]
     ]
 
-begins_has : {A : Type 0} (may_be_there : Bool) (listed : Listed A) → HasListing (beginning may_be_there) listed → ⊥
+pub begins_has : {A : Type 0} (may_be_there : Bool) (listed : Listed A) → HasListing (beginning may_be_there) listed → ⊥
 begins_has true listed has = has
 begins_has false listed has = has
 

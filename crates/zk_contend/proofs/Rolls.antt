@@ -1,6 +1,7 @@
 -- What is found by a ticket, once it was changed.
-use Rattle.std.proofs.Common.{ℕ, ◌≡◌, ◌∙◌, Bool, true, false, cond, List, [], ◌∷◌, map, Option, Some, None, option_map, nat_eq}
-use Rattle.std.proofs.Common.{Result, Ok, Err, refl, sym, ap, subst}
+use Rattle.std.proofs.Common.{ℕ, ◌≡◌, ◌∙◌, Bool, true, false, cond, List, [], ◌∷◌, map, Option, Some}
+use Rattle.std.proofs.Common.{None, option_map, nat_eq, is_some, length}
+use Rattle.std.proofs.Common.{refl, sym, ap, subst}
 use Rattle.std.proofs.lemmas.Bool.Decides.{Decides-eqb}
 use Rattle.std.specs.Map.{lookup}
 use Rattle.std.specs.Map.Calls.{RetainsPairs}
@@ -52,3 +53,13 @@ module _ {K X : Type 0} (test : K → Bool) (change : X → X) where
   pub lookup-changed : (es : List (K × X)) → lookup test (map (λ e. (e.0, change e.1)) es) ≡ option_map change (lookup test es)
   lookup-changed [] = refl
   lookup-changed (e ∷ es) = by_head (test e.0) e.1 (lookup test es) _ (lookup-changed es)
+
+-- ---- one is found
+
+pub one_there : {X : Type 0} (entries : List (ℕ × X)) → (length entries ≡ 0 → ⊥)
+    → (ticket : ℕ) × (is_some (lookup (nat_eq ticket) entries) ≡ true)
+one_there [] some = absurd (some refl)
+one_there (entry ∷ entries) some = (
+  entry.0,
+  ap (λ b. is_some (cond b (Some entry.1) (lookup (nat_eq entry.0) entries))) ((Decides-eqb entry.0 entry.0).1 refl),
+)

@@ -12,7 +12,6 @@ use Rattle.zk_records.specs.declared.event.Event.TheVariants.{Created, Deleted, 
 use Rattle.zk_conversation.specs.Results.{NoNode, Made, Read, Listing, Done}
 use Rattle.zk_turns.specs.Turns.{Outcome, Replied}
 use Rattle.zk_turns.specs.View.{View}
-use Rattle.zk_conclusions.specs.Numbers.{Kind}
 use Rattle.zk_contend.specs.declared.contender.LockContender.{LockContender}
 use Rattle.zk_contend.specs.declared.listed.Listed.{Listed}
 use Rattle.zk_contend.specs.declared.place.Ask.{Ask}
@@ -24,7 +23,6 @@ use Rattle.zk_contend.specs.declared.status.LockStatus.{LockStatus}
 use Rattle.zk_contend.specs.Contenders.{beginning, closed, deleted, forgotten, given_up, is_at, is_behind, is_entering, leaves}
 use Rattle.zk_contend.specs.Contenders.{noted, own_of, renewed, IsFresh, IsHeardAs, IsHeardOf}
 use Rattle.zk_contend.specs.Dues.{IsDue, RestsIn, WantsBy, WantsIn, WantsNext}
-use Rattle.zk_contend.specs.Namings.{kind_in}
 use Rattle.zk_contend.specs.Nodes.{Nodes, AreNone, AreFewer, Deletes, Lists, Reads, ServesAsk, ServesAsked, Stage, Moment, Leads, Begins}
 use Rattle.zk_contend.specs.Nodes.{Asks, HearsOne, Fails, Notes, GivesUp, Expires, Closes, Tells, NothingIsLeft, OneIsThere, GivenUpAsks}
 use Rattle.zk_contend.specs.Hearing.{entered, entering, is_place, named_if, placed_as}
@@ -63,7 +61,7 @@ serves_fewer : {A : Type 0} (session : ℤ) (dir : Text) (front : Name) (place :
     → is_entering (Some ask) ≡ false → ServesAsk session dir front place ask outcome old new → AreFewer old new
 serves_fewer session dir front place Make outcome old new is serves = serves
 serves_fewer session dir front place Fence outcome old new is serves = serves
-serves_fewer session dir front place ReadBehind outcome old new is serves = serves
+serves_fewer session dir front place (ReadBehind at) outcome old new is serves = serves
 serves_fewer session dir front place Enter outcome old new is serves = absurd (true≢false is)
 serves_fewer session dir front place Look outcome old new is serves = lists_fewer dir front outcome old new serves
 serves_fewer session dir front place ListsAgain outcome old new is serves = lists_fewer dir front outcome old new serves
@@ -121,21 +119,21 @@ same_covers : {A : Type 0} (place next : Place A) (old new : Nodes) → Covers o
 same_covers {A} place next old new covers fewer e =
     subst (λ (p : Place A). Covers new p) (sym e) (covers_fewer place old new fewer covers)
 
-listed_at_covers : {A : Type 0} (dir : Text) (kind : Kind) (names : List Name) (zxid : ℤ) (place next : Place A) (old new : Nodes)
-    → Covers old place → AreFewer old new → IsListedAt dir kind names zxid place next → Covers new next
-listed_at_covers {A} dir kind names zxid (At own listing) next old new covers fewer is =
+listed_at_covers : {A : Type 0} (dir : Text) (naming : Naming) (names : List Name) (zxid : ℤ) (place next : Place A) (old new : Nodes)
+    → Covers old place → AreFewer old new → IsListedAt dir naming names zxid place next → Covers new next
+listed_at_covers {A} dir naming names zxid (At own listing) next old new covers fewer is =
     subst (λ (p : Place A). Covers new p) (sym is.1)
     (covers_fewer (At own (Some is.0)) old new fewer covers)
-listed_at_covers dir kind names zxid place next old new covers fewer is = same_covers place next old new covers fewer is
+listed_at_covers dir naming names zxid place next old new covers fewer is = same_covers place next old new covers fewer is
 
-listed_covers : {A : Type 0} (dir at : Text) (front : Name) (kind : Kind) (outcome : Outcome) (place next : Place A) (old new : Nodes)
-    → Covers old place → Lists at front outcome old new → IsListed dir kind outcome place next → Covers new next
-listed_covers dir at front kind (Replied zxid (Listing names stat)) place next old new covers lists is =
-    listed_at_covers dir kind names zxid place next old new covers lists.1 is
-listed_covers {A} dir at front kind (Replied zxid NoNode) place next old new covers lists is =
+listed_covers : {A : Type 0} (dir at : Text) (front : Name) (naming : Naming) (outcome : Outcome) (place next : Place A) (old new : Nodes)
+    → Covers old place → Lists at front outcome old new → IsListed dir naming outcome place next → Covers new next
+listed_covers dir at front naming (Replied zxid (Listing names stat)) place next old new covers lists is =
+    listed_at_covers dir naming names zxid place next old new covers lists.1 is
+listed_covers {A} dir at front naming (Replied zxid NoNode) place next old new covers lists is =
     subst (λ (p : Place A). Covers new p) (sym is) (lost_covers place old new covers lists.0 lists.1)
-listed_covers dir at front kind (Replied zxid _) place next old new covers lists is = same_covers place next old new covers lists is
-listed_covers dir at front kind _ place next old new covers lists is = same_covers place next old new covers lists is
+listed_covers dir at front naming (Replied zxid _) place next old new covers lists is = same_covers place next old new covers lists is
+listed_covers dir at front naming _ place next old new covers lists is = same_covers place next old new covers lists is
 
 unlisted_covers : {A : Type 0} (nodes : Nodes) (place : Place A) → Covers nodes place → Covers nodes (unlisted place)
 unlisted_covers nodes (At own listing) covers = covers
@@ -157,9 +155,9 @@ pub heard_covers : {A : Type 0} (session : ℤ) (contender : LockContender A) (a
     → ServesAsk session contender.directory (string_bytes contender.front) contender.place ask outcome old new
     → Hears session contender ask outcome next → Covers new next
 heard_covers session contender ListsAgain outcome old new next covers enters serves hears =
-    listed_covers contender.directory contender.directory (string_bytes contender.front) (kind_in contender.naming) outcome
+    listed_covers contender.directory contender.directory (string_bytes contender.front) contender.naming outcome
     contender.place next old new covers serves hears
-heard_covers {A} session contender ReadBehind outcome old new next covers enters serves hears =
+heard_covers {A} session contender (ReadBehind at) outcome old new next covers enters serves hears =
     subst (λ (p : Place A). Covers new p) (sym hears)
     (either_covers new contender.place (is_unread_by outcome) (covers_fewer contender.place old new serves covers))
 heard_covers {A} session contender ask outcome old new next covers enters serves hears =
@@ -283,26 +281,27 @@ unlisted_same ask (Clearing leaving) true stays = refl
 unlisted_same ask (Leaving own) true stays = refl
 unlisted_same ask Left true stays = refl
 
-listed_same : {A : Type 0} (dir : Text) (kind : Kind) (names : List Name) (zxid : ℤ) (ask : Ask) (place next : Place A)
-    → MayStay (Some ask) place → IsListedAt dir kind names zxid place next → next ≡ place
-listed_same dir kind names zxid ask (At own listing) next stays is = absurd stays
-listed_same dir kind names zxid ask place next stays is = is
+listed_same : {A : Type 0} (dir : Text) (naming : Naming) (names : List Name) (zxid : ℤ) (ask : Ask) (place next : Place A)
+    → MayStay (Some ask) place → IsListedAt dir naming names zxid place next → next ≡ place
+listed_same dir naming names zxid ask (At own listing) next stays is = absurd stays
+listed_same dir naming names zxid ask place next stays is = is
 
-names_same : {A : Type 0} (dir : Text) (kind : Kind) (ask : Ask) (outcome : Outcome) (place next : Place A)
-    → MayStay (Some ask) place → IsListed dir kind outcome place next → next ≡ place
-names_same dir kind ask (Replied zxid (Listing names stat)) place next stays is = listed_same dir kind names zxid ask place next stays is
-names_same dir kind ask (Replied zxid NoNode) place next stays is = is ∙ lost_same ask place stays
-names_same dir kind ask (Replied zxid _) place next stays is = is
-names_same dir kind ask _ place next stays is = is
+names_same : {A : Type 0} (dir : Text) (naming : Naming) (ask : Ask) (outcome : Outcome) (place next : Place A)
+    → MayStay (Some ask) place → IsListed dir naming outcome place next → next ≡ place
+names_same dir naming ask (Replied zxid (Listing names stat)) place next stays is = listed_same dir naming names zxid ask place next
+    stays is
+names_same dir naming ask (Replied zxid NoNode) place next stays is = is ∙ lost_same ask place stays
+names_same dir naming ask (Replied zxid _) place next stays is = is
+names_same dir naming ask _ place next stays is = is
 
 pub heard_stays : {A : Type 0} (session : ℤ) (contender : LockContender A) (ask : Ask) (outcome : Outcome) (next : Place A)
     → contender.is_given_up ≡ true → MayStay (Some ask) contender.place → Hears session contender ask outcome next → MayStay None next
 heard_stays session contender ListsAgain outcome next given stays hears =
     kept_stays ListsAgain contender.place next refl stays
-    (names_same contender.directory (kind_in contender.naming) ListsAgain outcome contender.place next stays hears)
-heard_stays session contender ReadBehind outcome next given stays hears =
-    kept_stays ReadBehind contender.place next refl stays
-    (hears ∙ unlisted_same ReadBehind contender.place (is_unread_by outcome) stays)
+    (names_same contender.directory contender.naming ListsAgain outcome contender.place next stays hears)
+heard_stays session contender (ReadBehind at) outcome next given stays hears =
+    kept_stays (ReadBehind at) contender.place next refl stays
+    (hears ∙ unlisted_same (ReadBehind at) contender.place (is_unread_by outcome) stays)
 heard_stays {A} session contender ask outcome next given stays hears =
     subst (λ (p : Place A). MayStay None p) (sym hears.2)
     (becomes_stays session contender contender.place ask outcome hears.0 given stays hears.1)
@@ -328,15 +327,15 @@ begins_kept {A} nodes contender dir naming guid may_be_there fresh none = record
   stays = λ g. absurd (true≢false (sym g ∙ fresh.stays));
 }
 
-never_enters : {A : Type 0} (view : View) (contender : LockContender A) (own : Text) (listed : Listed A) (behind : Option Text)
+never_enters : {A : Type 0} (view : View) (contender : LockContender A) (own : Text) (listed : Listed A) (behind : List Text)
     → WantsBy view contender own listed behind Enter → ⊥
-never_enters view contender own listed None wants = wants
-never_enters view contender own listed (Some behind) wants = wants
+never_enters view contender own listed [] wants = wants
+never_enters view contender own listed (path ∷ behind) wants = wants
 
 never_next : {A : Type 0} (view : View) (contender : LockContender A) (own : Text) (listing : Option (Listed A))
     → WantsNext view contender own listing Enter → ⊥
 never_next view contender own None wants = wants
-never_next view contender own (Some listed) wants = never_enters view contender own listed listed.behind wants
+never_next view contender own (Some listed) wants = never_enters view contender own listed listed.behind.items wants
 
 wants_enter : {A : Type 0} (view : View) (contender : LockContender A) (place : Place A)
     → WantsIn view contender place Enter → is_to_enter place ≡ true

@@ -1,24 +1,15 @@
--- Names of paths, and who is before one.
-use Rattle.std.proofs.Common.{◌≡◌, ◌∷◌, ◌&&◌, true, false, List, [], Option, Some, None, refl, sym, ap, inr, true≢false}
-use Rattle.zk_nodes.specs.Path.{Text, Name, NodePath, name_of}
-use Rattle.zk_conclusions.specs.Numbers.{Kind}
-use Rattle.zk_conclusions.specs.Predecessors.{IsPredecessor}
+-- Names of paths.
+use Rattle.std.proofs.Common.{◌≡◌, ◌∷◌, ◌&&◌, true, false, [], Some, refl, sym, ap, true≢false}
+use Rattle.zk_nodes.specs.Path.{Name, NodePath, name_of}
 use Rattle.zk_conclusions.specs.Tags.{has_tag}
 use Rattle.zk_nodes.specs.inner.Path.{is_below}
 use Rattle.zk_contend.specs.Hearing.{is_place_in}
 use Rattle.zk_contend.specs.inner.Abouts.{has_front}
-use Rattle.zk_contend.specs.Places.{IsBehindName, path_in}
 
 -- the name of a path that has one begins so, or not
 pub front_named : (front name : Name) (path : NodePath) → Some name ≡ name_of path → has_tag front name ≡ has_front front path
 front_named front name [] is = absurd cc
 front_named front name (own ∷ path) is = let same : name ≡ own = cc in ap (has_tag front) same
-
--- the path of the last rival before a name, if it makes one
-pub behind_named : (dir : Text) (kind : Kind) (names : List Name) (own name : Name) (behind : Option Text)
-    → IsPredecessor kind names own name → behind ≡ path_in dir name → IsBehindName dir kind names own behind
-behind_named dir kind names own name None is e = inr (name, is, sym e)
-behind_named dir kind names own name (Some behind) is e = (name, is, sym e)
 
 -- a path that does not lie below the directory is that of no place; of another one its name says so
 pub not_placed : (dir : NodePath) (front : Name) (path : NodePath) → is_below dir path ≡ false → false ≡ is_place_in dir front path

@@ -1,51 +1,56 @@
 -- Which paths the calls of a contender watch.
-use Rattle.std.proofs.Common.{ℕ, List, ◌≡◌, inl, inr, false, Option, Some, None, refl, sym, subst, option_map}
+use Rattle.std.proofs.Common.{ℕ, zero, suc, List, [], ◌∷◌, ◌≡◌, ◌∙◌, inl, inr, false, Option, Some, None, refl, sym, ap, subst, option_map}
+use Rattle.std.proofs.Common.{slice_get}
+use Rattle.zk_turns.specs.Meaning.{Among}
 use Rattle.zk_nodes.specs.Path.{Text}
 use Rattle.zk_turns.specs.View.{View}
 use Rattle.zk_conversation.specs.Calls.{Call}
 use Rattle.zk_contend.specs.declared.contender.LockContender.{LockContender}
-use Rattle.zk_contend.specs.declared.listed.Listed.{Listed}
 use Rattle.zk_contend.specs.declared.place.Ask.{Ask}
 use Rattle.zk_contend.specs.declared.place.Ask.TheVariants.{Make, Enter, Fence, Look, Clear, ReadOwn, List as ListsAgain, ReadBehind, Leave}
 use Rattle.zk_contend.specs.declared.place.Place.{Place}
 use Rattle.zk_contend.specs.declared.place.Place.TheVariants.{Making, Entering, Unsure, Looking, Clearing, At, Leaving, Left}
 use Rattle.zk_contend.specs.Contenders.{path_watched, IsUnwatched, WatchesOne}
-use Rattle.zk_contend.specs.Dues.{behind_or, call_about, path_asked, WantsBy, WantsIn}
+use Rattle.zk_contend.specs.Dues.{call_about, path_asked, path_or, WantsIn}
 use Rattle.zk_contend.specs.Places.{shows_node}
 
--- the one before it is read
-reads_behind : {A : Type 0} (view : View) (contender : LockContender A) (own dir path : Text) (listed : Listed A) (behind : Option Text)
-    → listed.behind ≡ behind → WantsBy view contender own listed behind ReadBehind → Some (behind_or dir (Some listed)) ≡ Some path
-    → (listed.behind ≡ Some path) × (shows_node view path ≡ false)
-reads_behind view contender own dir path listed None is wants e = absurd wants
-reads_behind view contender own dir path listed (Some behind) is wants e =
-    let at : behind_or dir (Some listed) ≡ behind =
-    subst (λ (b : Option Text). elim b [ None ↦ dir | Some one ↦ one ] ≡ behind) (sym is) refl in
-    let same : behind ≡ path = cc in
-    (subst (λ (p : Text). listed.behind ≡ Some p) same is, subst (λ (p : Text). shows_node view p ≡ false) same wants)
+-- a path at a place of a list is among them
+pub at_place : (paths : List Text) (place : ℕ) (path : Text) → slice_get paths place ≡ Some path → Among path paths
+at_place [] place path e = absurd cc
+at_place (one ∷ paths) zero path e = let same : one ≡ path = cc in inl (sym same)
+at_place (one ∷ paths) (suc place) path e = inr (at_place paths place path e)
+
+-- one that it waits for is read
+reads_behind : (view : View) (dir path : Text) (behind : List Text) (place : ℕ)
+    → ((found : Text) × (slice_get behind place ≡ Some found) × (shows_node view found ≡ false))
+    → Some (path_or dir (slice_get behind place)) ≡ Some path → Among path behind × (shows_node view path ≡ false)
+reads_behind view dir path behind place wants e =
+    let at : path_or dir (slice_get behind place) ≡ wants.0 = ap (path_or dir) wants.1 in
+    let same : wants.0 ≡ path = cc in
+    (at_place behind place path (wants.1 ∙ ap Some same), subst (λ (p : Text). shows_node view p ≡ false) same wants.2)
 
 unwatched : {A : Type 0} (view : View) (contender : LockContender A) (entry dir : Text) (bytes : Option (List ℕ)) (place : Place A)
     (ask : Ask) (path : Text) → WantsIn view contender place ask
     → path_watched (call_about entry bytes (path_asked dir place ask) ask) ≡ Some path → IsUnwatched view place path
 unwatched view contender entry dir bytes (At own listing) ReadOwn path wants e = let same : own ≡ path = cc in inl (sym same, wants)
-unwatched view contender entry dir bytes (At own None) ReadBehind path wants e = absurd wants.1
-unwatched view contender entry dir bytes (At own (Some listed)) ReadBehind path wants e =
-    let found = reads_behind view contender own dir path listed listed.behind refl wants.1 e in
+unwatched view contender entry dir bytes (At own None) (ReadBehind at) path wants e = absurd wants.1
+unwatched view contender entry dir bytes (At own (Some listed)) (ReadBehind at) path wants e =
+    let found = reads_behind view dir path listed.behind.items at wants.1 e in
     inr (listed, refl, found.0, found.1)
 unwatched view contender entry dir bytes (Making above) ReadOwn path wants e = absurd wants
-unwatched view contender entry dir bytes (Making above) ReadBehind path wants e = absurd wants
+unwatched view contender entry dir bytes (Making above) (ReadBehind at) path wants e = absurd wants
 unwatched view contender entry dir bytes Entering ReadOwn path wants e = absurd wants
-unwatched view contender entry dir bytes Entering ReadBehind path wants e = absurd wants
+unwatched view contender entry dir bytes Entering (ReadBehind at) path wants e = absurd wants
 unwatched view contender entry dir bytes Unsure ReadOwn path wants e = absurd wants
-unwatched view contender entry dir bytes Unsure ReadBehind path wants e = absurd wants
+unwatched view contender entry dir bytes Unsure (ReadBehind at) path wants e = absurd wants
 unwatched view contender entry dir bytes (Looking answered) ReadOwn path wants e = absurd wants
-unwatched view contender entry dir bytes (Looking answered) ReadBehind path wants e = absurd wants
+unwatched view contender entry dir bytes (Looking answered) (ReadBehind at) path wants e = absurd wants
 unwatched view contender entry dir bytes (Clearing leaving) ReadOwn path wants e = absurd wants
-unwatched view contender entry dir bytes (Clearing leaving) ReadBehind path wants e = absurd wants
+unwatched view contender entry dir bytes (Clearing leaving) (ReadBehind at) path wants e = absurd wants
 unwatched view contender entry dir bytes (Leaving own) ReadOwn path wants e = absurd wants
-unwatched view contender entry dir bytes (Leaving own) ReadBehind path wants e = absurd wants
+unwatched view contender entry dir bytes (Leaving own) (ReadBehind at) path wants e = absurd wants
 unwatched view contender entry dir bytes Left ReadOwn path wants e = absurd wants
-unwatched view contender entry dir bytes Left ReadBehind path wants e = absurd wants
+unwatched view contender entry dir bytes Left (ReadBehind at) path wants e = absurd wants
 unwatched view contender entry dir bytes place Make path wants e = absurd cc
 unwatched view contender entry dir bytes place Enter path wants e = absurd cc
 unwatched view contender entry dir bytes place Fence path wants e = absurd cc

@@ -1,31 +1,67 @@
 -- What is wanted at a place, and what becomes of one by an answer that is about it.
-use Rattle.std.proofs.Common.{ℤ, ◌≡◌, true, Option, None, sym, refl, subst, true≢false}
+use Rattle.std.proofs.Common.{ℕ, ℤ, ◌≡◌, ◌∙◌, true, false, arith, List, [], ◌∷◌, length, Option, sym, refl, subst, true≢false}
+use Rattle.std.specs.List.{list_all}
 use Rattle.zk_nodes.specs.Path.{Text}
 use Rattle.zk_turns.specs.View.{View}
 use Rattle.zk_turns.specs.Turns.{Outcome}
 use Rattle.zk_contend.specs.declared.contender.LockContender.{LockContender}
 use Rattle.zk_contend.specs.declared.listed.Listed.{Listed}
+use Rattle.zk_contend.specs.declared.naming.Naming.{Naming}
 use Rattle.zk_contend.specs.declared.place.Ask.{Ask}
 use Rattle.zk_contend.specs.declared.place.Ask.TheVariants.{List as ListsAgain, ReadBehind}
 use Rattle.zk_contend.specs.declared.place.Place.{Place}
-use Rattle.zk_contend.specs.Dues.{StandsAt, WantsBy, WantsListed}
+use Rattle.zk_contend.specs.declared.refused.Obstacle.{Obstacle}
+use Rattle.zk_contend.specs.declared.refused.Obstacle.TheVariants.{Code, TooManyWatches, TooLarge, SessionClosed, NumbersUsedUp, MixedNames}
+use Rattle.zk_contend.specs.Dues.{RestsBy, RestsListed, StandsAt, WantsBy, WantsListed}
+use Rattle.zk_contend.specs.Places.{shows_node}
 use Rattle.zk_contend.specs.Settling.{moved, Becomes, Hears}
+use Rattle.zk_contend.specs.Standings.{is_mixed_in, IsObstacle, IsStuckIn}
 use Rattle.zk_contend.specs.inner.Abouts.{is_about_place}
 
+-- a list of no length
+pub no_items : {X : Type 0} (items : List X) → length items ≡ 0 → items ≡ []
+no_items [] none = refl
+no_items (item ∷ items) none = absurd (omega (arith, none))
+
 pub wants_again : {A : Type 0} (view : View) (contender : LockContender A) (own : Text) (listed : Listed A)
-    → listed.behind ≡ None → ((token : ℤ) → StandsAt view contender own listed token → ⊥) → WantsListed view contender own listed ListsAgain
+    → listed.behind.items ≡ [] → ((token : ℤ) → StandsAt view contender own listed token → ⊥)
+    → WantsListed view contender own listed ListsAgain
 wants_again view contender own listed none stands =
-    subst (λ (b : Option Text). WantsBy view contender own listed b ListsAgain) (sym none) stands
+    subst (λ (b : List Text). WantsBy view contender own listed b ListsAgain) (sym none) stands
+
+-- each that it waits for is watched, if there is one
+pub rests_watched : {A : Type 0} (view : View) (contender : LockContender A) (own : Text) (listed : Listed A) (behind : List Text)
+    → listed.behind.items ≡ behind → (behind ≡ [] → ⊥) → list_all (shows_node view) behind ≡ true
+    → RestsListed view contender own listed
+rests_watched view contender own listed [] is some watched = absurd (some refl)
+rests_watched view contender own listed (path ∷ behind) is some watched =
+    subst (λ (b : List Text). RestsBy view contender own listed b) (sym is) watched
+
+-- nobody is waited for, and it holds
+pub rests_held : {A : Type 0} (view : View) (contender : LockContender A) (own : Text) (listed : Listed A) (token : ℤ)
+    → listed.behind.items ≡ [] → StandsAt view contender own listed token → RestsListed view contender own listed
+rests_held view contender own listed token none stands =
+    subst (λ (b : List Text). RestsBy view contender own listed b) (sym none) (token, stands)
 
 pub hears_of_place : {A : Type 0} (session : ℤ) (contender : LockContender A) (ask : Ask) (outcome : Outcome) (next : Option (Place A))
     (new : Place A) → is_about_place ask ≡ true → Becomes session contender contender.place ask outcome next
     → new ≡ moved contender.place next → Hears session contender ask outcome new
 hears_of_place session contender ListsAgain outcome next new about is e = absurd (true≢false (sym about))
-hears_of_place session contender ReadBehind outcome next new about is e = absurd (true≢false (sym about))
+hears_of_place session contender (ReadBehind at) outcome next new about is e = absurd (true≢false (sym about))
 hears_of_place session contender ask outcome next new about is e = (next, is, e)
 
 -- another thing is about the place
-pub about_place : (ask : Ask) → (ask ≡ ListsAgain → ⊥) → (ask ≡ ReadBehind → ⊥) → is_about_place ask ≡ true
+pub about_place : (ask : Ask) → (ask ≡ ListsAgain → ⊥) → ((at : ℕ) → ask ≡ ReadBehind at → ⊥) → is_about_place ask ≡ true
 about_place ListsAgain lists reads = absurd (lists refl)
-about_place ReadBehind lists reads = absurd (reads refl)
+about_place (ReadBehind at) lists reads = absurd (reads at refl)
 about_place ask lists reads = refl
+
+-- nothing is in its way
+pub no_obstacle : {A : Type 0} (view : View) (dir : Text) (naming : Naming) (place : Place A) → is_mixed_in naming place ≡ false
+    → ¬ (IsStuckIn view dir naming place) → (why : Obstacle) → IsObstacle view dir naming place why → ⊥
+no_obstacle view dir naming place unmixed free MixedNames is = true≢false (sym is ∙ unmixed)
+no_obstacle view dir naming place unmixed free NumbersUsedUp is = free is.1
+no_obstacle view dir naming place unmixed free (Code code) is = is
+no_obstacle view dir naming place unmixed free TooManyWatches is = is
+no_obstacle view dir naming place unmixed free TooLarge is = is
+no_obstacle view dir naming place unmixed free SessionClosed is = is

@@ -1,10 +1,10 @@
 -- What a contender asks, and when it rests.
-use Rattle.std.specs.Prelude.{ℕ, ℤ, ◌≡◌, ◌⊎◌, true, false, ⊤, List, Option, Some, None, is_some, option_map}
+use Rattle.std.specs.Prelude.{ℕ, ℤ, ◌≡◌, ◌⊎◌, true, false, ⊤, List, [], ◌∷◌, Option, Some, None, is_some, option_map, slice_get}
+use Rattle.std.specs.List.{list_all}
 use Rattle.zk_nodes.specs.Path.{Text}
 use Rattle.zk_conversation.specs.Calls.{Call}
 use Rattle.zk_conversation.specs.Calls as call
 use Rattle.zk_turns.specs.View.{View}
-use Rattle.zk_conclusions.specs.Standings.{ShowsStanding}
 use Rattle.zk_contend.specs.declared.contender.LockContender.{LockContender}
 use Rattle.zk_contend.specs.declared.listed.Listed.{Listed}
 use Rattle.zk_contend.specs.declared.place.Ask.{Ask}
@@ -12,21 +12,22 @@ use Rattle.zk_contend.specs.declared.place.Ask.TheVariants.{Make, Enter, Fence, 
 use Rattle.zk_contend.specs.declared.place.Place.{Place}
 use Rattle.zk_contend.specs.declared.place.Place.TheVariants.{Making, Entering, Unsure, Looking, Clearing, At, Leaving, Left}
 use Rattle.zk_contend.specs.Hearing.{is_paused}
-use Rattle.zk_contend.specs.Namings.{kind_in}
+use Rattle.zk_contend.specs.Leases.{StandsBy}
 use Rattle.zk_contend.specs.Places.{is_ready, shows_node, shows_own}
 
--- By what the client shows, the session stands first at this place, for a listing that the contender has.
+-- By what the client shows, fewer than may hold at once are before this place, for a listing that the contender has, in which no name is
+-- another family's.
 abbrev pub StandsAt : {A : Type 0} → View → LockContender A → (own : Text) → Listed A → (token : ℤ) → Type 0
 StandsAt view contender own listed token =
-    ShowsStanding view contender.directory (kind_in contender.naming) listed.names listed.zxid own token
+    StandsBy view contender.directory contender.naming listed.names listed.zxid own token
 
--- Somebody is before it, and is watched; or it stands first.
-abbrev pub RestsBy : {A : Type 0} → View → LockContender A → (own : Text) → Listed A → (behind : Option Text) → Type 0
-RestsBy view contender own listed (Some behind) = shows_node view behind ≡ true
-RestsBy view contender own listed None = (token : ℤ) × StandsAt view contender own listed token
+-- It waits for these, and each is watched; or it holds.
+abbrev pub RestsBy : {A : Type 0} → View → LockContender A → (own : Text) → Listed A → (behind : List Text) → Type 0
+RestsBy view contender own listed [] = (token : ℤ) × StandsAt view contender own listed token
+RestsBy view contender own listed (path ∷ behind) = list_all (shows_node view) (path ∷ behind) ≡ true
 
 abbrev pub RestsListed : {A : Type 0} → View → LockContender A → (own : Text) → Listed A → Type 0
-RestsListed view contender own listed = RestsBy view contender own listed listed.behind
+RestsListed view contender own listed = RestsBy view contender own listed listed.behind.items
 
 -- The place is watched too.
 abbrev pub RestsAt : {A : Type 0} → View → LockContender A → (own : Text) → Option (Listed A) → Type 0
@@ -51,15 +52,16 @@ IsAtRest view now contender =
 abbrev pub IsAsleep : {A : Type 0} → View → LockContender A → Type 0
 IsAsleep view contender = (is_some contender.asked ≡ true) ⊎ Rests view contender
 
--- Which of two reads by the last listing: of the one before it, only if that one is not watched; the names again, if there is none and it
--- does not stand first.
-abbrev pub WantsBy : {A : Type 0} → View → LockContender A → (own : Text) → Listed A → (behind : Option Text) → Ask → Type 0
-WantsBy view contender own listed (Some behind) ReadBehind = shows_node view behind ≡ false
-WantsBy view contender own listed None Lists = (token : ℤ) → ¬ (StandsAt view contender own listed token)
+-- Which of two reads by the last listing: of one that it waits for, only if that one is not watched; the names again, if there is none and
+-- it does not hold.
+abbrev pub WantsBy : {A : Type 0} → View → LockContender A → (own : Text) → Listed A → (behind : List Text) → Ask → Type 0
+WantsBy view contender own listed behind (ReadBehind place) =
+    (path : Text) × (slice_get behind place ≡ Some path) × (shows_node view path ≡ false)
+WantsBy view contender own listed [] Lists = (token : ℤ) → ¬ (StandsAt view contender own listed token)
 WantsBy view contender own listed _ _ = ⊥
 
 abbrev pub WantsListed : {A : Type 0} → View → LockContender A → (own : Text) → Listed A → Ask → Type 0
-WantsListed view contender own listed ask = WantsBy view contender own listed listed.behind ask
+WantsListed view contender own listed ask = WantsBy view contender own listed listed.behind.items ask
 
 abbrev pub WantsNext : {A : Type 0} → View → LockContender A → (own : Text) → Option (Listed A) → Ask → Type 0
 WantsNext view contender own None Lists = ⊤
@@ -90,15 +92,19 @@ IsDue view now contender ask =
     (is_some contender.asked ≡ false) × (is_paused now contender.refused ≡ false) × (is_ready view ≡ true) × Wants view contender ask
 
 -- the path that it is about: the directory, unless it is about one node
-abbrev pub behind_or : {A : Type 0} → (dir : Text) → Option (Listed A) → Text
-behind_or dir None = dir
-behind_or dir (Some listed) = elim listed.behind [ None ↦ dir | Some behind ↦ behind ]
+abbrev pub path_or : (dir : Text) → Option Text → Text
+path_or dir None = dir
+path_or dir (Some path) = path
+
+abbrev pub behind_or : {A : Type 0} → (dir : Text) → Option (Listed A) → (place : ℕ) → Text
+behind_or dir None place = dir
+behind_or dir (Some listed) place = path_or dir (slice_get listed.behind.items place)
 
 abbrev pub path_asked : {A : Type 0} → (dir : Text) → Place A → Ask → Text
 path_asked dir (Making path) Make = path
 path_asked dir (Clearing leaving) Clear = leaving
 path_asked dir (At own listing) ReadOwn = own
-path_asked dir (At own listing) ReadBehind = behind_or dir listing
+path_asked dir (At own listing) (ReadBehind place) = behind_or dir listing place
 path_asked dir (Leaving own) Leave = own
 path_asked dir _ _ = dir
 
@@ -111,7 +117,7 @@ call_about entry bytes path Look = call.GetChildren path false
 call_about entry bytes path Clear = call.Delete path (ℤ.negsuc 0)
 call_about entry bytes path ReadOwn = call.GetData path true
 call_about entry bytes path Lists = call.GetChildren path false
-call_about entry bytes path ReadBehind = call.GetData path true
+call_about entry bytes path (ReadBehind place) = call.GetData path true
 call_about entry bytes path Leave = call.Delete path (ℤ.negsuc 0)
 
 abbrev pub call_asked : {A : Type 0} → LockContender A → Ask → Call

@@ -1,5 +1,6 @@
 -- A contender: how its place is named, what it asks, what it hears, and what follows.
 pub mod Namings
+pub mod Leases
 pub mod Places
 pub mod Dues
 pub mod Hearing

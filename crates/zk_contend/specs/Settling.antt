@@ -7,17 +7,17 @@ use Rattle.zk_nodes.specs.Path.{Text, Name}
 use Rattle.zk_conversation.specs.Results.{Result, NoNode, Refused as Refused_by, Read, Listing, Done}
 use Rattle.zk_turns.specs.Turns.{Outcome, Replied}
 use Rattle.zk_turns.specs.Meaning.{Among}
-use Rattle.zk_conclusions.specs.Numbers.{Kind}
 use Rattle.zk_conclusions.specs.Tags.{has_tag, IsLeastOf}
 use Rattle.zk_contend.specs.declared.contender.LockContender.{LockContender}
 use Rattle.zk_contend.specs.declared.listed.Listed.{Listed}
+use Rattle.zk_contend.specs.declared.naming.Naming.{Naming}
 use Rattle.zk_contend.specs.declared.place.Ask.{Ask}
 use Rattle.zk_contend.specs.declared.place.Ask.TheVariants.{Make, Enter, Fence, Look, Clear, ReadOwn, List as Lists, ReadBehind, Leave}
 use Rattle.zk_contend.specs.declared.place.Place.{Place}
 use Rattle.zk_contend.specs.declared.place.Place.TheVariants.{Making, Entering, Unsure, Looking, Clearing, At, Leaving, Left}
 use Rattle.zk_contend.specs.Hearing.{entered, entering, made}
-use Rattle.zk_contend.specs.Namings.{kind_in}
-use Rattle.zk_contend.specs.Places.{IsBehind, path_in}
+use Rattle.zk_contend.specs.Namings.{is_mixed, kind_in, most_in}
+use Rattle.zk_contend.specs.Places.{path_in, IsBehindWhere}
 
 -- the place, where it is another one
 abbrev pub moved : {A : Type 0} → Place A → Option (Place A) → Place A
@@ -98,7 +98,7 @@ abbrev pub own_read : {A : Type 0} → (session : ℤ) → Outcome → Option (P
 own_read session (Replied zxid result) = if is_others session result then Some Entering else None
 own_read session _ = None
 
--- What becomes of a place by the answer to what was asked, except by a listing and by a read of the one before it.
+-- What becomes of a place by the answer to what was asked, except by a listing and by a read of one that it waits for.
 abbrev pub Becomes : {A : Type 0} → (session : ℤ) → LockContender A → Place A → Ask → Outcome → Option (Place A) → Type 0
 Becomes session contender (Making path) Make outcome next = next ≡ made contender.directory path outcome
 Becomes session contender Entering Enter outcome next =
@@ -116,7 +116,7 @@ abbrev pub unlisted : {A : Type 0} → Place A → Place A
 unlisted (At own listing) = At own None
 unlisted place = place
 
--- The one before it is not there, or is not for this session to read: it is listed again.
+-- One that it waits for is not there, or is not for this session to read: it is listed again.
 abbrev pub is_unread : Result → Bool
 is_unread NoNode = true
 is_unread (Refused_by code) = true
@@ -135,24 +135,24 @@ lost (At own listing) = Entering
 lost place = place
 
 -- The place has this listing, by the answer with these names.
-abbrev pub IsListedAt : {A : Type 0} → (dir : Text) → Kind → (names : List Name) → (zxid : ℤ) → (place new : Place A) → Type 0
-IsListedAt {A} dir kind names zxid (At own listing) new =
+abbrev pub IsListedAt : {A : Type 0} → (dir : Text) → Naming → (names : List Name) → (zxid : ℤ) → (place new : Place A) → Type 0
+IsListedAt {A} dir naming names zxid (At own listing) new =
     (listed : Listed A) × (new ≡ At own (Some listed)) × (listed.names ≡ names) × (listed.zxid ≡ zxid)
-    × IsBehind dir kind names own listed.behind
-IsListedAt dir kind names zxid place new = new ≡ place
+    × IsBehindWhere (is_mixed naming names) dir (kind_in naming) (most_in naming) names own listed.behind.items
+IsListedAt dir naming names zxid place new = new ≡ place
 
-abbrev pub IsListedBy : {A : Type 0} → (dir : Text) → Kind → (zxid : ℤ) → Result → (place new : Place A) → Type 0
-IsListedBy dir kind zxid (Listing names stat) place new = IsListedAt dir kind names zxid place new
-IsListedBy dir kind zxid NoNode place new = new ≡ lost place
-IsListedBy dir kind zxid _ place new = new ≡ place
+abbrev pub IsListedBy : {A : Type 0} → (dir : Text) → Naming → (zxid : ℤ) → Result → (place new : Place A) → Type 0
+IsListedBy dir naming zxid (Listing names stat) place new = IsListedAt dir naming names zxid place new
+IsListedBy dir naming zxid NoNode place new = new ≡ lost place
+IsListedBy dir naming zxid _ place new = new ≡ place
 
-abbrev pub IsListed : {A : Type 0} → (dir : Text) → Kind → Outcome → (place new : Place A) → Type 0
-IsListed dir kind (Replied zxid result) place new = IsListedBy dir kind zxid result place new
-IsListed dir kind _ place new = new ≡ place
+abbrev pub IsListed : {A : Type 0} → (dir : Text) → Naming → Outcome → (place new : Place A) → Type 0
+IsListed dir naming (Replied zxid result) place new = IsListedBy dir naming zxid result place new
+IsListed dir naming _ place new = new ≡ place
 
 -- What becomes of the place by the answer to what was asked.
 abbrev pub Hears : {A : Type 0} → (session : ℤ) → LockContender A → Ask → Outcome → (new : Place A) → Type 0
-Hears session contender Lists outcome new = IsListed contender.directory (kind_in contender.naming) outcome contender.place new
-Hears session contender ReadBehind outcome new = new ≡ unlisted_by outcome contender.place
+Hears session contender Lists outcome new = IsListed contender.directory contender.naming outcome contender.place new
+Hears session contender (ReadBehind place) outcome new = new ≡ unlisted_by outcome contender.place
 Hears {A} session contender ask outcome new =
     (next : Option (Place A)) × Becomes session contender contender.place ask outcome next × (new ≡ moved contender.place next)

@@ -4,8 +4,6 @@ ghost use Rattle.std.specs.Prelude.{◌≡◌, true, IfOk, OnErr, OnOk};
 ghost use Rattle.zk_records.specs.Codes.{code_number};
 ghost use Rattle.zk_conversation.specs.Views.{code_result};
 ghost use Rattle.zk_client.specs.Views.{call_result_view, outcome_view};
-ghost use Rattle.zk_conclusions.specs.Kinds.{kind_of};
-ghost use Rattle.zk_contend.specs.Namings.{kind_in};
 ghost use Rattle.zk_contend.specs.Settling.{cleared, fenced, is_gone, is_others, is_unread_by, left_by, lost, moved, own_read};
 ghost use Rattle.zk_contend.specs.Settling.{unlisted, unlisted_by, Becomes, Hears, IsListed, IsListedAt};
 ghost use Rattle.zk_contend.specs.inner.Abouts.{is_about_place};
@@ -95,7 +93,7 @@ fn own_read<A: Allocator>(session: i64, outcome: &Outcome<A>) -> Option<Place<A>
     }
 }
 
-/// Whether the one before it is not there, or is not for this session to read, by a read of it.
+/// Whether one that it waits for is not there, or is not for this session to read, by a read of it.
 fn is_unread<A: Allocator>(outcome: &Outcome<A>) -> bool
     ensures { result ≡ is_unread_by (outcome_view outcome.now) }
 {
@@ -178,7 +176,7 @@ impl<A: Allocator + Copy> LockContender<A> {
         }
     }
 
-    /// Hears of a read of the one before it.
+    /// Hears of a read of one that it waits for.
     fn hear_of_behind(&mut self, outcome: &Outcome<A>)
         ensures { self.new ≡ record self.old { place = unlisted_by (outcome_view outcome.now) self.old.place } }
     {
@@ -198,22 +196,21 @@ impl<A: Allocator + Copy> LockContender<A> {
 
     /// Keeps a listing, if the place is known.
     fn list(&mut self, names: JoinedTexts<A>, zxid: i64) -> Result<(), AllocError>
-        ensures listed { OnOk result (IsListedAt self.old.directory (kind_in self.old.naming) names zxid self.old.place self.new.place) }
+        ensures listed { OnOk result (IsListedAt self.old.directory self.old.naming names zxid self.old.place self.new.place) }
         ensures same { OnErr result (self.new ≡ self.old) }
         ensures rest { self.new ≡ record self.old { place = self.new.place } }
     {
-        let kind = self.naming.kind();
         let Place::At { own, listing } = &mut self.place else {
             return Ok(());
         };
-        let listed = listed_of(self.alloc, &self.directory, &kind, own, names, zxid)?;
+        let listed = listed_of(self.alloc, &self.directory, self.naming, own, names, zxid)?;
         *listing = Some(listed);
         Ok(())
     }
 
     /// Hears of a listing.
     fn hear_of_names(&mut self, outcome: Outcome<A>) -> Result<(), AllocError>
-        ensures listed { OnOk result (IsListed self.old.directory (kind_in self.old.naming) (outcome_view outcome) self.old.place
+        ensures listed { OnOk result (IsListed self.old.directory self.old.naming (outcome_view outcome) self.old.place
             self.new.place) }
         ensures same { OnErr result (self.new ≡ self.old) }
         ensures rest { self.new ≡ record self.old { place = self.new.place } }
@@ -249,7 +246,7 @@ impl<A: Allocator + Copy> LockContender<A> {
     {
         match ask {
             Ask::List => self.hear_of_names(outcome),
-            Ask::ReadBehind => {
+            Ask::ReadBehind { .. } => {
                 self.hear_of_behind(&outcome);
                 Ok(())
             }

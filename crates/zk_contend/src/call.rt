@@ -13,16 +13,17 @@ use std::alloc::{AllocError, Allocator};
 use zk_client::{Call, CreateMode, Path};
 use zk_nodes::copied_data;
 
-/// The path of the one before it, and the directory if there is none.
+/// The path of one that it waits for, at this place of theirs, and the directory if there is none.
 fn behind_or<'a, A: Allocator>(
     directory: &'a Path<A>,
     listing: &'a Option<Listed<A>>,
+    place: usize,
 ) -> &'a Path<A>
-    ensures { result.now ≡ behind_or directory.now listing.now }
+    ensures { result.now ≡ behind_or directory.now listing.now place }
 {
     match listing {
-        Some(listed) => match &listed.behind {
-            Some(behind) => behind,
+        Some(listed) => match listed.behind.get(place) {
+            Some(path) => path,
             None => directory,
         },
         None => directory,
@@ -41,7 +42,9 @@ fn path_asked<'a, A: Allocator>(
         (Place::Making { path }, Ask::Make) => path,
         (Place::Clearing { leaving }, Ask::Clear) => leaving,
         (Place::At { own, listing: _ }, Ask::ReadOwn) => own,
-        (Place::At { own: _, listing }, Ask::ReadBehind) => behind_or(directory, listing),
+        (Place::At { own: _, listing }, Ask::ReadBehind { place }) => {
+            behind_or(directory, listing, place)
+        }
         (Place::Leaving { own }, Ask::Leave) => own,
         _ => directory,
     }
@@ -78,7 +81,7 @@ impl<A: Allocator + Copy> LockContender<A> {
         let path = copied(self.alloc, path_asked(&self.directory, &self.place, ask))?;
         Ok(match ask {
             Ask::Look | Ask::List => Call::GetChildren { path, watch: false },
-            Ask::ReadOwn | Ask::ReadBehind => Call::GetData { path, watch: true },
+            Ask::ReadOwn | Ask::ReadBehind { .. } => Call::GetData { path, watch: true },
             Ask::Clear | Ask::Leave => Call::Delete { path, version: -1 },
             _ => Call::Create {
                 path,

@@ -1,12 +1,12 @@
 //! The calls of contenders that were asked and not heard of.
 
-ghost use Rattle.std.specs.Prelude.{◌≡◌, ◌≤◌, ◌+◌, ℕ, false, nat_eq, nat_lt, not, is_some, None, Some, IfOk, OnOk};
+ghost use Rattle.std.specs.Prelude.{◌≡◌, ◌≤◌, ◌+◌, ℕ, true, false, nat_eq, nat_lt, not, is_some, None, Some, IfOk, OnOk};
 ghost use Rattle.std.specs.Map.{update};
 ghost use Rattle.std.proofs.Props.{props};
 ghost use Rattle.indexmap.specs.IndexMap.{get};
 ghost use Rattle.zk_contend.specs.Tickets.{first_call};
 
-use crate::roll::{ByTicket, forget_all, put, take_out};
+use crate::roll::{ByTicket, forget_all, has_none, put, take_out};
 use indexmap::IndexMap;
 use std::alloc::{AllocError, Allocator};
 
@@ -38,6 +38,14 @@ impl<A: Allocator + Copy> Calls<A> {
             askers: IndexMap::new(alloc),
             next: FIRST_CALL,
         }
+    }
+
+    /// Whether each call was heard of.
+    pub(crate) fn is_empty(&self) -> bool
+        ensures none { result ≡ true → (call : ℕ) → get nat_eq self.now.askers call ≡ None }
+        ensures one { result ≡ false → (call : ℕ) × (is_some (get nat_eq self.now.askers call) ≡ true) }
+    {
+        has_none(&self.askers)
     }
 
     /// Whether this call was asked and not heard of.

@@ -4,7 +4,7 @@ use crate::calls::Calls;
 use crate::contender::LockContender;
 use crate::kept::is_ready;
 use crate::roll::{
-    Roll, ask_at, close_each, give_up_at, hear_at, note_each, put, renew_each, tell_each,
+    Roll, ask_at, close_each, give_up_at, has_none, hear_at, note_each, put, renew_each, tell_each,
 };
 use crate::status::LockStatus;
 use crate::stirred::Stirred;
@@ -25,7 +25,7 @@ pub struct Contenders<A: Allocator + Copy = Global> {
 }
 
 impl<A: Allocator + Copy> Contenders<A> {
-    ghost use Rattle.std.specs.Prelude.{◌≡◌, [], ℕ, false, nat_lt, not, is_some, None, IfOk, IfSome, OnErr, OnOk, if◌then◌else◌};
+    ghost use Rattle.std.specs.Prelude.{◌≡◌, ◌⊎◌, [], ℕ, true, false, nat_lt, not, is_some, None, IfOk, IfSome, OnErr, OnOk, if◌then◌else◌};
     ghost use Rattle.std.specs.List.{FoldsTo};
     ghost use Rattle.std.specs.Option.{option_copied};
     ghost use Rattle.zk_client.specs.Clients.{view_of};
@@ -48,6 +48,16 @@ impl<A: Allocator + Copy> Contenders<A> {
             calls: Calls::new(alloc),
             stirred: Stirred::new(alloc),
         }
+    }
+
+    /// Whether there is no contender, and no call of one is to be heard of: then nothing is due, and nothing is to be told.
+    pub fn is_empty(&self) -> bool
+        ensures nobody { result ≡ true → (ticket : ℕ) → one_of self.now ticket ≡ None }
+        ensures nothing { result ≡ true → (call : ℕ) → asker_of self.now call ≡ None }
+        ensures otherwise { result ≡ false → ((ticket : ℕ) × (is_some (one_of self.now ticket) ≡ true))
+            ⊎ ((call : ℕ) × (is_some (asker_of self.now call) ≡ true)) }
+    {
+        has_none(&self.all) && self.calls.is_empty()
     }
 
     /// A contender joins, unless another one has the ticket: it says whether it does. An error means that memory ran out, and it did not.

@@ -1,13 +1,20 @@
 //! A contender.
 
-ghost use Rattle.std.specs.Prelude.{◌≡◌};
+ghost use Rattle.std.specs.Prelude.{◌≡◌, ◌≢◌, ◌≤◌, ◌+◌, length, None, Some, IfErr, IfOk, OnOk};
+ghost use Rattle.std.specs.List.{list_all};
 ghost use Rattle.zk_client.specs.Clients.{view_of};
-ghost use Rattle.zk_contend.specs.Contenders.{is_entering, is_listing, is_named, leaves};
+ghost use Rattle.zk_nodes.specs.Path.{child_text};
+ghost use Rattle.zk_nodes.specs.PathFault.{child_fault};
+ghost use Rattle.zk_nodes.specs.declared.path_fault.PathFault.TheVariants.{Memory};
+ghost use Rattle.zk_contend.specs.Contenders.{entry_fault, is_entering, is_listing, is_named, leaves};
+ghost use Rattle.zk_contend.specs.Places.{shows_node};
 ghost use Rattle.zk_contend.specs.Standings.{waiting, waits_for};
 
 use crate::kept::{session_of, shows_node, shows_own};
+use crate::lease::token_by;
 use crate::listed::Listed;
 use crate::made::entering;
+use crate::mixed::is_mixed;
 use crate::naming::Naming;
 use crate::place::{Ask, Place};
 use crate::refused::{Obstacle, Refused, later, refused_after};
@@ -15,7 +22,7 @@ use crate::status::{LockStatus, news_of};
 use std::alloc::{AllocError, Allocator, Global};
 use std::mem;
 use zk_client::{Call, Client, Event, Outcome, Path, PathFault};
-use zk_conclusions::{Listing, Standing};
+use zk_conclusions::Listing;
 use zk_limits::LONGEST_PATH;
 
 /// How many digits a sequential create adds to a name.
@@ -41,24 +48,27 @@ pub struct LockContender<A: Allocator + Copy = Global> {
 }
 
 impl<A: Allocator + Copy> LockContender<A> {
-    ghost use Rattle.std.specs.Prelude.{◌≡◌, ◌≤◌, ◌+◌, ℤ, true, false, length, None, Some, IfOk, OnErr, OnOk, IfSome};
+    ghost use Rattle.std.specs.Prelude.{◌≡◌, ◌≢◌, ◌≤◌, ◌+◌, ℤ, true, false, length, None, Some, IfErr, IfOk, OnErr, OnOk, IfSome};
+    ghost use Rattle.zk_nodes.specs.declared.path_fault.PathFault.TheVariants.{Memory};
     ghost use Rattle.std.specs.Option.{option_copied, option_map};
     ghost use Rattle.zk_client.specs.Clients.{view_of};
     ghost use Rattle.zk_client.specs.Views.{outcome_view};
     ghost use Rattle.zk_conversation.specs.Views.{call_view};
     ghost use Rattle.zk_contend.specs.Dues.{call_asked, IsAtRest, StandsAt};
-    ghost use Rattle.zk_contend.specs.Namings.{kind_in};
     ghost use Rattle.zk_contend.specs.declared.status.LockStatus.{LockStatus};
     ghost use Rattle.zk_contend.specs.Standings.{is_left, news_of, otherwise, standing_in, told_after};
     ghost use Rattle.zk_contend.specs.Standings.{IsOtherwise, IsStuckAt, IsStuckBy, IsStuckIn, IsUnshown, ShowsContender, TellsHeld};
+    ghost use Rattle.zk_contend.specs.Standings.{is_mixed_in, IsObstacle};
+    ghost use Rattle.zk_contend.specs.Namings.{is_mixed};
+    ghost use Rattle.zk_contend.specs.declared.refused.Obstacle.{Obstacle};
     ghost use Rattle.zk_contend.specs.Contenders.{closed, forgotten, given_up, has_left, is_about, is_at, is_behind, noted, own_of};
-    ghost use Rattle.zk_contend.specs.Contenders.{renewed};
+    ghost use Rattle.zk_contend.specs.Contenders.{contender_fault, renewed};
     ghost use Rattle.zk_contend.specs.Contenders.{IsAsked, IsFresh, IsHeard, IsHeardOf, IsRefusal};
 
     /// A contender in this directory, which is made if it is not there. The guid is to be a text that no other contender has: 32
     /// hexadecimal digits for kazoo's names, a UUID for Curator's. `may_be_there` says that this session may have sent a create with it
-    /// before, as after a restart: then the place is looked for first. An error means that no place in this directory has a path, or that
-    /// memory ran out.
+    /// before, as after a restart: then the place is looked for first. An error says why no place in this directory has a path (`refused`,
+    /// `accepted`), or that memory ran out.
     pub fn new(
         alloc: A,
         directory: Path<A>,
@@ -70,12 +80,11 @@ impl<A: Allocator + Copy> LockContender<A> {
         ensures fresh { IfOk result (λ contender. IsFresh directory naming guid.now may_be_there contender) }
         ensures bytes { IfOk result (λ contender. contender.data ≡ bytes) }
         ensures fits { IfOk result (λ contender. length contender.entry + 10 ≤ LONGEST_PATH) }
+        ensures accepted { OnOk result (contender_fault directory naming guid.now ≡ None) }
+        ensures refused { IfErr result (λ fault. fault ≢ Memory → contender_fault directory naming guid.now ≡ Some fault) }
     {
         let front = naming.front(alloc, guid)?;
-        let entry = directory.join(alloc, front.as_str())?;
-        if entry.as_str().len() + DIGITS > LONGEST_PATH {
-            return Err(PathFault::TooLong);
-        }
+        let entry = entry_in(alloc, &directory, front.as_str())?;
         let place = if may_be_there {
             Place::Unsure
         } else {
@@ -131,27 +140,24 @@ impl<A: Allocator + Copy> LockContender<A> {
         ensures shows { IfSome result (λ token. StandsAt (view_of client.now) self.now own.now listed.now token) }
         ensures none { result ≡ None → (token : ℤ) → ¬ (StandsAt (view_of client.now) self.now own.now listed.now token) }
     {
-        let kind = self.naming.kind();
         let listing = Listing {
             directory: &self.directory,
             names: &listed.names,
             zxid: listed.zxid,
         };
-        let standing = Standing::of(client, &listing, &kind, own);
+        let token = token_by(client, &listing, self.naming, own);
         let Listing {
             directory: _directory,
             names: _names,
             zxid: _zxid,
         } = listing;
-        match standing {
-            Some(standing) => Some(standing.token()),
-            None => None,
-        }
+        token
     }
 
-    /// The token, if the session holds: exactly if the client shows that no rival is before its place, by a listing that was answered
-    /// since it came there (`shows`, `none`). Under servers of a history it is so there at the client's last seen zxid (`held_is_true` of
-    /// [`laws`](crate::laws)). It may be lost since: hand the token to what is protected.
+    /// The token, if the session holds: exactly if the client shows that no rival is before its place, or of a lease fewer than may hold
+    /// at once, by a listing that was answered since it came there and has no name of another family (`shows`, `none`). Under servers of a
+    /// history it is so there at the client's last seen zxid (`held_is_true` of [`laws`](crate::laws)). It may be lost since: hand the
+    /// token to what is protected.
     pub fn held(&self, client: &Client<A>) -> Option<i64>
         ensures shows { IfSome result (λ token. ShowsContender (view_of client.now) self.now token) }
         ensures none { result ≡ None → (token : ℤ) → ¬ (ShowsContender (view_of client.now) self.now token) }
@@ -165,10 +171,10 @@ impl<A: Allocator + Copy> LockContender<A> {
         }
     }
 
-    /// Whether the place is watched, and does not stand first.
+    /// Whether the place is watched, and does not hold.
     fn is_unshown(&self, client: &Client<A>, own: &Path<A>, listed: &Listed<A>) -> bool
-        ensures yes { result ≡ true → IsUnshown (view_of client.now) self.now.directory (kind_in self.now.naming) own.now listed.now }
-        ensures no { result ≡ false → ¬ (IsUnshown (view_of client.now) self.now.directory (kind_in self.now.naming) own.now listed.now) }
+        ensures yes { result ≡ true → IsUnshown (view_of client.now) self.now.directory self.now.naming own.now listed.now }
+        ensures no { result ≡ false → ¬ (IsUnshown (view_of client.now) self.now.directory self.now.naming own.now listed.now) }
     {
         if !shows_own(client, own) {
             return false;
@@ -180,18 +186,18 @@ impl<A: Allocator + Copy> LockContender<A> {
     }
 
     fn is_stuck_at(&self, client: &Client<A>, own: &Path<A>, listed: &Listed<A>) -> bool
-        ensures yes { result ≡ true → IsStuckAt (view_of client.now) self.now.directory (kind_in self.now.naming) own.now listed.now }
-        ensures no { result ≡ false → ¬ (IsStuckAt (view_of client.now) self.now.directory (kind_in self.now.naming) own.now listed.now) }
+        ensures yes { result ≡ true → IsStuckAt (view_of client.now) self.now.directory self.now.naming own.now listed.now }
+        ensures no { result ≡ false → ¬ (IsStuckAt (view_of client.now) self.now.directory self.now.naming own.now listed.now) }
     {
-        match &listed.behind {
-            Some(_) => false,
-            None => self.is_unshown(client, own, listed),
+        if !listed.behind.is_empty() {
+            return false;
         }
+        self.is_unshown(client, own, listed)
     }
 
     fn is_stuck_by(&self, client: &Client<A>, own: &Path<A>, listing: &Option<Listed<A>>) -> bool
-        ensures yes { result ≡ true → IsStuckBy (view_of client.now) self.now.directory (kind_in self.now.naming) own.now listing.now }
-        ensures no { result ≡ false → ¬ (IsStuckBy (view_of client.now) self.now.directory (kind_in self.now.naming) own.now listing.now) }
+        ensures yes { result ≡ true → IsStuckBy (view_of client.now) self.now.directory self.now.naming own.now listing.now }
+        ensures no { result ≡ false → ¬ (IsStuckBy (view_of client.now) self.now.directory self.now.naming own.now listing.now) }
     {
         match listing {
             Some(listed) => self.is_stuck_at(client, own, listed),
@@ -199,15 +205,61 @@ impl<A: Allocator + Copy> LockContender<A> {
         }
     }
 
-    /// Whether nobody is before the place by its listing, it is watched, and yet it does not stand first.
+    /// Whether it waits for nobody by its listing, the place is watched, and yet it does not hold.
     fn is_stuck(&self, client: &Client<A>) -> bool
-        ensures yes { result ≡ true → IsStuckIn (view_of client.now) self.now.directory (kind_in self.now.naming) self.now.place }
-        ensures no { result ≡ false → ¬ (IsStuckIn (view_of client.now) self.now.directory (kind_in self.now.naming) self.now.place) }
+        ensures yes { result ≡ true → IsStuckIn (view_of client.now) self.now.directory self.now.naming self.now.place }
+        ensures no { result ≡ false → ¬ (IsStuckIn (view_of client.now) self.now.directory self.now.naming self.now.place) }
     {
         match &self.place {
             Place::At { own, listing } => self.is_stuck_by(client, own, listing),
             _ => false,
         }
+    }
+
+    /// Whether a name of this listing is another family's.
+    fn is_mixed_by(&self, listed: &Listed<A>) -> bool
+        ensures { result ≡ is_mixed self.now.naming listed.now.names }
+    {
+        let listing = Listing {
+            directory: &self.directory,
+            names: &listed.names,
+            zxid: listed.zxid,
+        };
+        let found = is_mixed(&listing, self.naming);
+        let Listing {
+            directory: _directory,
+            names: _names,
+            zxid: _zxid,
+        } = listing;
+        found
+    }
+
+    /// Whether a name of its listing is another family's.
+    fn is_mixed(&self) -> bool
+        ensures { result ≡ is_mixed_in self.now.naming self.now.place }
+    {
+        match &self.place {
+            Place::At {
+                listing: Some(listed),
+                ..
+            } => self.is_mixed_by(listed),
+            _ => false,
+        }
+    }
+
+    /// What is in its way by its listing.
+    fn obstacle(&self, client: &Client<A>) -> Option<Obstacle>
+        ensures some { IfSome result (IsObstacle (view_of client.now) self.now.directory self.now.naming self.now.place) }
+        ensures none { result ≡ None → (why : Obstacle)
+            → ¬ (IsObstacle (view_of client.now) self.now.directory self.now.naming self.now.place why) }
+    {
+        if self.is_mixed() {
+            return Some(Obstacle::MixedNames);
+        }
+        if self.is_stuck(client) {
+            return Some(Obstacle::NumbersUsedUp);
+        }
+        None
     }
 
     /// The refusal after an answer, if it is one.
@@ -218,18 +270,18 @@ impl<A: Allocator + Copy> LockContender<A> {
         ask: Ask,
         told: Option<Refused>,
     ) -> Option<Refused>
-        ensures { IsRefusal (view_of client.now) now ask self.now.directory (kind_in self.now.naming) self.now.place told result }
+        ensures { IsRefusal (view_of client.now) now ask self.now.directory self.now.naming self.now.place told result }
     {
         if !is_listing(ask) {
             return told;
         }
-        if self.is_stuck(client) {
-            return Some(Refused {
-                why: Obstacle::NumbersUsedUp,
+        match self.obstacle(client) {
+            Some(why) => Some(Refused {
+                why,
                 until: later(now),
-            });
+            }),
+            None => told,
         }
-        told
     }
 
     /// Hears the answer to what was asked.
@@ -292,12 +344,12 @@ impl<A: Allocator + Copy> LockContender<A> {
             Place::At {
                 listing: Some(listed),
                 ..
-            } => is_named(path, &listed.behind),
+            } => is_named(path, listed.behind.as_slice()),
             _ => false,
         }
     }
 
-    /// Whether the path is that of its place, or of the one before it.
+    /// Whether the path is that of its place, or of one that it waits for.
     pub(crate) fn is_about(&self, path: &str) -> bool
         ensures { result ≡ is_about path.now self.now }
     {
@@ -335,7 +387,7 @@ impl<A: Allocator + Copy> LockContender<A> {
             Place::At {
                 listing: Some(listed),
                 ..
-            } => waits_for(client, &listed.behind),
+            } => waits_for(client, listed.behind.as_slice()),
             _ => LockStatus::Contends,
         }
     }
@@ -390,13 +442,14 @@ impl<A: Allocator + Copy> LockContender<A> {
         self.take_news(stands)
     }
 
-    /// The contender is given up. Its place is deleted, however often the connection is lost; a create that may be under way is awaited, or
-    /// its place is looked for. It asks until no node of it is there (`nothing_left` of [`laws`](crate::laws)).
+    /// The contender is given up, and pauses no more. Its place is deleted, however often the connection is lost; a create that may be
+    /// under way is awaited, or its place is looked for. It asks until no node of it is there (`nothing_left` of [`laws`](crate::laws)).
     pub fn give_up(&mut self)
         ensures { self.new ≡ given_up self.old }
     {
         let place = mem::replace(&mut self.place, Place::Left);
         self.place = leaves(self.asked, place);
+        self.refused = None;
         self.is_given_up = true;
     }
 
@@ -448,6 +501,26 @@ impl<A: Allocator + Copy> LockContender<A> {
     }
 }
 
+/// The path of a create of a place in the directory, whose name begins so: with the digits that it gets it is one too.
+fn entry_in<A: Allocator + Copy>(
+    alloc: A,
+    directory: &Path<A>,
+    front: &str,
+) -> Result<Path<A>, PathFault>
+    ensures entry { IfOk result (λ entry. entry ≡ child_text directory.now front.now) }
+    ensures fits { IfOk result (λ entry. length entry + 10 ≤ LONGEST_PATH) }
+    ensures accepted { OnOk result
+        (entry_fault (child_text directory.now front.now) (child_fault directory.now front.now) ≡ None) }
+    ensures refused { IfErr result (λ fault. fault ≢ Memory
+        → entry_fault (child_text directory.now front.now) (child_fault directory.now front.now) ≡ Some fault) }
+{
+    let entry = directory.join(alloc, front)?;
+    if entry.as_str().len() + DIGITS > LONGEST_PATH {
+        return Err(PathFault::TooLong);
+    }
+    Ok(entry)
+}
+
 fn is_entering(asked: Option<Ask>) -> bool
     ensures { result ≡ is_entering asked }
 {
@@ -475,27 +548,26 @@ fn is_listing(ask: Ask) -> bool
     matches!(ask, Ask::List)
 }
 
-/// Whether the path is that of the one before a place.
-fn is_named<A: Allocator>(path: &str, behind: &Option<Path<A>>) -> bool
+/// Whether the path is one of these.
+fn is_named<A: Allocator>(path: &str, behind: &[Path<A>]) -> bool
     ensures { result ≡ is_named path.now behind.now }
 {
-    match behind {
-        Some(behind) => path == behind.as_str(),
-        None => false,
-    }
+    behind.iter().any(|one| path == one.as_str())
 }
 
-/// Whether it waits for this one, which has to be watched.
-fn waits_for<A: Allocator + Copy>(client: &Client<A>, behind: &Option<Path<A>>) -> LockStatus
+/// Whether each of these is watched.
+fn are_watched<A: Allocator + Copy>(client: &Client<A>, behind: &[Path<A>]) -> bool
+    ensures { result ≡ list_all (shows_node (view_of client.now)) behind.now }
+{
+    behind.iter().all(|one| shows_node(client, one))
+}
+
+/// Whether it waits for these, each of which has to be watched.
+fn waits_for<A: Allocator + Copy>(client: &Client<A>, behind: &[Path<A>]) -> LockStatus
     ensures { result ≡ waiting (waits_for (view_of client.now) behind.now) }
 {
-    match behind {
-        Some(behind) => {
-            if shows_node(client, behind) {
-                return LockStatus::Waits;
-            }
-            LockStatus::Contends
-        }
-        None => LockStatus::Contends,
+    if behind.is_empty() || !are_watched(client, behind) {
+        return LockStatus::Contends;
     }
+    LockStatus::Waits
 }

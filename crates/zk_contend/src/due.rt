@@ -1,10 +1,12 @@
 //! What is to be asked for a contender.
 
-ghost use Rattle.std.specs.Prelude.{◌≡◌, true, false, IfSome, None};
+ghost use Rattle.std.specs.Prelude.{◌≡◌, true, false, IfSome, None, Some, slice_get};
+ghost use Rattle.std.specs.List.{list_all};
+ghost use Rattle.zk_nodes.specs.Path.{Text};
 ghost use Rattle.zk_client.specs.Clients.{view_of};
 ghost use Rattle.zk_contend.specs.Dues.{IsAsleep, IsAtRest, IsDue, Rests, RestsAt, RestsListed, Wants, WantsAt, WantsListed};
 ghost use Rattle.zk_contend.specs.Hearing.{is_paused};
-ghost use Rattle.zk_contend.specs.Places.{is_ready};
+ghost use Rattle.zk_contend.specs.Places.{is_ready, shows_node};
 
 use crate::contender::LockContender;
 use crate::kept::{is_ready, shows_node, shows_own};
@@ -14,25 +16,45 @@ use crate::refused::is_paused;
 use std::alloc::Allocator;
 use zk_client::{Client, Path};
 
+/// The place of the first of these that is not watched.
+fn first_unwatched<A: Allocator + Copy>(client: &Client<A>, behind: &[Path<A>]) -> Option<usize>
+    ensures some { IfSome result (λ place. (path : Text) × (slice_get behind.now place ≡ Some path)
+        × (shows_node (view_of client.now) path ≡ false)) }
+    ensures none { result ≡ None → list_all (shows_node (view_of client.now)) behind.now ≡ true }
+{
+    for place in 0..behind.len() {
+        if !shows_node(client, &behind[place]) {
+            return Some(place);
+        }
+    }
+    None
+}
+
 impl<A: Allocator + Copy> LockContender<A> {
-    /// What is to be asked at its place, by the last listing: nothing if it holds, or is to wait for the one before it.
+    /// What is to be asked at its place, by the last listing, if all that it waits for are watched: nothing if there is one, or if it
+    /// holds.
+    fn wants_again(&self, client: &Client<A>, own: &Path<A>, listed: &Listed<A>) -> Option<Ask>
+        requires { list_all (shows_node (view_of client.now)) listed.now.behind.items ≡ true }
+        ensures some { IfSome result (λ ask. WantsListed (view_of client.now) self.now own.now listed.now ask) }
+        ensures none { result ≡ None → RestsListed (view_of client.now) self.now own.now listed.now }
+    {
+        if !listed.behind.is_empty() {
+            return None;
+        }
+        match self.token_at(client, own, listed) {
+            Some(_) => None,
+            None => Some(Ask::List),
+        }
+    }
+
+    /// What is to be asked at its place, by the last listing: nothing if it holds, or if each that it waits for is watched.
     fn wants_listed(&self, client: &Client<A>, own: &Path<A>, listed: &Listed<A>) -> Option<Ask>
         ensures some { IfSome result (λ ask. WantsListed (view_of client.now) self.now own.now listed.now ask) }
         ensures none { result ≡ None → RestsListed (view_of client.now) self.now own.now listed.now }
     {
-        match &listed.behind {
-            Some(behind) => {
-                if shows_node(client, behind) {
-                    return None;
-                }
-                Some(Ask::ReadBehind)
-            }
-            None => {
-                match self.token_at(client, own, listed) {
-                    Some(_) => None,
-                    None => Some(Ask::List),
-                }
-            }
+        match first_unwatched(client, listed.behind.as_slice()) {
+            Some(place) => Some(Ask::ReadBehind { place }),
+            None => self.wants_again(client, own, listed),
         }
     }
 

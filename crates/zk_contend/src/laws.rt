@@ -2,16 +2,26 @@
 
 ghost use Rattle.zk_contend.specs.Collections.{NothingBefore};
 ghost use Rattle.zk_contend.specs.Contenders.{WatchesOne};
+ghost use Rattle.zk_contend.specs.Leases.{AmongStays, LeaseIsTrue, OneIsFirst};
 ghost use Rattle.zk_contend.specs.Listings.{ListingsAreHeard};
 ghost use Rattle.zk_contend.specs.Nodes.{GivenUpAsks, NothingIsLeft, OneIsThere};
 ghost use Rattle.zk_contend.specs.Standings.{HeldIsTrue};
 
 use std::alloc::Allocator;
 
-/// Whenever a contender holds, its session stands first in the history at the client's last seen zxid, if its listing is one that the
-/// client was answered, and numbers rise with creation. It may have lost its place since.
+/// Whenever a contender holds, its session stands first in the history at the client's last seen zxid, beside contenders of all families,
+/// if its listing is one that the client was answered, and numbers rise with creation. If several may hold at once, fewer rivals than that
+/// are before it there. At the zxid of the listing no name of another family was in the directory. It may have lost its place since.
 pub fn held_is_true<A: Allocator>()
     ensures { HeldIsTrue A }
+{}
+
+/// Whoever is shown to be among the first is so in the history (`is_true`), and stays so for as long as its node is there (`stays`), if
+/// numbers rise with creation. If one holds at once, it is the first (`one`).
+pub fn leases_are_true()
+    ensures is_true { LeaseIsTrue }
+    ensures stays { AmongStays }
+    ensures one { OneIsFirst }
 {}
 
 /// The listing of a contender is an answer that it heard, with these names at this zxid. So whoever gives it what the client was answered
@@ -20,8 +30,9 @@ pub fn listings_are_heard<A: Allocator>()
     ensures { ListingsAreHeard A }
 {}
 
-/// A call of a contender leaves a watch on its place or on the last rival before it alone, and only if the client does not show that
-/// node: so a change of a node wakes those who wait for it alone, and each reads it once. A listing leaves no watch.
+/// A call of a contender leaves a watch on its place or on those for which it waits alone, the last rivals before it, and only if the
+/// client does not show that node: so a change of a node wakes those who wait for it alone, and each reads it once. A listing leaves no
+/// watch.
 pub fn rivals<A: Allocator>()
     ensures { WatchesOne A }
 {}

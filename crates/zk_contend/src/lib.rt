@@ -1,4 +1,5 @@
-//! A contender for a lock or an election, a reader or a writer of a shared lock: a state machine that a session drives.
+//! A contender for a lock or an election, a reader or a writer of a shared lock, one of several that hold at once: a state machine that a
+//! session drives.
 //!
 //! A program loops. It asks [`LockContender::next`] for the call that is due and hands that to its client. It gives the outcome to
 //! [`LockContender::hear`], each report to [`LockContender::note`], and asks [`LockContender::tell`] for news after each step.
@@ -7,9 +8,9 @@
 //! The contender stores where its place is, and never whether it holds: that is concluded from the client
 //! ([`Standing`](zk_conclusions::Standing)) whenever it is asked for. [`laws`] names what follows.
 //!
-//! [`Contenders`] are those of one session, each under a ticket of its program. No session of C, Rust or Python drives them yet.
+//! [`Contenders`] are those of one session, each under a ticket of its program. The session of C drives them.
 //!
-//! One contender has one place. Leases, and places with an ACL of their own, are not there yet.
+//! One contender has one place. Places with an ACL of their own are not there yet.
 #![tactic(auto)]
 
 mod answers;
@@ -20,8 +21,10 @@ mod contender;
 mod due;
 mod kept;
 pub mod laws;
+mod lease;
 mod listed;
 mod made;
+mod mixed;
 mod naming;
 mod place;
 mod refused;

@@ -53,8 +53,8 @@ pub(crate) enum Ask {
     ReadOwn,
     /// The names in the directory, to find who is before it.
     List,
-    /// A read of the one before it, with a watch.
-    ReadBehind,
+    /// A read of one of those before it, with a watch: the one at this place of theirs.
+    ReadBehind { place: usize },
     /// A delete of the place.
     Leave,
 }

@@ -26,6 +26,9 @@ pub enum Obstacle {
     SessionClosed,
     /// Nobody is before the place, but its name does not end in a number: the directory has had 2,147,483,647 names.
     NumbersUsedUp,
+    /// A name of another family is in the directory. Its contender does not see this one, so this one never holds beside it: give it up,
+    /// and no place of its own stays.
+    MixedNames,
 }
 
 /// A refusal, and until which moment it lasts.

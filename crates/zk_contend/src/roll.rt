@@ -1,6 +1,6 @@
 //! What is found by a ticket.
 
-ghost use Rattle.std.specs.Prelude.{◌≡◌, ℕ, nat_eq, true, false, Some, None, option_map, IfOk, OnErr, OnOk};
+ghost use Rattle.std.specs.Prelude.{◌≡◌, ℕ, nat_eq, true, false, is_some, Some, None, option_map, IfOk, OnErr, OnOk};
 ghost use Rattle.std.specs.List.{FoldsTo};
 ghost use Rattle.std.specs.Map.{update};
 ghost use Rattle.std.specs.Option.{option_map_or};
@@ -50,6 +50,14 @@ pub(crate) fn take_out<V: Drop, A: Allocator + Copy>(
     ensures rest { (other : ℕ) → get nat_eq map.new other ≡ update nat_eq (get nat_eq map.old) ticket None other }
 {
     map.swap_remove(&ticket)
+}
+
+/// Whether nothing is found.
+pub(crate) fn has_none<V, A: Allocator + Copy>(map: &ByTicket<V, A>) -> bool
+    ensures none { result ≡ true → (ticket : ℕ) → get nat_eq map.now ticket ≡ None }
+    ensures one { result ≡ false → (ticket : ℕ) × (is_some (get nat_eq map.now ticket) ≡ true) }
+{
+    map.is_empty()
 }
 
 /// Lets go of all.

@@ -14,7 +14,7 @@ pub enum LockStatus {
     Waits,
     /// It holds. The token is the zxid at which its place was made.
     Holds { token: i64 },
-    /// A call was refused. It is asked again after a second.
+    /// A call was refused, or a listing says what is in its way. It is asked again after a second.
     Refused { why: Obstacle },
     /// It is given up, and no node of it is there.
     GivenUp,
@@ -35,6 +35,7 @@ fn is_same_refusal(why: Obstacle, other: Obstacle) -> bool
         (Obstacle::TooLarge, Obstacle::TooLarge) => true,
         (Obstacle::SessionClosed, Obstacle::SessionClosed) => true,
         (Obstacle::NumbersUsedUp, Obstacle::NumbersUsedUp) => true,
+        (Obstacle::MixedNames, Obstacle::MixedNames) => true,
         _ => false,
     }
 }

@@ -8,7 +8,7 @@ use Rattle.zk_contend.specs.declared.place.Ask.TheVariants.{List as Lists, ReadB
 -- what was asked is about the place itself
 abbrev pub is_about_place : Ask → Bool
 is_about_place Lists = false
-is_about_place ReadBehind = false
+is_about_place (ReadBehind place) = false
 is_about_place _ = true
 
 -- the name of the path begins so

@@ -48,5 +48,6 @@ returns-clause-went c =
     (hall_of c.tell.new.self c.tell.new.news.items))
     c.client-2.ensures
     (subst (λ (news : List (ℕ × LockStatus)). FoldsTo (TellsAt (view_of c.client-2.result.now)) (hall_of rested news)
-    rested.stirred.untold.items (hall_of c.tell.new.self c.tell.new.news.items)) no_news tells)))
+    rested.stirred.untold.items (hall_of c.tell.new.self c.tell.new.news.items)) no_news tells))
+    c.tell.ensures.calls)
     c.tell.ensures.tells

@@ -7,7 +7,6 @@ use Rattle.zk_client.specs.Views.{outcome_view}
 use Rattle.zk_contend.specs.declared.contender.LockContender.{LockContender}
 use Rattle.zk_contend.specs.declared.refused.Refused.{Refused}
 use Rattle.zk_contend.specs.Contenders.{IsRefusal}
-use Rattle.zk_contend.specs.Namings.{kind_in}
 use Rattle.zk_contend.specs.Settling.{Hears}
 use Rattle.zk_contend.proofs.contender.LockContender.hear_of.Goals as goal
 
@@ -18,7 +17,7 @@ returns-clause-heard g c =
       hears = subst (λ (z : ℤ). Hears z c.args.self.now c.args.ask (outcome_view c.args.outcome) c.take_in.new.self.place)
           (its ∙ c.session_of-session.ensures) c.in_ok-take_in.ensures.heard;
       refused = subst (λ (told : Option Refused). IsRefusal (view_of c.args.client.now) c.args.now c.args.ask c.take_in.new.self.directory
-          (kind_in c.take_in.new.self.naming) c.take_in.new.self.place told c.refusal-self.result)
+          c.take_in.new.self.naming c.take_in.new.self.place told c.refusal-self.result)
           c.refused_after-told.ensures c.refusal-self.ensures;
       is = ap (λ (one : LockContender g.row.A.Denot). record one { asked = None; refused = c.refusal-self.result })
           c.in_ok-take_in.ensures.rest;

@@ -1,6 +1,6 @@
--- It is not stuck.
+-- Nothing is in its way.
 use Rattle.std.proofs.Common.{inr, refl}
 use Rattle.zk_contend.proofs.contender.LockContender.refusal.Goals as goal
 
-pub returns : goal.returns
-returns g c = inr ((λ is. c.is_stuck.ensures.no c.if-is_stuck.false), refl)
+pub returns-in-None : goal.returns-in-None
+returns-in-None g c = inr ((λ is. c.obstacle.ensures.none c.in-None.is), refl)
