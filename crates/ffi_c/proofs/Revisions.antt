@@ -18,7 +18,7 @@ use Rattle.zk_turns.specs.Turns.{Item, Turn, Turned, Signal, Opens, Comes, Cuts,
 use Rattle.zk_turns.specs.Turns.{SessionClosed, TooManyPending, TooManyWatches, TooLarge}
 use Rattle.zk_turns.specs.Turns as turns
 use Rattle.zk_turns.specs.Past.{Happening, Began, Came, Took, Dropped, Lost, Asked, Denied, Pinged, Ticked, Forgot, Halted}
-use Rattle.zk_turns.specs.View.{View, view_at}
+use Rattle.zk_turns.specs.View.{View}
 use Rattle.zk_turns.specs.Taken.{caused, due, happenings, is_full_on, opens, refusal}
 use Rattle.zk_turns.specs.Rule.{Rule, Stands, after_all, loss, losses, next, says, says_all, says_signals}
 use Rattle.zk_turns.proofs.Cases.{by_cond, by_due, by_open}
@@ -52,14 +52,14 @@ use Rattle.ffi_device.specs.Taking.{AgentTook}
 use Rattle.ffi_device.specs.Steps as step
 use Rattle.ffi_device.specs.Steps.{Stepped}
 use Rattle.ffi_device.specs.declared.device.Device.{Device}
-use Rattle.ffi_device.specs.declared.flat.Flat.{Flat}
 use Rattle.ffi_c.specs.Held.{ForgetsStale, Tells, TellsAll}
 use Rattle.ffi_c.specs.Lives.{Use, Opens as Opens_one, Resumes, Steps, Reads, ReadsAll, Forgets, Looks, Frees, Does as Uses_so, Used}
 use Rattle.ffi_c.specs.Lives.{held_after, IsLife, GoesOn, AllGoOn, RefusesHappening, SameForLife}
 use Rattle.ffi_c.specs.Pasts.{IsRead, with_turns}
 use Rattle.ffi_c.proofs.Chains.{all_no_bytes, another_but}
 use Rattle.ffi_c.proofs.Lives.{empty_holds_none, fresh, in_held}
-use Rattle.ffi_c.proofs.Pasts.{add_turns, forget_stands, heard_said, heard_turns, reads_are, stands_in}
+use Rattle.ffi_c.proofs.Pasts.{stands_in}
+use Rattle.ffi_c.proofs.Turned.{add_turns, forget_stands, heard_said, heard_turns, reads_are}
 
 -- ---- unchanged
 

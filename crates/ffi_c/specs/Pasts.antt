@@ -1,12 +1,13 @@
 -- What the client of a session's handle has come through, use by use, and what was told of it meanwhile.
 use Rattle.std.specs.Prelude.{◌≡◌, ◌⊎◌, ◌+◌, ◌==◌, ◌||◌, ◌<◌, ℕ, zero, ℤ, pos, negsuc, Bool, true, false, List, [], ◌∷◌, ◌++◌, fold, max}
-use Rattle.std.specs.Prelude.{Option, Some, Ok, unsigned_abs, if◌then◌else◌}
+use Rattle.std.specs.Prelude.{⊤, Option, Some, Ok, unsigned_abs, if◌then◌else◌}
 use Rattle.std.specs.List.{filter, list_any, AllByRecursion, FoldsTo}
 use Rattle.std.specs.declared.alloc.Global.{Global}
-use Rattle.zk_nodes.specs.Path.{Text}
+use Rattle.zk_nodes.specs.History.{History}
+use Rattle.zk_nodes.specs.Path.{Text, path_of}
 use Rattle.zk_nodes.specs.declared.side.Side.{Side}
 use Rattle.zk_conversation.specs.Calls.{Call}
-use Rattle.zk_conversation.specs.Questions.{question_of}
+use Rattle.zk_conversation.specs.Questions.{Question, GetChildren, question_of}
 use Rattle.zk_session.specs.declared.states.State.TheVariants.{Expired}
 use Rattle.zk_turns.specs.Turns.{Halts, Input, Item, Output, Start, Turn, Turned, new_start}
 use Rattle.zk_turns.specs.Turns as turns
@@ -17,6 +18,14 @@ use Rattle.zk_turns.specs.Sent.{outputs_of}
 use Rattle.zk_client.specs.Clients.{renewed_start, view_of}
 use Rattle.zk_client.specs.Runs as run
 use Rattle.zk_client.specs.SavedSessions.{PutAway, bytes_read}
+use Rattle.zk_contend.specs.Collections.{one_of}
+use Rattle.zk_conclusions.specs.Seen.{IsEither, IsServedAt}
+use Rattle.zk_conclusions.specs.Standings.{NumbersRise}
+use Rattle.zk_contend.specs.Namings.{kind_of_all}
+use Rattle.zk_contend.specs.Standings.{HasHeard, HoldsTruly, ShowsContender}
+use Rattle.zk_contend.specs.declared.contender.LockContender.{LockContender}
+use Rattle.zk_contend.specs.declared.listed.Listed.{Listed}
+use Rattle.zk_contend.specs.declared.place.Place.TheVariants.{At}
 use Rattle.zk_dialler.specs.Dialling.{is_open}
 use Rattle.zk_follow.specs.Following.{outputs_in, read_of}
 use Rattle.zk_agent.specs.declared.agent.Agent.{Agent}
@@ -29,6 +38,7 @@ use Rattle.ffi_device.specs.Sessions.{put_start}
 use Rattle.ffi_device.specs.Happenings as happens
 use Rattle.ffi_device.specs.Happenings.{Happening, given_of, happening, is_contend}
 use Rattle.ffi_device.specs.Chains.{first_own, IsOwn}
+use Rattle.ffi_device.specs.Contending.{view_in}
 use Rattle.ffi_device.specs.Steps.{within}
 use Rattle.ffi_device.specs.declared.device.Device.{Device}
 use Rattle.ffi_c.specs.Lives.{Forgets, Frees, IsLife, Opens, Resumes, Steps, Use, Used, held_after}
@@ -205,11 +215,38 @@ has_contended (used ∷ earlier) = contended_by used.use_of (has_contended earli
 abbrev pub IsOfProgram : (ticket : ℕ) → List Used → Type 0
 IsOfProgram ticket uses = (ticket < first_own) ⊎ (has_contended uses ≡ false)
 
+-- ---- the listings of contenders
+
+-- The tickets of a program's calls are below those of the calls that contenders ask.
+abbrev pub CallsBelow : Use → Type 0
+CallsBelow (Steps moment (happens.Calls ticket asked until) code) = ticket < first_own
+CallsBelow used = ⊤
+
+abbrev pub AllCallBelow : List Used → Type 0
+AllCallBelow uses = AllByRecursion (λ used. CallsBelow used.use_of) uses
+
+-- The same of the calls of a client that list names and leave a watch. No contender asks one: they read nodes that are followed.
+abbrev pub WatchesBelow : (ticket : ℕ) → Question → Type 0
+WatchesBelow ticket (GetChildren path true) = ticket < first_own
+WatchesBelow ticket question = ⊤
+
+abbrev pub InputBelow : Input → Type 0
+InputBelow (turns.Call ticket asked) = WatchesBelow ticket (question_of asked)
+InputBelow input = ⊤
+
+abbrev pub ItemBelow : Item → Type 0
+ItemBelow (Turned turn) = InputBelow turn.input
+ItemBelow item = ⊤
+
+abbrev pub AllWatchBelow : List Item → Type 0
+AllWatchBelow items = AllByRecursion ItemBelow items
+
 -- ---- the law
 
 -- Its client has all of `holds` for the turns that it has come through. While memory has not run out within a step, each report of these
--- turns was told once, and no other; each call that was asked, by a ticket that the program alone has, was settled once, or waits; and the
--- session has contenders exactly where somebody has contended.
+-- turns was told once, and no other; each call that was asked, by a ticket that the program alone has, was settled once, or waits; the
+-- session has contenders exactly where somebody has contended; and the listing of each is one that the client was answered, if tickets of
+-- contenders' calls are theirs alone.
 pub record IsCoherent (uses : List Used) (session : Device) : Type 0 where
   pub chapter : Chapter
   pub came : Came uses chapter
@@ -218,7 +255,26 @@ pub record IsCoherent (uses : List Used) (session : Device) : Type 0 where
   pub contends : session.is_over ≡ false → session.is_contending ≡ has_contended uses
   pub calls : session.is_over ≡ false → (ticket : ℕ) → IsOfProgram ticket uses
       → how_many ticket session.agent.asker.line.entries.items + how_many_settled ticket uses ≡ how_many_asked ticket uses
+  pub listings : session.is_over ≡ false → AllCallBelow uses → AllWatchBelow chapter.items
+      → (ticket : ℕ) (contender : LockContender Global) (own : Text) (listed : Listed Global)
+      → one_of session.contenders ticket ≡ Some contender → contender.place ≡ At own (Some listed)
+      → HasHeard chapter.start chapter.items contender.directory listed
 
 -- THE law of what a session shows: whoever made it by these functions alone, whatever they answered, has one that is coherent.
 abbrev pub CoherentForLife : Type 0
 CoherentForLife = (uses : List Used) (session : Device) → IsLife uses → held_after uses ≡ Some session → IsCoherent uses session
+
+-- ---- who holds
+
+-- THE law of who holds: of a session that is coherent, and within whose steps memory never ran out, a contender that its client shows to
+-- hold stands first in the history at the client's last seen zxid, if tickets of contenders' calls are theirs alone, numbers rise with
+-- creation, and servers keep to the model at the directory and at the place for the turns that the client has come through.
+abbrev pub HeldForLife : Type 0
+HeldForLife = (uses : List Used) (session : Device) (coherent : IsCoherent uses session) (h : History) (ticket : ℕ)
+    (contender : LockContender Global) (own : Text) (listed : Listed Global) (token : ℤ)
+    (seen : IsServedAt (IsEither contender.directory own) h (view_in session.agent))
+    → session.is_over ≡ false → AllCallBelow uses → AllWatchBelow coherent.chapter.items
+    → seen.start ≡ coherent.chapter.start → seen.items ≡ coherent.chapter.items
+    → one_of session.contenders ticket ≡ Some contender → contender.place ≡ At own (Some listed)
+    → NumbersRise h (path_of contender.directory) (kind_of_all contender.naming) → ShowsContender (view_in session.agent) contender token
+    → HoldsTruly h (view_in session.agent) contender own listed token

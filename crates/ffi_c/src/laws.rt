@@ -1,7 +1,7 @@
 //! What follows for a whole life of a handle, over definitions alone.
 
 ghost use Rattle.ffi_c.specs.Lives.{SameForLife, SoundForLife};
-ghost use Rattle.ffi_c.specs.Pasts.{CoherentForLife};
+ghost use Rattle.ffi_c.specs.Pasts.{CoherentForLife, HeldForLife};
 
 /// Whoever was told the same number twice by `dw_session_revision`, below the last one, of a handle that was not opened, resumed or freed
 /// in between, has each good answer as it was, and no other is good; state and session are the same, whatever functions were called
@@ -21,10 +21,18 @@ pub fn sound_for_life()
 /// answered, and has a session in it has all of [`holds`](zk_client::holds) for the turns of its client since the session began: opened,
 /// resumed, or renewed after an expiry. The bytes that these turns heard, and the beginnings and ends of connections, are those that were
 /// handed in; after memory ran out within a step, only that they are turns. Each report of them was told once, and no other; and each call
-/// that was asked was settled once, or waits.
+/// that was asked was settled once, or waits. The listing of each contender is one that its client was answered, if the tickets from
+/// 3 * 2^62 on are those of contenders' calls alone: no call of the program has one, nor any read of a followed node's names.
 ///
 /// So the good answers are those of any servers of the model that sent these bytes, whose history the conclusions of `zk_conclusions` are
 /// about, at the paths where the servers keep to the model.
 pub fn coherent_for_life()
     ensures { CoherentForLife }
+{}
+
+/// Whenever a look-up says that a contender of such a session holds, with a token, its place is first in the history at the client's last
+/// seen zxid, if the servers of that history keep to the model at the directory and at the place, and numbers rise with creation. So
+/// `dw_session_held` needs no promise of the program but that of its tickets (`held_is_true` of `zk_contend`).
+pub fn held_for_life()
+    ensures { HeldForLife }
 {}
