@@ -12,7 +12,7 @@ ghost use Rattle.ffi_c.specs.Held.{Holds, IsClosed, LeavesRoom};
 use crate::calls::data_of;
 use crate::handle::DwSession;
 use crate::taking::{CLOSED, NONE, drive};
-use ffi_device::copy_into;
+use ffi_device::{code_of, copy_into};
 use ffi_handles::{Handle, take_value};
 use std::alloc::Global;
 
@@ -36,19 +36,22 @@ pub extern "C" fn dw_session_contend(
         (Steps (RefusesContender directory.now naming guid.now) now_ms
         (Contends ticket directory.now naming guid.now (if is_null then None else Some bytes.now) may_be_there) d result) }
 {
-    drive(alloc, handle, |session| {
-        let data = data_of(bytes, is_null);
-        session.contend_at(
-            alloc,
-            now_ms,
-            ticket,
-            directory,
-            naming,
-            guid,
-            data,
-            may_be_there,
-        )
-    })
+    let Some(mut session) = take_value(alloc, handle) else {
+        return CLOSED;
+    };
+    let data = data_of(bytes, is_null);
+    let done = session.contend_at(
+        alloc,
+        now_ms,
+        ticket,
+        directory,
+        naming,
+        guid,
+        data,
+        may_be_there,
+    );
+    *handle = DwSession::of(session);
+    code_of(done)
 }
 
 /// The contender of this ticket is given up, if there is one.
