@@ -36,7 +36,7 @@ struct dws_candidates {
     /* Its own. */
     dws_call call;
     char *path;
-    char **places;    /* of the contenders, in their order */
+    char **places;    /* of the contenders, the last one first */
     size_t place_count, next, names_room, places_room;
 };
 

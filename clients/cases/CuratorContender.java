@@ -13,6 +13,7 @@ import org.apache.curator.framework.recipes.locks.InterProcessMutex;
 import org.apache.curator.framework.recipes.locks.InterProcessReadWriteLock;
 import org.apache.curator.framework.state.ConnectionState;
 import org.apache.curator.retry.RetryOneTime;
+import org.apache.zookeeper.data.Stat;
 
 public final class CuratorContender {
     private final CuratorFramework client;
@@ -60,6 +61,48 @@ public final class CuratorContender {
         }
     }
 
+    private static final class Mutex extends InterProcessMutex {
+        Mutex(CuratorFramework client, String path) {
+            super(client, path);
+        }
+
+        String node() {
+            return getLockPath();
+        }
+    }
+
+    private void writeThroughFence(long token) throws Exception {
+        Stat stat = new Stat();
+        byte[] data = client.getData().storingStatIn(stat).forPath(path + "-fence");
+        if (Long.parseLong(new String(data)) > token) {
+            say("refused");
+        } else {
+            client.setData().withVersion(stat.getVersion()).forPath(path + "-fence", Long.toString(token).getBytes());
+            say("wrote");
+        }
+    }
+
+    // Holds the lock for a while, again and again, and writes its token through the fence meanwhile.
+    private void work() {
+        while (true) {
+            try {
+                Mutex mutex = new Mutex(client, path);
+                mutex.acquire();
+                try {
+                    long token = client.checkExists().forPath(mutex.node()).getCzxid();
+                    for (int i = 0; i < 3; i++) {
+                        writeThroughFence(token);
+                        Thread.sleep(50);
+                    }
+                } finally {
+                    mutex.release();
+                }
+            } catch (Exception lost) {
+                // another one was faster, or the session is gone
+            }
+        }
+    }
+
     private LeaderSelector candidate() {
         return new LeaderSelector(client, path, new LeaderSelectorListenerAdapter() {
             @Override
@@ -82,7 +125,12 @@ public final class CuratorContender {
     }
 
     private void run(BufferedReader commands) throws Exception {
-        if (kind.equals("election")) {
+        if (kind.equals("work")) {
+            Thread thread = new Thread(this::work);
+            thread.setDaemon(true);
+            thread.start();
+            commands.readLine();
+        } else if (kind.equals("election")) {
             LeaderSelector candidate = candidate();
             candidate.start();
             obey(commands.readLine(), candidate::close, () -> awaitGone(candidate));
@@ -116,7 +164,7 @@ public final class CuratorContender {
 
     private boolean isThere(long own) throws Exception {
         for (String name : client.getChildren().forPath(path)) {
-            org.apache.zookeeper.data.Stat stat = client.checkExists().forPath(path + "/" + name);
+            Stat stat = client.checkExists().forPath(path + "/" + name);
             if (stat != null && stat.getEphemeralOwner() == own) {
                 return true;
             }
@@ -129,7 +177,8 @@ public final class CuratorContender {
             say("error: Curator has no names of " + words[3]);
             return;
         }
-        CuratorFramework client = CuratorFrameworkFactory.newClient(words[0], new RetryOneTime(100));
+        int timeout = words[2].equals("work") ? 4000 : 10000;
+        CuratorFramework client = CuratorFrameworkFactory.newClient(words[0], timeout, timeout, new RetryOneTime(100));
         client.getConnectionStateListenable().addListener((given, state) -> {
             if (state == ConnectionState.LOST) {
                 say("lost");

@@ -1,7 +1,7 @@
 """Contenders of several libraries for one lock, over a real server: contenders.py HOST:PORT LIBRARY=COMMAND.., where a library is one of
 those below, and its command is that of a contender without the words that README.md says. Of two contenders the first holds, and the
 second waits until it is let in; each ordered pair of libraries is tried, with each kind of lock. Those with the same names wait for each
-other. Of those with other names the second, if it is one of ours, says so, and the first holds on.
+other. Of those with other names the second, if it is one of ours, says so and gives up, and the first holds on.
 """
 
 from __future__ import annotations
@@ -32,7 +32,7 @@ NAMES = {
 }
 """Which names the contenders of a library can have."""
 OURS = ("python", "c", "rust")
-"""The libraries whose contenders say that they have found other names."""
+"""The libraries whose contenders heed those with other names."""
 KINDS = ("lock", "read", "write", "election")
 PAIRS = (("lock", "lock"), ("write", "write"), ("write", "read"), ("read", "write"), ("read", "read"), ("election", "election"))
 """Which kinds contend with each other in all libraries: the first holds, the second comes after it."""

@@ -5,6 +5,7 @@ from __future__ import annotations
 import importlib
 import sys
 import threading
+import time
 from typing import Any
 
 kazoo: Any = importlib.import_module("kazoo.client")
@@ -56,13 +57,40 @@ class Contender:
             say("given up")
 
 
+def write_through_fence(client: Any, path: str, token: int) -> None:
+    data, stat = client.get(f"{path}-fence")
+    if int(data) > token:
+        return say("refused")
+    client.set(f"{path}-fence", b"%d" % token, version=stat.version)
+    say("wrote")
+
+
+def work(client: Any, path: str) -> None:
+    """Holds the lock for a while, again and again, and writes its token through the fence meanwhile."""
+    while True:
+        try:
+            lock = client.Lock(path, "kazoo")
+            with lock:
+                _, stat = client.get(f"{path}/{lock.node}")
+                for _ in range(3):
+                    write_through_fence(client, path, stat.czxid)
+                    time.sleep(0.05)
+        except exceptions.KazooException:
+            time.sleep(0.1)  # another one was faster, or the session is gone
+
+
 def main(hosts: str, path: str, kind: str, names: str) -> None:
     if names != "kazoo":
         say(f"error: kazoo has no names of {names}")
         return
-    client = kazoo.KazooClient(hosts)
+    client = kazoo.KazooClient(hosts, timeout=4.0 if kind == "work" else 10.0)
     client.add_listener(tell_lost)
-    client.start()
+    client.start(60.0)
+    if kind == "work":
+        threading.Thread(target=work, args=(client, path), daemon=True).start()
+        sys.stdin.read()
+        client.stop()
+        return
     contender = Contender(client, path, kind)
     for line in sys.stdin:
         contender.obey(line.strip())

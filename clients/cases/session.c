@@ -229,7 +229,7 @@ static void take_lock(dws_session *session, const char *path)
 static void contend(dws_session *session, const char *path)
 {
     dws_lock_take(session, &lock, path, DWS_EXCLUSIVE, "", NULL);
-    while (lock.before.path == NULL && dws_turn(session)) {
+    while (!lock.is_behind && dws_turn(session)) {
     }
     print_line("waits");
 }
@@ -237,8 +237,7 @@ static void contend(dws_session *session, const char *path)
 static void use_lock(dws_session *session, const char *name)
 {
     if (strcmp(name, "check") == 0) {
-        dws_wait(session, dws_lock_check(session, &lock, &call));
-        print_line(call.why == 0 && call.stat.czxid == lock.token ? "is held" : "is lost");
+        print_line(dws_lock_check(session, &lock, INT64_MAX) ? "is held" : "is lost");
     } else {
         dws_wait(session, dws_lock_let_go(session, &lock));
         print_line("done");

@@ -383,3 +383,19 @@ server.3=127.0.0.1:${ports[5]}:${ports[8]}"
     within 60 have_shown 20 3 || fail "20 clients are not shown what has changed"
     end_crowd
 }
+
+# Contenders that work through faults for ten minutes, or for as many as DIRWOLLEU_MINUTES says, with figures in clients/out. All of the server is in
+# its logs.
+try_contenders_at_work() {
+    local port figures=$out/contenders.txt
+    local -a contenders
+    have_servers
+    needs /usr/bin/python3
+    set_contenders
+    serve_alone one tickTime=500
+    bounded 300 /usr/bin/python3 clients/cases/working.py "${DIRWOLLEU_MINUTES:-10}" "$folder/one" "127.0.0.1:$port" "${contenders[@]}" >"$figures" ||
+        fail "contenders at work: $(<"$figures")"
+}
+
+# By hand alone.
+((${#wanted[@]} == 0)) || part "contenders at work" try_contenders_at_work

@@ -1,5 +1,5 @@
 /* An election over a lock. */
-#include "places.h"
+#include "jute.h"
 
 #include "../election.h"
 
@@ -24,20 +24,6 @@ static void dws_candidates_end(dws_session *s, dws_candidates *all, int32_t why)
     }
 }
 
-/* Whether a name is that of a contender for a lock that is held alone, by either names. */
-static bool dws_is_candidate(const char *name)
-{
-    return dws_lock_is_marked(name, dws_lock_marker(DWS_NAMES_KAZOO, DWS_EXCLUSIVE))
-        || dws_lock_is_marked(name, dws_lock_marker(DWS_NAMES_CURATOR, DWS_EXCLUSIVE));
-}
-
-/* By the numbers at their ends. */
-static int dws_compare_places(const void *one, const void *other)
-{
-    const char *first = *(const char *const *)one, *second = *(const char *const *)other;
-    return strcmp(first + strlen(first) - DWS_DIGITS, second + strlen(second) - DWS_DIGITS);
-}
-
 /* Adds a copy of a text. False if there is no memory. */
 static bool dws_add_text(char ***texts, size_t *count, size_t *room, const char *text)
 {
@@ -56,11 +42,11 @@ static void dws_candidates_read(dws_session *s, dws_call *call);
 static void dws_candidates_go_on(dws_session *s, dws_candidates *all)
 {
     char path[DWS_LONGEST_LINE];
-    if (all->next == all->place_count) {
+    if (all->next == 0) {
         dws_candidates_end(s, all, 0);
         return;
     }
-    snprintf(path, sizeof path, "%s/%s", all->path, all->places[all->next++]);
+    snprintf(path, sizeof path, "%s/%s", all->path, all->places[--all->next]);
     all->call.then = dws_candidates_read;
     dws_get(s, &all->call, path, false);
 }
@@ -78,25 +64,61 @@ static void dws_candidates_read(dws_session *s, dws_call *call)
     }
 }
 
+/* Adds the one that is right before this name, as the library says: DW_WAITS if there is one. */
+static enum dw_result dws_add_before(dws_session *s, dws_candidates *all, const struct dws_bytes *names, const struct dws_bytes *markers, const char *name)
+{
+    char before[DWS_LONGEST_LINE];
+    size_t length = 0;
+    int64_t token;
+    const char *path = all->call.path;
+    enum dw_result result = dw_session_standing(&s->machine, path, strlen(path), name, strlen(name), names->at, names->length, all->call.zxid,
+                                                markers->at, markers->length, &token, before, sizeof before - 1, &length);
+    if (result != DW_WAITS) {
+        return result;
+    }
+    before[dws_least(length, sizeof before - 1)] = 0;
+    return dws_add_text(&all->places, &all->place_count, &all->places_room, before) ? DW_WAITS : DW_NO_MEMORY;
+}
+
+/* Adds the places, from the last one to the first. No place has a greater number than the name with which this begins. */
+static enum dw_result dws_add_places(dws_session *s, dws_candidates *all, const struct dws_bytes *names, const struct dws_bytes *markers)
+{
+    if (names->is_short || markers->is_short) {
+        return DW_NO_MEMORY;
+    }
+    enum dw_result result = dws_add_before(s, all, names, markers, "__lock__9999999999");
+    while (result == DW_WAITS) {
+        result = dws_add_before(s, all, names, markers, all->places[all->place_count - 1]);
+    }
+    return result;
+}
+
 static void dws_candidates_listed(dws_session *s, dws_call *call)
 {
+    static const char *const of_candidates[] = {"__lock__", "__lock__", "lock-", "latch-"}; /* the first one is that of the name itself */
     dws_candidates *all = (dws_candidates *)call->context;
-    bool is_kept = true;
+    struct dws_bytes names, markers;
+    memset(&names, 0, sizeof names);
+    memset(&markers, 0, sizeof markers);
     if (call->why != 0) {
         dws_candidates_end(s, all, call->why == DW_CODE_NO_NODE ? 0 : call->why);
         return;
     }
-    for (size_t i = 0; i < call->count && is_kept; i++) {
-        is_kept = !dws_is_candidate(call->names[i]) || dws_add_text(&all->places, &all->place_count, &all->places_room, call->names[i]);
+    for (size_t i = 0; i < call->count; i++) {
+        dws_put_text(&names, call->names[i]);
     }
-    if (!is_kept) {
-        dws_candidates_end(s, all, DWS_REFUSED - (int32_t)DW_NO_MEMORY);
-        return;
+    for (size_t i = 0; i < sizeof of_candidates / sizeof of_candidates[0]; i++) {
+        dws_put_text(&markers, of_candidates[i]);
     }
-    if (all->place_count > 0) {
-        qsort(all->places, all->place_count, sizeof all->places[0], dws_compare_places);
+    enum dw_result result = call->count > 0 ? dws_add_places(s, all, &names, &markers) : DW_NONE;
+    all->next = all->place_count;
+    free(names.at);
+    free(markers.at);
+    if (result == DW_NONE || result == DW_OK) {
+        dws_candidates_go_on(s, all);
+    } else {
+        dws_candidates_end(s, all, DWS_REFUSED - (int32_t)result);
     }
-    dws_candidates_go_on(s, all);
 }
 
 void dws_ask_candidates(dws_session *s, dws_candidates *all, const char *path)

@@ -88,13 +88,6 @@ struct dws_record {
     bool (*write_words)(const dws_call *call, char *room, size_t size); /* false if it has no words of its own */
 };
 
-/* What a session goes on with by itself, until it is done or the session is freed: a place of lock.h. */
-struct dws_errand {
-    void (*go_on)(dws_session *s, struct dws_errand *errand); /* a server has accepted the session */
-    void (*end)(dws_session *s, struct dws_errand *errand);   /* the session is freed */
-    struct dws_errand *next;
-};
-
 /* The record of a session, and what of its connection was recorded. */
 struct dws_recorder {
     FILE *file;              /* NULL if nothing is recorded */
@@ -114,6 +107,9 @@ struct dws_login {
     int32_t xid;
 };
 
+struct dws_contender;
+struct dws_lock;
+
 struct dws_session {
     dw_session machine;
     dws_options options;
@@ -132,7 +128,8 @@ struct dws_session {
     short read_wants, write_wants;     /* what poll is to wait for besides, to read and to write */
     bool is_dial_due, is_connecting, is_expired, is_closing, is_over, is_resumed;
     bool has_more, has_news;           /* bytes that poll does not tell of, and something that a program may wait for */
-    bool must_follow, must_introduce;  /* subjects or trees are new or gone; credentials are new */
+    bool must_follow, must_introduce;  /* subjects, trees or contenders are new or gone; credentials are new */
+    bool has_lock_news;                /* of a contender something is to be told */
     bool is_listing;                   /* the library takes other hosts */
     bool is_acting;                    /* what a step says is being taken */
     bool is_unread;                    /* a reply does not read */
@@ -149,7 +146,7 @@ struct dws_session {
     int32_t cause;                     /* why the connection is given up that is told next, or 0 */
     struct dws_line answered;          /* those that this step has answered, whose callbacks come when all that it says is taken */
     dws_call close;
-    struct dws_errand *errands;
+    struct dws_contender *contenders;  /* for the locks of lock.h, also for those that were released */
     struct dws_subjects subjects[DWS_LISTS];
     dws_subject **chains;              /* of subjects, by their paths, and then as many by their tickets */
     size_t chain_count, subject_count;
@@ -310,6 +307,7 @@ void dws_name_path(dws_session *s, const char *path);
 void dws_name_all(dws_session *s);
 void dws_mark(dws_session *s);
 bool dws_show_next(dws_session *s);
+int32_t dws_why_refused(const dw_output *refused);
 void dws_take_refusal(dws_session *s, const dw_output *refused);
 void dws_follow_new(dws_session *s);
 enum dw_result dws_follow_side(dws_session *s, dws_subject *subject, const char *path, enum dw_side side,
@@ -324,6 +322,16 @@ void dws_take_report(dws_session *s, const dw_output *report);
 void dws_lose_kept(dws_session *s);
 void dws_look_at_trees(dws_session *s);
 uint64_t dws_first_look(dws_session *s);
+
+/* lock.c */
+bool dws_lock_contend(dws_session *s, struct dws_lock *lock, const char *path, uint32_t naming, const char *data,
+                      void (*changed)(dws_session *, struct dws_lock *));
+void dws_take_contending(dws_session *s, const dw_output *told);
+void dws_tell_locks(dws_session *s);
+bool dws_contend_next(dws_session *s, uint64_t now_ms);
+void dws_contend_again(dws_session *s);
+void dws_lose_contenders(dws_session *s);
+void dws_free_contenders(dws_session *s);
 
 /* requests.c */
 void dws_begin_question(dws_request *request, int32_t operation);

@@ -1,4 +1,4 @@
-/* Numbers and texts as zookeeper.jute spells them in a record, with the highest byte first: for requests.c, lock.c and login.c. */
+/* Numbers and texts as zookeeper.jute spells them in a record, with the highest byte first: for requests.c, election.c and login.c. */
 #ifndef DIRWOLLEU_JUTE_H
 #define DIRWOLLEU_JUTE_H
 

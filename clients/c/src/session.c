@@ -42,9 +42,7 @@ void dws_free(dws_session *s)
         dws_unfollow_tree(s, s->trees);
     }
     dws_answer_rest(s);
-    while (s->errands != NULL) {
-        s->errands->end(s, s->errands);
-    }
+    dws_free_contenders(s);
     dws_flush_record(s);
     dws_end_record(s);
     dws_forget_credentials(s);

@@ -20,6 +20,7 @@ void dws_be_over(dws_session *s)
 {
     s->is_over = true;
     dws_lose_kept(s);
+    dws_lose_contenders(s);
 }
 
 /* Answers the calls that wait for the answer to credentials, of which the limit has come by this moment. */
@@ -45,6 +46,7 @@ void dws_answer_rest(dws_session *s)
         dws_finish_all(s, &s->queue, dws_why_over(s));
         dws_finish_all(s, &s->again, dws_why_over(s));
         dws_finish_credentials(s, UINT64_MAX, dws_why_over(s));
+        dws_tell_locks(s);
         while (dws_show_next(s)) {
         }
     }
@@ -91,6 +93,9 @@ static void dws_take_expiry(dws_session *s)
     s->is_expired = s->options.is_over_at_expiry;
     s->is_over = s->is_over || s->is_expired;
     dws_lose_kept(s);
+    if (s->is_over) {
+        dws_lose_contenders(s);
+    }
     dws_hang_up(s);
     dws_tell(s, DWS_EXPIRED, "the session has expired");
     dws_finish_all(s, &s->queue, DW_OUTCOME_EXPIRED);
@@ -100,10 +105,6 @@ static void dws_take_expiry(dws_session *s)
 static void dws_take_admission(dws_session *s)
 {
     s->is_resumed = false;
-    for (struct dws_errand *errand = s->errands, *next; errand != NULL; errand = next) {
-        next = errand->next;
-        errand->go_on(s, errand);
-    }
     dws_tell(s, DWS_CONNECTED, "connected");
 }
 
@@ -207,7 +208,7 @@ static void dws_take(dws_session *s, const dw_output *action)
     case DW_KIND_HOLDS:
     case DW_KIND_LOST:
     case DW_KIND_PAUSES:
-    case DW_KIND_GIVEN_UP: break; /* nobody contends by this session's machine */
+    case DW_KIND_GIVEN_UP: dws_take_contending(s, action); break;
     }
 }
 
@@ -226,6 +227,7 @@ void dws_act(dws_session *s, enum dw_result result)
     dws_see_trees(s);
     s->is_acting = false;
     dws_call_all_back(s);
+    dws_tell_locks(s);
     if (s->is_over) {
         return;
     }
@@ -283,7 +285,7 @@ enum dw_result dws_make_machine(dws_session *s, const uint8_t *saved, size_t len
     return result;
 }
 
-/* The machine that takes the session up has been handed none of what was followed, nor any credentials. */
+/* The machine that takes the session up has been handed none of what was followed, nor contenders or credentials. */
 static void dws_hand_over_again(dws_session *s)
 {
     s->gone_count = 0;
@@ -299,6 +301,7 @@ static void dws_hand_over_again(dws_session *s)
         tree->ticket = 0;
         dws_free_members(&tree->members);
     }
+    dws_contend_again(s);
     for (struct dws_credentials *one = s->credentials; one != NULL; one = one->next) {
         one->is_handed = false;
         s->must_introduce = true;

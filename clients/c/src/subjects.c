@@ -241,7 +241,7 @@ bool dws_is_good(const dws_subject *subject)
 }
 
 /* Why a read was refused, as of a call. */
-static int32_t dws_why_refused(const dw_output *refused)
+int32_t dws_why_refused(const dw_output *refused)
 {
     if (refused->refusal == DW_REFUSAL_CODE) {
         return refused->code;
@@ -302,7 +302,7 @@ static void dws_unfollow_last(dws_session *s, uint64_t now_ms)
                              : dw_session_unfollow(&s->machine, dws_at(s, now_ms), gone->ticket));
 }
 
-/* Has the library follow what is to be followed, and no more what is not. Callbacks may change both. */
+/* Has the library follow what is to be followed, and no more what is not; the same of contenders. Callbacks may change both. */
 void dws_follow_new(dws_session *s)
 {
     while (s->must_follow && !s->is_over) {
@@ -315,6 +315,8 @@ void dws_follow_new(dws_session *s)
         }
         while (!s->is_over && s->gone_count > 0) {
             dws_unfollow_last(s, now_ms);
+        }
+        while (!s->is_over && dws_contend_next(s, now_ms)) {
         }
     }
 }

@@ -32,6 +32,7 @@ static void dws_work(dws_session *s)
     dws_introduce_new(s);
     dws_follow_new(s);
     dws_mark(s);
+    dws_tell_locks(s);
     while (!s->is_over && dws_show_next(s)) {
     }
     dws_look_at_trees(s);

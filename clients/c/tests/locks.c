@@ -1,6 +1,6 @@
 /* Locks at a server that the test is itself, with places below /l. Each way out of a lock, where the connection ends at each request in turn: before the
- * server has done it, or with its answer; once, or at the next request too; or the session expires with it. Then another one takes the lock. And the
- * names of contenders, of one kind and of both. */
+ * server has done it, or with its answer; once, or at the next request too; or the session expires with it. Then another one takes the lock. Whom each
+ * kind of contender waits for. And what a lock has beside the library: callbacks, memory, and how long ago a server was heard. */
 #include "served.h"
 
 #include <stdio.h>
@@ -9,7 +9,7 @@
 #include <sys/socket.h>
 #include <unistd.h>
 
-enum { MOST_NODES = 8, MOST_TRIES = 100 };
+enum { MOST_NODES = 64, MOST_TRIES = 100 };
 
 /* The nodes below /l, with a number each. */
 static struct node {
@@ -27,6 +27,7 @@ enum manner { BEFORE, AFTER, TWICE, EXPIRING, MANNERS };
 static enum manner manner;
 static size_t requests, cut_at, cuts_left;
 static bool is_to_expire;
+static size_t frames; /* that the session has sent, except pings */
 
 static struct node *find_node(const char *path)
 {
@@ -181,6 +182,7 @@ static bool serve_request(int32_t type, const uint8_t *request)
 {
     struct bytes came;
     bool is_cut = is_cut_at(type);
+    frames += type != TYPE_PING;
     came.length = 0;
     if (!is_cut || manner == AFTER) {
         do_request(&came, type, request);
@@ -212,6 +214,11 @@ static bool is_true(const void *flag)
 static bool is_null(const void *pointer)
 {
     return *(const void *const *)pointer == NULL;
+}
+
+static bool is_why(const void *lock)
+{
+    return ((const dws_lock *)lock)->why != 0;
 }
 
 static bool is_set(const void *pointer)
@@ -247,15 +254,21 @@ static void tell_lock(dws_session *s, dws_lock *lock)
     say(lock->is_held ? "held\n" : lock->why != 0 ? "why %d\n" : "lost\n", (int)lock->why);
 }
 
+/* Lets a lock go, and waits until no node of it is there. */
+static void leave_no_place(dws_lock *lock)
+{
+    const dws_call *gone = dws_lock_let_go(session, lock);
+    go_on_until(is_true, &gone->is_answered);
+    EXPECT(gone->why == 0 && lock->contender == NULL && !lock->is_held);
+}
+
 /* Takes a lock and holds it, and lets it go: so nobody is before it. */
 static void take_by_another(void)
 {
     static dws_lock another;
     EXPECT(dws_lock_take(session, &another, "/l", DWS_EXCLUSIVE, "another", NULL));
     go_on_until(is_true, &another.is_held);
-    const dws_call *gone = dws_lock_let_go(session, &another);
-    go_on_until(is_true, &gone->is_answered);
-    EXPECT_NUMBER(0, gone->why);
+    leave_no_place(&another);
     dws_lock_release(&another);
 }
 
@@ -267,12 +280,10 @@ static void leave(dws_lock *lock, bool is_freed)
     if (is_freed) {
         dws_lock_release(lock);
         free(lock);
-        go_on_until(is_null, &session->errands);
+        go_on_until(is_null, &session->contenders);
         return;
     }
-    const dws_call *gone = dws_lock_let_go(session, lock);
-    go_on_until(is_true, &gone->is_answered);
-    EXPECT(gone->why == 0 && lock->place == NULL);
+    leave_no_place(lock);
     dws_lock_release(lock);
     free(lock);
 }
@@ -290,7 +301,9 @@ static bool leave_by(enum way way, bool is_freed, enum manner how, size_t at)
     if (way == HELD) {
         go_on_until(is_true, &lock->is_held);
     } else if (way == WAITING && how != EXPIRING) {
-        go_on_until(is_set, &lock->before.path);
+        go_on_until(is_true, &lock->is_behind);
+    } else if (way == MAKING) {
+        turn(0); /* so that the library has it */
     }
     leave(lock, is_freed);
     if (way == WAITING) {
@@ -342,13 +355,13 @@ static void free_in_callbacks(bool is_at_loss)
         node_count = 0;
         ANSWER(add_notice, DW_EVENT_DELETED, path);
     }
-    go_on_until(is_null, &session->errands);
+    go_on_until(is_null, &session->contenders);
     EXPECT(node_count == 0);
     expect_said(is_at_loss ? "freed, lost\n" : "freed, held\n");
     close_all();
 }
 
-/* What a server refuses is told, with the place that is left, and is asked again: by the program, and at the next connection. */
+/* What a server refuses is told, with the place that is left, and is asked again, also at the next connection. The program may wait for that. */
 static void refuse_to_delete(void)
 {
     char why[DWS_LONGEST_LINE], wanted[400];
@@ -366,33 +379,140 @@ static void refuse_to_delete(void)
     EXPECT(strcmp(why, wanted) == 0 && !dws_lock_take(session, &lock, "/l", DWS_EXCLUSIVE, "me", NULL));
     end_line();
     line = -1;
-    go_on_until(is_null, &session->errands);
-    EXPECT(node_count == 0 && lock.place == NULL);
+    EXPECT(!dws_lock_let_go(session, &lock)->is_answered);
+    go_on_until(is_true, &gone->is_answered);
+    EXPECT(gone->why == 0 && node_count == 0 && lock.contender == NULL && session->contenders == NULL);
     close_all();
     dws_lock_release(&lock);
 }
 
-/* Contenders of the other names are met: the place is given up, and both are named. Others are no contenders, and nobody waits for them. */
-static void meet_other_names(enum dws_names names, enum dws_sharing sharing, const char *other, bool is_foreign)
+/* A session that fails, is ended without a connection, or is freed, leaves its place to the timeout: who waits for the end of it hears that. */
+enum end { FAILED, ENDED, FREED };
+
+static void end_while_it_lets_go(enum end end)
 {
-    char why[DWS_LONGEST_LINE], wanted[400];
+    static dws_lock lock;
+    begin(BEFORE, SIZE_MAX);
+    EXPECT(dws_lock_take(session, &lock, "/l", DWS_EXCLUSIVE, "me", NULL));
+    go_on_until(is_true, &lock.is_held);
+    const dws_call *gone = dws_lock_let_go(session, &lock);
+    if (end == FAILED) {
+        dws_fail(session, DW_NO_MEMORY);
+        turn(0);
+    } else if (end == ENDED) {
+        end_line();
+        line = -1;
+        turn(0);
+        dws_end(session);
+        turn(0);
+    }
+    EXPECT(gone->is_answered == (end != FREED) && dws_lock_let_go(session, &lock) == gone && gone->is_answered == (end != FREED));
+    close_all();
+    EXPECT(gone->is_answered && node_count == 1 && lock.contender == NULL && !lock.is_held);
+    EXPECT_NUMBER(end == FAILED ? DWS_REFUSED - (int)DW_NO_MEMORY : (int)DW_OUTCOME_CLOSED, gone->why);
+    dws_lock_release(&lock);
+}
+
+/* What a server refuses a lock is told, and no more once it is asked again and done. A path that is none is told, and nothing is asked. */
+static void refuse_to_make(void)
+{
+    char why[DWS_LONGEST_LINE];
+    static dws_lock lock;
+    begin(BEFORE, SIZE_MAX);
+    take_by_another();
+    EXPECT(dws_lock_take(session, &lock, "/l", DWS_EXCLUSIVE, "me", tell_lock));
+    hear();
+    ANSWER(add_header, (int32_t)dws_read_int(out.at), zxid, DW_CODE_NO_AUTH);
+    expect_said("why -102\n");
+    dws_lock_words(session, &lock, why, sizeof why);
+    EXPECT(strcmp(why, "the node's ACL does not admit this client: /l") == 0);
+    go_on_until(is_true, &lock.is_held);
+    expect_said("held\n");
+    leave_no_place(&lock);
+    EXPECT(dws_lock_take(session, &lock, "l", DWS_EXCLUSIVE, "me", tell_lock));
+    turn(0);
+    expect_said("why 105\n");
+    dws_lock_words(session, &lock, why, sizeof why);
+    EXPECT(strncmp(why, "l is no path", 12) == 0);
+    EXPECT(dws_lock_let_go(session, &lock)->is_answered && lock.contender == NULL);
+    dws_lock_release(&lock);
+    close_all();
+}
+
+/* Held is as of the last zxid: while there is no connection too. Whether a server was heard since is another question. */
+static void hear_nothing(void)
+{
+    enum { AWAY_MS = 700 };
+    static dws_lock lock;
+    begin(BEFORE, SIZE_MAX);
+    EXPECT(!dws_lock_check(session, &lock, INT64_MAX));
+    EXPECT(dws_lock_take(session, &lock, "/l", DWS_EXCLUSIVE, "me", tell_lock));
+    EXPECT(!dws_lock_check(session, &lock, INT64_MAX));
+    go_on_until(is_true, &lock.is_held);
+    EXPECT(dws_lock_check(session, &lock, 0));
+    let_pass(AWAY_MS);
+    EXPECT(dws_lock_check(session, &lock, AWAY_MS) && !dws_lock_check(session, &lock, AWAY_MS - 1));
+    end_line();
+    line = -1;
+    turn(0);
+    EXPECT(lock.is_held && dws_lock_check(session, &lock, AWAY_MS) && !dws_lock_check(session, &lock, AWAY_MS - 1));
+    leave_no_place(&lock);
+    EXPECT(!dws_lock_check(session, &lock, INT64_MAX));
+    expect_said("held\n");
+    dws_lock_release(&lock);
+    close_all();
+}
+
+/* Many contend, and each lets go in its turn: the next one alone is woken, by four frames at most. */
+static void hand_over(void)
+{
+    enum { CROWD = 50, MOST_FRAMES = 4 };
+    static dws_lock crowd[CROWD];
+    int64_t token = 0;
+    begin(BEFORE, SIZE_MAX);
+    for (int i = 0; i < CROWD; i++) {
+        EXPECT(dws_lock_take(session, &crowd[i], "/l", DWS_EXCLUSIVE, "one of many", NULL));
+        go_on_until(is_true, i == 0 ? &crowd[i].is_held : &crowd[i].is_behind);
+    }
+    frames = 0;
+    for (int i = 0; i < CROWD; i++) {
+        EXPECT(crowd[i].is_held && crowd[i].token > token);
+        token = crowd[i].token;
+        leave_no_place(&crowd[i]);
+        if (i + 1 < CROWD) {
+            go_on_until(is_true, &crowd[i + 1].is_held);
+        }
+        EXPECT(frames <= MOST_FRAMES * (size_t)(i + 1));
+        dws_lock_release(&crowd[i]);
+    }
+    printf("locks: %zu frames for %d hand-overs\n", frames, CROWD - 1);
+    EXPECT(node_count == 0);
+    close_all();
+}
+
+/* Contenders of other names are met: the lock says so, and its place is given up. It may be let go meanwhile, and be taken again. */
+static void meet_other_names(enum dws_names names, enum dws_sharing sharing, const char *other, bool is_let_go)
+{
+    char why[DWS_LONGEST_LINE];
     static dws_lock lock;
     begin(BEFORE, SIZE_MAX);
     add_node(other);
     lock.names = names;
     EXPECT(dws_lock_take(session, &lock, "/l", sharing, "me", tell_lock));
-    if (!is_foreign) {
-        go_on_until(is_true, &lock.is_held);
-        expect_said("held\n");
-    } else {
-        go_on_until(is_null, &session->errands);
-        expect_said("why 98\n");
-        EXPECT(lock.why == DWS_LOCK_MIXED_NAMES && !lock.is_held && node_count == 1);
-        snprintf(wanted, sizeof wanted, "a contender with names of another kind is there: /l/%s; use one kind of names for all contenders", other);
-        dws_lock_words(session, &lock, why, sizeof why);
-        EXPECT(strcmp(why, wanted) == 0);
-        EXPECT(dws_lock_let_go(session, &lock)->is_answered);
+    go_on_until(is_why, &lock);
+    expect_said("why 98\n");
+    EXPECT(lock.why == DWS_LOCK_MIXED_NAMES && !lock.is_held && !dws_lock_take(session, &lock, "/l", sharing, "me", tell_lock));
+    if (is_let_go) {
+        leave_no_place(&lock);
     }
+    go_on_until(is_null, &session->contenders);
+    EXPECT(node_count == 1 && lock.contender == NULL && lock.why == DWS_LOCK_MIXED_NAMES);
+    dws_lock_words(session, &lock, why, sizeof why);
+    EXPECT(strcmp(why, "a contender with names of another kind is there: /l; use one kind of names for all contenders") == 0);
+    node_count = 0;
+    EXPECT(dws_lock_take(session, &lock, "/l", sharing, "me", tell_lock));
+    go_on_until(is_true, &lock.is_held);
+    expect_said("held\n");
     dws_lock_release(&lock);
     close_all();
 }
@@ -406,89 +526,85 @@ static void stand_in_line(enum dws_names names, enum dws_sharing sharing, const 
     number = 1;
     lock.names = names;
     EXPECT(dws_lock_take(session, &lock, "/l", sharing, "me", NULL));
-    if (waits) {
-        go_on_until(is_set, &lock.before.path);
-    } else {
-        go_on_until(is_true, &lock.is_held);
-    }
-    EXPECT(dws_lock_is_marked(nodes[1].name, own) && lock.is_held != waits);
-    EXPECT((names == DWS_NAMES_CURATOR) == (strncmp(nodes[1].name, "_c_", 3) == 0));
+    go_on_until(is_true, waits ? &lock.is_behind : &lock.is_held);
+    EXPECT(strstr(nodes[1].name, own) != NULL && lock.is_held != waits && lock.is_behind == waits);
+    EXPECT((names == DWS_NAMES_KAZOO) == (strncmp(nodes[1].name, "_c_", 3) != 0));
+    EXPECT_NUMBER((names == DWS_NAMES_KAZOO ? 32 : 39) + strlen(own) + 10, strlen(nodes[1].name));
     dws_lock_release(&lock);
     close_all();
 }
 
-static void try_names(void)
+/* What a kind of contender has before its number, and the names of those it waits for, if they are before it, shared ones last. */
+static const struct family {
+    enum dws_names names;
+    const char *markers[3], *rivals[3];
+    size_t shared; /* the place of the one that shares */
+} FAMILIES[] = {
+    {DWS_NAMES_KAZOO, {"__lock__", "__rlock__", "__lock__"}, {"1__lock__0000000000", "__lock__0000000000", "1__rlock__0000000000"}, 2},
+    {DWS_NAMES_CURATOR, {"-lock-", "-__READ__", "-__WRIT__"}, {"_c_1-lock-0000000000", "_c_1-__WRIT__0000000000", "_c_1-__READ__0000000000"}, 2},
+    {DWS_NAMES_LATCH, {"-latch-", "-latch-", "-latch-"}, {"_c_1-latch-0000000000", "latch-0000000000", "1-latch-0000000000"}, 3},
+};
+
+/* Beside each family: its own contenders, those of the others, and what is none. */
+static void try_names_of(const struct family *own, enum dws_sharing sharing)
 {
-    static const char *const curators[] = {"_c_1-lock-0000000007", "_c_1-__WRIT__0000000000", "_c_1-__READ__0000000009", "_c_1-latch-0000000000"};
-    static const char *const kazoos[] = {"1__lock__0000000000", "1__rlock__0000000007", "_c_1-latch-0000000000"};
-    static const char *const others[] = {"note", "note-0000000000", "_c_1-lock-", "1__lock__000000000", "lock-0000000000", "__lock__x0000000000"};
-    const enum dws_sharing kinds[] = {DWS_EXCLUSIVE, DWS_SHARED, DWS_WRITING};
-    for (size_t kind = 0; kind < 3; kind++) {
-        for (size_t i = 0; i < sizeof curators / sizeof curators[0]; i++) {
-            meet_other_names(DWS_NAMES_KAZOO, kinds[kind], curators[i], true);
-        }
-        for (size_t i = 0; i < sizeof kazoos / sizeof kazoos[0]; i++) {
-            meet_other_names(DWS_NAMES_CURATOR, kinds[kind], kazoos[i], true);
-        }
-        for (size_t i = 0; i < sizeof others / sizeof others[0]; i++) {
-            meet_other_names(DWS_NAMES_KAZOO, kinds[kind], others[i], false);
-            meet_other_names(DWS_NAMES_CURATOR, kinds[kind], others[i], false);
+    static const char *const others[] = {"note", "note-0000000000", "_c_1-lock-", "1__lock__000000000", "__lock__x0000000000"};
+    for (size_t i = 0; i < 3; i++) {
+        bool waits = sharing != DWS_SHARED || i != own->shared;
+        stand_in_line(own->names, sharing, own->markers[sharing], own->rivals[i], waits);
+        for (size_t j = 0; j < sizeof FAMILIES / sizeof FAMILIES[0]; j++) {
+            if (&FAMILIES[j] != own) {
+                meet_other_names(own->names, sharing, FAMILIES[j].rivals[i], i == 0);
+            }
         }
     }
-    stand_in_line(DWS_NAMES_KAZOO, DWS_EXCLUSIVE, "__lock__", "1__rlock__0000000000", true);
-    stand_in_line(DWS_NAMES_KAZOO, DWS_SHARED, "__rlock__", "1__rlock__0000000000", false);
-    stand_in_line(DWS_NAMES_KAZOO, DWS_SHARED, "__rlock__", "1__lock__0000000000", true);
-    stand_in_line(DWS_NAMES_KAZOO, DWS_WRITING, "__lock__", "1__rlock__0000000000", true);
-    stand_in_line(DWS_NAMES_CURATOR, DWS_EXCLUSIVE, "-lock-", "_c_1-__WRIT__0000000000", true);
-    stand_in_line(DWS_NAMES_CURATOR, DWS_EXCLUSIVE, "-lock-", "_c_1-lock-0000000000", true);
-    stand_in_line(DWS_NAMES_CURATOR, DWS_SHARED, "-__READ__", "_c_1-__READ__0000000000", false);
-    stand_in_line(DWS_NAMES_CURATOR, DWS_SHARED, "-__READ__", "_c_1-__WRIT__0000000000", true);
-    stand_in_line(DWS_NAMES_CURATOR, DWS_SHARED, "-__READ__", "_c_1-lock-0000000000", true);
-    stand_in_line(DWS_NAMES_CURATOR, DWS_WRITING, "-__WRIT__", "_c_1-__READ__0000000000", true);
+    for (size_t i = 0; i < sizeof others / sizeof others[0]; i++) {
+        stand_in_line(own->names, sharing, own->markers[sharing], others[i], false);
+    }
 }
 
-/* A session that takes a lock: its place is made, and the session has asked for the names beside it. */
+static void try_names(void)
+{
+    for (int i = 0; i < 9; i++) {
+        try_names_of(&FAMILIES[i / 3], (enum dws_sharing)(i % 3));
+    }
+}
+
+/* A session that takes a lock: its place is made and read, and the session has asked for the names beside it. */
 static void begin_taking(dws_lock *lock, char *place, size_t size)
 {
     begin_session();
     EXPECT(dws_lock_take(session, lock, "/l", DWS_EXCLUSIVE, "me", NULL));
     make_place(1, "0000000002", place, size);
     hear_about(2, TYPE_GET, place);
-    hear_about(3, TYPE_CHILDREN, "/l");
     answer_place(2, 6);
+    hear_about(3, TYPE_CHILDREN, "/l");
 }
 
 /* An exclusive lock waits for one that shares, and is held once that is gone. Where its place is deleted, it takes another one. */
 static void wait_for_a_lock(void)
 {
     static dws_lock lock;
-    char place[256], again[256];
+    char place[256], again[256], known[256];
     begin_taking(&lock, place, sizeof place);
     answer_names(3, 7, place + 3, "a__rlock__0000000001");
-    EXPECT(!lock.is_held);
+    EXPECT(!lock.is_held && !lock.is_behind);
     hear_about(4, TYPE_GET, "/l/a__rlock__0000000001");
     answer_place(4, 8);
-    EXPECT(!lock.is_held);
+    EXPECT(!lock.is_held && lock.is_behind);
     notice(DW_EVENT_DELETED, "/l/a__rlock__0000000001");
-    hear_about(5, TYPE_GET, "/l/a__rlock__0000000001");
-    answer_none(5, 9);
-    hear_about(6, TYPE_EXISTS, "/l/a__rlock__0000000001");
-    answer_none(6, 9);
-    hear_about(7, TYPE_CHILDREN, "/l");
-    answer_names(7, 9, place + 3, "note");
-    EXPECT(lock.is_held && lock.token == 6);
+    hear_about(5, TYPE_CHILDREN, "/l");
+    answer_names(5, 9, place + 3, "note");
+    EXPECT(lock.is_held && lock.token == 6 && !lock.is_behind);
+    EXPECT(dws_lock_place(session, &lock, known, sizeof known) && strcmp(known, place) == 0);
+    EXPECT(!dws_lock_place(session, &lock, known, strlen(place)));
     notice(DW_EVENT_DELETED, place);
-    hear_about(8, TYPE_GET, place);
-    EXPECT(lock.is_held); /* it is not known yet what has become of it */
-    answer_none(8, 10);
-    hear_about(9, TYPE_EXISTS, place);
-    answer_none(9, 10);
     EXPECT(!lock.is_held);
-    make_place(10, "0000000003", again, sizeof again);
+    make_place(6, "0000000003", again, sizeof again);
+    hear_about(7, TYPE_GET, again);
     dws_lock_let_go(session, &lock);
-    hear_about(11, TYPE_GET, again);
-    hear_about(12, TYPE_CHILDREN, "/l");
-    hear_about(13, TYPE_DELETE, again);
+    answer_place(7, 9);
+    hear_about(8, TYPE_DELETE, again);
     close_all();
     dws_lock_release(&lock);
 }
@@ -507,10 +623,12 @@ static void lose_a_lock(void)
     EXPECT(!lock.is_held && lock.why == 0);
     end_line();
     admit();
-    hear_about(1, TYPE_CHILDREN, "/l");
-    answer_names(1, 8, "note", "z__lock__0000000004");
-    make_place(2, "0000000005", again, sizeof again);
-    hear_about(3, TYPE_GET, again);
+    make_place(1, "0000000005", again, sizeof again);
+    hear_about(2, TYPE_GET, again);
+    answer_place(2, 8);
+    hear_about(3, TYPE_CHILDREN, "/l");
+    answer_names(3, 8, again + 3, "z__lock__0000000004");
+    hear_about(4, TYPE_GET, "/l/z__lock__0000000004");
     EXPECT(!lock.is_held);
     close_all();
     dws_lock_release(&lock);
@@ -528,11 +646,14 @@ static void share_a_lock(void)
     strcat(place, "0000000007");
     end_line();
     admit();
-    answer_sync(2);
+    hear_about(2, TYPE_CREATE, "/l"); /* after which there is the place, or never is */
+    ANSWER(add_header, 2, 7, DW_CODE_NODE_EXISTS);
     hear_about(3, TYPE_CHILDREN, "/l");
     answer_names(3, 7, place + 3, "a__rlock__0000000001");
     hear_about(4, TYPE_GET, place);
     answer_place(4, 7);
+    hear_about(5, TYPE_CHILDREN, "/l");
+    answer_names(5, 7, place + 3, "a__rlock__0000000001");
     EXPECT(lock.is_held && lock.token == 6);
     close_all();
     dws_lock_release(&lock);
@@ -551,10 +672,10 @@ static void go_on_for(bool (*is_so)(const void *), const void *at)
 static bool is_settled(const void *at)
 {
     const dws_lock *lock = (const dws_lock *)at;
-    return lock->is_held || lock->before.path != NULL || lock->why != 0;
+    return lock->is_held || lock->is_behind || lock->why != 0;
 }
 
-/* A lock is taken, or waited for, or meets other names, and is let go or freed; its create is answered, or lost. A request for memory of it is refused:
+/* A lock is taken, or waited for, and is let go or freed; its create is answered, or lost. A request for memory of it is refused:
  * nothing is lost of what there was. Whether one was. */
 static bool run_short(const char *other, bool is_freed, size_t at, long number_of_request)
 {
@@ -573,7 +694,7 @@ static bool run_short(const char *other, bool is_freed, size_t at, long number_o
             go_on_for(is_true, &dws_lock_let_go(session, &lock)->is_answered);
         }
         dws_lock_release(&lock);
-        go_on_for(is_null, &session->errands);
+        go_on_for(is_null, &session->contenders);
     }
     bool was_refused = asked_for >= refused_at;
     refused_at = 0;
@@ -583,10 +704,10 @@ static bool run_short(const char *other, bool is_freed, size_t at, long number_o
 
 static void run_out_of_memory(void)
 {
-    static const char *const others[] = {NULL, "x__lock__0000000000", "x-lock-0000000000"};
+    static const char *const others[] = {NULL, "x__lock__0000000000"};
     long runs = 0;
-    for (int i = 0; i < 12; i++) {
-        for (long at = 1; run_short(others[i % 3], i / 3 % 2 == 1, (size_t)(i / 6), at); at++) {
+    for (int i = 0; i < 8; i++) {
+        for (long at = 1; run_short(others[i % 2], i / 2 % 2 == 1, (size_t)(i / 4), at); at++) {
             runs++;
         }
     }
@@ -605,6 +726,12 @@ int main(int argc, char **argv)
     free_in_callbacks(false);
     free_in_callbacks(true);
     refuse_to_delete();
+    end_while_it_lets_go(FAILED);
+    end_while_it_lets_go(ENDED);
+    end_while_it_lets_go(FREED);
+    refuse_to_make();
+    hear_nothing();
+    hand_over();
     run_out_of_memory();
     try_names();
     close(listener);

@@ -324,41 +324,42 @@ static void let_go(int place)
     dws_semaphore_release(&held[place]);
 }
 
+static void refuse_semaphore(const char *path, int most, int32_t why, const char *words)
+{
+    static dws_semaphore other;
+    char said_why[256];
+    EXPECT(dws_semaphore_take(sessions[0], &other, path, most, "host", NULL));
+    WAIT_UNTIL(other.why == why);
+    dws_semaphore_words(sessions[0], &other, said_why, sizeof said_why);
+    EXPECT_SAYS(words, said_why);
+    dws_call *gone = dws_semaphore_let_go(sessions[0], &other);
+    WAIT_UNTIL(gone->is_answered);
+    EXPECT_NUMBER(0, (int)children(sessions[0], path));
+    dws_semaphore_release(&other);
+}
+
 static void test_semaphore(void)
 {
-    static dws_call call;
-    static dws_semaphore other;
-    char why[256];
     take_all(2);
-    WAIT_UNTIL(count_held() == 2);
+    WAIT_UNTIL(count_held() == 2 && children(sessions[0], "/s/two") == MOST_SESSIONS);
     pass(100);
     EXPECT_NUMBER(2, count_held());
-    EXPECT_NUMBER(2, (int)children(sessions[0], "/s/two"));
     int first = held[0].is_held ? 0 : 1;
-    dws_semaphore_check(sessions[first], &held[first], &call);
-    WAIT_UNTIL(call.is_answered);
-    EXPECT(call.why == 0 && call.stat.czxid == held[first].token);
+    EXPECT(dws_semaphore_check(sessions[first], &held[first], 60000) && held[first].token > 0);
     let_go(first);
     WAIT_UNTIL(count_held() == 2);
     command("expire", 0);
     WAIT_UNTIL(count_held() == 0);
     WAIT_UNTIL(count_held() == 2);
     EXPECT_NUMBER(2, (int)children(sessions[first], "/s/two"));
-    EXPECT(dws_semaphore_take(sessions[first], &other, "/s/two", 3, "host", NULL));
-    WAIT_UNTIL(other.why == DWS_SEMAPHORE_DIFFERS);
-    dws_semaphore_words(sessions[first], &other, why, sizeof why);
-    EXPECT_SAYS("the node says another number of leases: /s/two; take the same number everywhere", why);
-    dws_call *gone = dws_semaphore_let_go(sessions[first], &other);
-    WAIT_UNTIL(gone->is_answered);
-    dws_semaphore_release(&other);
     for (int i = 0; i < MOST_SESSIONS; i++) {
         if (i != first) {
             let_go(i);
         }
     }
-    EXPECT_NUMBER(0, (int)children(sessions[0], "/s/two"));
-    EXPECT_NUMBER(0, (int)children(sessions[0], "/s/two-__lock__"));
-    dws_release(&call);
+    refuse_semaphore("/s/two", 3, DWS_SEMAPHORE_DIFFERS, "the node says another number of leases: /s/two; take the same number everywhere");
+    command("create /s/kazoo 2", 0);
+    refuse_semaphore("/s/kazoo", 2, DWS_LOCK_MIXED_NAMES, "the node is that of a semaphore of kazoo: /s/kazoo; take another path");
 }
 
 /* One lease at a time, with connections that end anywhere: there is never a second one, and none is left. */
@@ -370,7 +371,7 @@ static void test_semaphore_is_cut(void)
         WAIT_UNTIL(count_held() >= 1);
         for (int i = 0; i < 5; i++) {
             pass(3);
-            EXPECT(children(sessions[0], "/s/two") <= 1);
+            EXPECT(count_held() <= 1);
         }
         for (int i = 0; i < MOST_SESSIONS; i++) {
             if (held[i].is_held) {
@@ -385,7 +386,6 @@ static void test_semaphore_is_cut(void)
         let_go(i);
     }
     EXPECT_NUMBER(0, (int)children(sessions[0], "/s/two"));
-    EXPECT_NUMBER(0, (int)children(sessions[0], "/s/two-__lock__"));
 }
 
 /* ---- What a call has of its own. ---- */

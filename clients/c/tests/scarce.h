@@ -1,5 +1,5 @@
-/* The server in memory, at the socket of served.h. It knows neither sync nor transactions, which are answered here. It can lose the answer to a
- * transaction, or hold a create back until a sync comes. */
+/* The server in memory, at the socket of served.h. It does not know sync, which is answered here. It can hold a create back until a sync comes, or the
+ * create of the lock's node by which its contender finds that out. */
 #ifndef DIRWOLLEU_TESTS_SCARCE_H
 #define DIRWOLLEU_TESTS_SCARCE_H
 
@@ -10,7 +10,6 @@
 enum { TYPE_CLOSE = -11 };
 
 static dw_bench bench;
-static bool is_lost, is_dropped;   /* the answer to a transaction is to be lost, and not even that happens */
 static bool is_held, was_closed;   /* a create is to be held back; the session was closed */
 static char held[256];                    /* the path of a create that is held back until a sync comes */
 
@@ -30,45 +29,6 @@ static inline void make_node(const char *path, const char *data)
 static inline bool was_no_node(const char *path)
 {
     return change(DW_BENCH_DELETED, 0, path, "") == DW_BENCH_NO_NODE;
-}
-
-/* The text at this place, and what stands after it. */
-static inline const uint8_t *text_of(const uint8_t *at, char *text, size_t size)
-{
-    snprintf(text, size, "%.*s", (int)dws_read_int(at), (const char *)at + 4);
-    return at + 4 + dws_read_int(at);
-}
-
-/* Whether there is a node: another one of its path can not be made. */
-static inline bool is_there(const char *path)
-{
-    bool is_made = change(DW_BENCH_MADE, 0, path, "") == DW_BENCH_OK;
-    return !(is_made && !was_no_node(path));
-}
-
-/* A check of the lock, and a create of the lease. */
-static inline void answer_transaction(int32_t xid, const uint8_t *body)
-{
-    enum { HEADER = 9, CREATE = 1, CHECK = 13, REFUSED = -1, NOT_DONE = -2 };
-    char path[256];
-    body = text_of(body + HEADER, path, sizeof path);
-    int32_t checked = is_there(path) ? 0 : CODE_NO_NODE;
-    text_of(body + 4 + HEADER, path, sizeof path);
-    int32_t code = checked != 0 ? (int32_t)NOT_DONE : change(DW_BENCH_MADE, SESSION, path, "me");
-    size_t begin = came.length;
-    add_header(&came, xid, dw_bench_zxid(&bench), 0);
-    put_type(&came, code == 0 ? CHECK : REFUSED, 0);
-    if (code != 0) {
-        put_int(&came, checked);
-    }
-    put_type(&came, code == 0 ? CREATE : REFUSED, 0);
-    if (code == 0) {
-        put_words(&came, path);
-    } else {
-        put_int(&came, code);
-    }
-    put_type(&came, REFUSED, 1);
-    end_answer(&came, begin);
 }
 
 /* A server has caught up: the create that was held back happens. */
@@ -100,22 +60,21 @@ static inline bool serve_request(int32_t type, const uint8_t *request)
 {
     int32_t xid = (int32_t)dws_read_int(request);
     was_closed = was_closed || type == TYPE_CLOSE;
-    if (type == DW_OPERATION_MULTI && is_dropped) {
-        EXPECT(is_lost);
-    } else if (type == DW_OPERATION_MULTI) {
-        answer_transaction(xid, request + 8);
-    } else if (type == TYPE_CREATE && is_held) {
-        text_of(request + 8, held, sizeof held - 10);
+    if (type == TYPE_CREATE && is_held) {
+        snprintf(held, sizeof held - 10, "%.*s", (int)dws_read_int(request + 8), (const char *)request + 12);
     } else if (type == DW_OPERATION_SYNC) {
         make_held();
         add_created(&came, xid, dw_bench_zxid(&bench), "/"); /* its answer has a path too */
     } else {
         EXPECT(type != TYPE_CONNECT || dw_bench_connect(&bench, 1) == DW_BENCH_OK);
+        if (type == TYPE_CREATE) {
+            make_held();
+        }
         EXPECT_NUMBER(DW_BENCH_OK, dw_bench_hear(&bench, request - 4, 4 + dws_read_int(request - 4)));
         EXPECT_NUMBER(DW_BENCH_OK, dw_bench_process(&bench, 1));
     }
-    if ((type == DW_OPERATION_MULTI && is_lost) || (type == TYPE_CREATE && is_held)) {
-        is_lost = is_dropped = is_held = false;
+    if (type == TYPE_CREATE && is_held) {
+        is_held = false;
         came.length = 0;
         dw_bench_cut(&bench);
         end_line();
@@ -151,7 +110,7 @@ static inline void wait_until_connected(void)
 /* A session that a server has accepted. */
 static inline void begin(void)
 {
-    is_lost = is_dropped = is_held = was_closed = false;
+    is_held = was_closed = false;
     held[0] = 0;
     came.length = 0;
     open_session();

@@ -426,7 +426,7 @@ static ssize_t read_few(dws_wire *wire, void *room, size_t size, void *context)
     return read_counted(wire, room, size < 8 ? size : 8, context);
 }
 
-/* A lock that would be held by the last answers before the end, in one turn with it, is not told: else it would be held for ever. */
+/* A lock that is held by the last answer before the end, in one turn with it, is told to be lost, and is not held for ever. */
 static void close_before_a_lock(void)
 {
     char place[256];
@@ -436,19 +436,17 @@ static void close_before_a_lock(void)
     EXPECT(dws_lock_take(session, owned.lock, "/l", DWS_EXCLUSIVE, "me", see_owned_lock));
     make_place(1, "0000000002", place, sizeof place);
     hear_about(2, TYPE_GET, place);
+    answer_place(2, 6);
     hear_about(3, TYPE_CHILDREN, "/l");
     dws_end(session);
     hear_request(4, -11, NULL);
     session->options.read = read_few;
-    add_place(&came, 2, 6);
     add_names(&came, 3, 6, place + 3, "note", &STAT);
     add_header(&came, 4, 6, 0);
     answer_all();
-    expect_said("");
-    EXPECT(dws_is_over(session) && !owned.lock->is_held);
+    expect_said("lock 1\nlock 0\n");
+    EXPECT(dws_is_over(session) && owned.lock == NULL);
     close_all();
-    dws_lock_release(owned.lock);
-    free(owned.lock);
 }
 
 static void take_tree(dws_session *s, dws_tree *shown)

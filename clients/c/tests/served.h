@@ -3,7 +3,8 @@
 #ifndef DIRWOLLEU_TESTS_SERVED_H
 #define DIRWOLLEU_TESTS_SERVED_H
 
-#include "../src/places.h"
+#include "../lock.h"
+#include "../src/internal.h"
 #include "expect.h"
 #include "frames.h"
 #include "stand_ins.h"

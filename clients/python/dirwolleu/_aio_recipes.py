@@ -1,4 +1,4 @@
-"""The recipes of `dirwolleu.recipes` as coroutines. A lock is held where the proved core says so; the rest is tested."""
+"""The recipes of `dirwolleu.recipes` as coroutines. The proved core contends for locks; the rest is tested."""
 
 from __future__ import annotations
 
@@ -13,7 +13,7 @@ from dirwolleu._barriers import BaseBarrier, BaseDoubleBarrier
 from dirwolleu._calls import shown
 from dirwolleu._counters import BaseCounter, Number
 from dirwolleu._leases import BaseSemaphore
-from dirwolleu._locks import READING, WRITING, BaseHeld, BaseLock, BaseTaker, Holding
+from dirwolleu._locks import READING, WRITING, BaseHeld, BaseLock, BaseTaker, Taken
 from dirwolleu._queues import BaseQueue
 from dirwolleu._registrations import BaseRegistration
 from dirwolleu._steps import Result, Steps
@@ -78,8 +78,8 @@ class _Taker(BaseTaker["Client", Held]):
         """
         return await self._client._drive(self._taking(timeout))
 
-    def _held(self, holding: Holding) -> Held:
-        return Held(self._client, holding, self._on_lost)
+    def _held(self, taken: Taken) -> Held:
+        return Held(self._client, taken, self._on_lost, self._keeps)
 
     async def __aenter__(self) -> Held:
         return self._enter(asyncio.current_task(), await self.acquire())

@@ -3,11 +3,10 @@
 from __future__ import annotations
 
 import struct
-from collections.abc import Iterable
 from typing import Callable, Optional
 
 from dirwolleu import _library as library
-from dirwolleu._handle import Found, KeptData, KeptNames, Lacking, Listing, Standing, SubtreeNode
+from dirwolleu._handle import Found, KeptData, KeptNames, Lacking, SubtreeNode
 from dirwolleu._library import Closed
 from dirwolleu._session import Session
 from dirwolleu.types import Kept, KeptChildren, Mark, Snapshot
@@ -115,20 +114,6 @@ class CacheView:
     def subtree(self, path: str, most: int) -> tuple[Optional[list[SubtreeNode]], int]:
         """All nodes at and below a path, and the zxid at which the servers have just these; None where that is not shown."""
         return self._look(lambda session: session.subtree(path, most)) or (None, 0)
-
-    def standing(self, directory: str, name: str, listing: Listing, markers: Iterable[str]) -> Standing:
-        """Whether the session comes first in a directory by its node of this name, and else whom it waits for, by a listing that
-        was answered after the node was made. That is the core's verdict: see `Session.standing`.
-        """
-        stands = self._look(lambda session: session.standing(directory, name, *listing, markers))
-        return stands or Standing(None, None)
-
-    def token_of(self, path: str) -> Optional[int]:
-        """The zxid at which a node of this session was made, where that it is there is kept and good."""
-        kept = self.kept(path)
-        if kept is None or kept.mark is not Mark.GOOD or kept.stat is None:
-            return None
-        return kept.stat.czxid if kept.stat.ephemeral_owner == self.session_id() != 0 else None
 
     def forget_stale(self) -> None:
         self._look(Session.forget)

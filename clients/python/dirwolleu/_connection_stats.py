@@ -61,7 +61,8 @@ class ConnectionStats:
     """When a server that had accepted the session was heard last, or when dialling began."""
 
     proved_at: Optional[int] = None
-    """When the newest call or ping was handed in that a server has answered. All that the server sent before that answer has been taken in."""
+    """When the newest call or ping was handed in that a server has answered, or a lock asked for the listing by which it holds. All that the server sent
+    before that answer has been taken in."""
 
     round_trip: Optional[float] = None
     """How long answers take of late, in milliseconds."""
@@ -69,6 +70,10 @@ class ConnectionStats:
     def answered(self, asked_at: int, now: int) -> None:
         """A call or a ping was answered."""
         took, average = float(now - asked_at), self.round_trip
+        self.prove(asked_at)
+        self.round_trip = took if average is None else average + (took - average) / 8
+
+    def prove(self, asked_at: int) -> None:
+        """What was handed in then, or later, was answered."""
         if self.proved_at is None or asked_at > self.proved_at:
             self.proved_at = asked_at
-        self.round_trip = took if average is None else average + (took - average) / 8

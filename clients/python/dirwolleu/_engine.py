@@ -14,8 +14,8 @@ from collections.abc import Iterable
 from typing import Optional
 
 from dirwolleu import _library as library
-from dirwolleu._connection import Connection
 from dirwolleu._connection_commands import News as News
+from dirwolleu._contending import Contending
 from dirwolleu._core import Listener as Listener
 from dirwolleu._core import Tell as Tell
 from dirwolleu._credentials import Credential
@@ -27,6 +27,7 @@ from dirwolleu._process import this_process
 from dirwolleu._recording import Path, Recorder
 from dirwolleu._root import Root
 from dirwolleu._session import (
+    Contends,
     CredentialAnswer,
     Dial,
     Limits,
@@ -48,7 +49,7 @@ from dirwolleu.types import EventType, State, Stats, WatchedEvent
 logger = logging.getLogger("dirwolleu.connection")
 
 
-class Engine(Connection):
+class Engine(Contending):
     """A session with its callers.
 
     The steps, those of `take_handed` too, are for one thread, or for another one once that has ended. What only looks,
@@ -116,6 +117,7 @@ class Engine(Connection):
         self._line.clear()
         self._sent.clear()
         self._subjects.clear()
+        self._contenders.clear()
         self._watchers.clear()
         self._listeners.clear()
 
@@ -125,6 +127,7 @@ class Engine(Connection):
             return
         self.is_running = False
         self._subjects.clear()
+        self._end_contenders()
         self._forget_callers(ConnectionClosedError("the client was closed"), State.LOST)
         with contextlib.suppress(Closed):  # by another thread that closes it too
             self._saved_at_close = self._session.saved()
@@ -182,6 +185,7 @@ class Engine(Connection):
         if self._saved_at_close is None:
             self._replace(unbegun(self._session.last_zxid()), 0)
         self._subjects.clear()
+        self._end_contenders()
         self._forget_callers(error, State.LOST)
         self._leave_connection()
 
@@ -191,6 +195,7 @@ class Engine(Connection):
         self._replace(self._session.saved(), self._count)
         self._wishes.extend((self._follow, followed) for followed in self._subjects.values())
         self._subjects.clear()
+        self._join_again()
         self._forget_callers(ConnectionLoss(why), State.SUSPENDED)
         self._leave_connection()
 
@@ -239,4 +244,5 @@ Engine._takers = {
     TreeBounded: Engine._hear_of_tree,
     TreeComplete: Engine._hear_of_tree,
     CredentialAnswer: Engine._hear_of_credential,
+    Contends: Engine._hear_of_contender,
 }

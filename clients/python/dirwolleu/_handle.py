@@ -8,7 +8,7 @@ import struct
 import time
 from collections.abc import Iterable, Iterator, Sequence
 from ctypes import Structure, byref, c_int64, c_size_t, c_uint64
-from typing import Any, Callable, NamedTuple, Optional, TypeVar, Union
+from typing import Any, Callable, NamedTuple, Optional, TypeVar
 
 from dirwolleu import _library as library
 from dirwolleu._library import (
@@ -72,22 +72,6 @@ class Standing(NamedTuple):
 
     token: Optional[int]
     rival: Optional[str]
-
-
-class Listing(NamedTuple):
-    """The names of a node's children, one after the other, each after its length in four bytes, and the zxid of the answer
-    that told them."""
-
-    names: bytes
-    zxid: int
-
-    @classmethod
-    def of(cls, names: Iterable[str], zxid: int) -> Listing:
-        return cls(_spelled(names), zxid)
-
-    def each(self) -> list[str]:
-        """The names."""
-        return texts_in(self.names)
 
 
 class KeptAtOnce(NamedTuple):
@@ -332,14 +316,12 @@ class LookUps:
             return None
 
     def standing(
-        self, directory: str, name: str, names: Union[bytes, Iterable[str]], listed: int, markers: Iterable[str]
+        self, directory: str, name: str, names: Iterable[str], listed: int, markers: Iterable[str]
     ) -> Standing:
         """Where the session stands by its node of this name in a directory, by the names of a listing, which needs no watch,
-        and the zxid of that answer. The names may be those of a `Listing`, as it spells them. The first marker is that of its
-        name, the others are those of its rivals."""
+        and the zxid of that answer. The first marker is that of its name, the others are those of its rivals."""
         spelled, own, room = self._root.spell(directory), name.encode(), new_bytes(None, _FEW)
-        listing = names if isinstance(names, bytes) else _spelled(names)
-        kinds, token, count = _spelled(markers), c_int64(), c_size_t()
+        listing, kinds, token, count = _spelled(names), _spelled(markers), c_int64(), c_size_t()
         contender = (spelled, len(spelled), own, len(own), listing, len(listing), listed, kinds, len(kinds))
         while True:
             code = self._calls.standing(self._handle, *contender, byref(token), room, len(room), byref(count))
@@ -359,6 +341,18 @@ class LookUps:
         code = self._calls.holder(self._handle, *place, byref(token))
         self._checked_among(code, (directory, path))
         return token.value if code == OK else None
+
+    def held(self, ticket: int) -> Optional[int]:
+        """The token, if the session holds by the contender of this ticket: at the last zxid. None where that is not shown."""
+        token = c_int64()
+        code = self._calls.held(self._handle, ticket, byref(token))
+        checked(code)
+        return token.value if code == OK else None
+
+    def place(self, ticket: int) -> Optional[str]:
+        """The path of the place of the contender of this ticket, if it is known."""
+        path = filled(lambda *room: self._calls.place(self._handle, ticket, *room))
+        return self._root.read(path) if path else None
 
     def _number(self, answered: int) -> int:
         checked(answered)

@@ -3,13 +3,13 @@
 from __future__ import annotations
 
 import logging
-from typing import Any, Generic, Optional, Protocol
+from typing import Any, Callable, Generic, Optional, Protocol
 
 from dirwolleu import _plans as plans
 from dirwolleu import _requests as requests
 from dirwolleu._checks import checked_data
 from dirwolleu._engine import News
-from dirwolleu._locks import BETWEEN_TRIES, AnyClient, patiently, release
+from dirwolleu._locks import BETWEEN_TRIES, AnyClient, patiently
 from dirwolleu._plans import Plan
 from dirwolleu._retry import is_lived_through
 from dirwolleu._steps import Steps, Wait
@@ -122,9 +122,45 @@ class BaseRegistration(Generic[AnyClient]):
         try:
             stat = yield from patiently(self._client._engine, self._look)
             if stat is not None and stat.ephemeral_owner == self._client._engine.session_id():
-                yield from release(self._client, self._path)
+                yield from _surely(self._client, self._delete)
+                self._client._engine.used()
         except SessionExpiredError:
             pass
 
     def _look(self) -> Plan[Any]:
         return (yield requests.exists(self._path, None))
+
+    def _delete(self) -> Plan[None]:
+        try:
+            yield requests.delete(self._path, -1)
+        except NoNodeError:
+            pass
+
+
+def _surely(client: AnyClient, plan: Callable[[], Steps[None]]) -> Steps[None]:
+    """Does what deletes a node of the session. When `patiently` gives up, the error is raised, and the client goes on with it in
+    the background until it is done or the session is over.
+    """
+    engine, session = client._engine, client._engine.session_id()
+
+    def go_on(_: News) -> Steps[None]:
+        while engine.is_running and engine.session_id() == session:
+            try:
+                return (yield from patiently(engine, plan))
+            except ZookeeperError as error:
+                _let_pass(error)
+
+    try:
+        yield from patiently(engine, plan)
+    except SessionExpiredError:
+        pass
+    except ZookeeperError as error:
+        if is_lived_through(error):
+            client._begin(go_on, lambda *_: None)
+        raise
+
+
+def _let_pass(error: ZookeeperError) -> None:
+    """Raises an error after which the same session brings nothing more."""
+    if isinstance(error, SessionExpiredError) or not is_lived_through(error):
+        raise error

@@ -6,7 +6,6 @@ from typing import Any, Callable, Generic, NamedTuple, Optional, TypeVar
 
 from dirwolleu import _library as library
 from dirwolleu._checks import checked_data, checked_function, checked_path, checked_version
-from dirwolleu._handle import Listing
 from dirwolleu._library import Answer
 from dirwolleu._paths import parent
 from dirwolleu._root import Root
@@ -136,20 +135,6 @@ def get(path: str, watch: Watch) -> Request[tuple[Optional[bytes], Stat]]:
 
 def get_children(path: str, watch: Watch) -> Request[list[str]]:
     return Request(*_read(Session.get_children, path, library.CHILDREN_SIDE, watch))
-
-
-class _Listing(Request[Listing]):
-    """Reads the names of a node's children, with the zxid of the answer."""
-
-    __slots__ = ()
-
-    def result(self, answer: Answer, root: Root) -> Any:
-        return Listing.of(super().result(answer, root), answer.zxid)
-
-
-def listing(path: str) -> Request[Listing]:
-    """The names of a node's children as the core takes them, which decides by them who stands first. It leaves no watch."""
-    return _Listing(*_read(Session.get_children, path, library.CHILDREN_SIDE, None))
 
 
 def set(path: str, value: Optional[bytes], version: int) -> Request[Stat]:

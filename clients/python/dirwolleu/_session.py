@@ -33,7 +33,7 @@ LONG = 65_536
 """An output of this many bytes is copied once, if as many have come for it."""
 KEPT = 2_097_152
 """Twice as many bytes stay with the process once long answers are let go."""
-_REFUSALS = frozenset((library.READ_CODE, library.READ_TOO_MANY_WATCHES, library.READ_TOO_LARGE, library.READ_CLOSED))
+_REFUSALS = frozenset(range(library.READ_CODE, library.MIXED_NAMES + 1))
 _EVENTS = frozenset((library.NODE_CREATED, library.NODE_DELETED, library.DATA_CHANGED, library.CHILDREN_CHANGED))
 _SIDES = frozenset((library.DATA_SIDE, library.CHILDREN_SIDE))
 _STATES = frozenset((library.IDLE, library.CONNECTING, library.CONNECTED, library.EXPIRED, library.SESSION_CLOSED))
@@ -115,6 +115,20 @@ class TreeComplete(NamedTuple):
     tree: int
 
 
+class Contends(NamedTuple):
+    """How a contender stands, where that is another thing than before: one of `CONTENDER_WAITS` to `CONTENDER_GIVEN_UP`.
+
+    It holds by a token. Where it pauses, `refusal` says why, and the code is the server's.
+    """
+
+    ticket: int
+    stands: int
+    token: int = 0
+    refusal: int = 0
+    code: int = 0
+
+
+_STANDS = frozenset(range(library.CONTENDER_WAITS, library.CONTENDER_GIVEN_UP + 1))
 _PLAIN_ACTIONS = {library.HANG_UP: PlainAction.HANG_UP, library.RENEWED: PlainAction.RENEWED}
 
 
@@ -132,7 +146,7 @@ class Limits(NamedTuple):
     longest_request: int = LONGEST_REQUEST
 
 
-Action = Union[library.Output, Dial, PlainAction, TimedOut, Shown, Refused, MemberAdded, MemberRemoved, TreeBounded, TreeComplete, CredentialAnswer]
+Action = Union[library.Output, Dial, PlainAction, TimedOut, Shown, Refused, MemberAdded, MemberRemoved, TreeBounded, TreeComplete, CredentialAnswer, Contends]
 
 
 @functools.cache
@@ -288,6 +302,19 @@ class Session(LookUps):
     def unfollow_tree(self, now: int, ticket: int) -> list[Action]:
         return self._outputs(self._calls.unfollow_tree(self._handle, now, ticket))
 
+    def contend(
+        self, now: int, ticket: int, directory: str, naming: int, guid: str, data: bytes, may_be_there: bool
+    ) -> list[Action]:
+        """Has a contender join for the lock of a directory. `may_be_there` says that this session may have made a place by this guid before."""
+        spelled, tag = self._root.spell(directory), guid.encode()
+        place, name, content = (spelled, len(spelled)), (naming, tag, len(tag)), (data, len(data), False)
+        code = self._calls.contend(self._handle, now, ticket, *place, *name, *content, may_be_there)
+        return self._outputs(code, directory)
+
+    def give_up(self, now: int, ticket: int) -> list[Action]:
+        """Gives a contender up: its place is deleted, through any number of connections."""
+        return self._outputs(self._calls.give_up(self._handle, now, ticket))
+
     # Look-ups.
 
     def heard_at(self) -> Optional[int]:
@@ -360,7 +387,7 @@ class Session(LookUps):
 
     def _read(self, fields: tuple[Any, ...], told: bytes) -> Action:
         """What the library says, by the fields of an output, with its Stat as the protocol has it, and its bytes."""
-        kind, detail, result, code, ticket, _, length, place, was_sent = fields[:9]
+        kind, detail, result, code, ticket, zxid, length, place, was_sent = fields[:9]
         if kind == _SEND:
             return made(Send, (told,))
         if kind == _ANSWER:
@@ -389,6 +416,9 @@ class Session(LookUps):
             return TreeComplete(ticket)
         if kind == library.CREDENTIAL:
             return CredentialAnswer(place, code)
+        if kind in _STANDS:
+            why = known("refusal", detail, _REFUSALS) if kind == library.CONTENDER_PAUSES else 0
+            return Contends(ticket, kind, zxid, why, code)
         return _PLAIN_ACTIONS[known("output", kind, _PLAIN_ACTIONS)]
 
     def _answer(self, fields: tuple[Any, ...], told: bytes) -> Answer:

@@ -33,6 +33,12 @@ _REFUSALS: dict[int, type[ZookeeperError]] = {
 }
 
 
+def error_of_refusal(refusal: int, code: int) -> ZookeeperError:
+    """Why a read or a contender was refused."""
+    kind = _REFUSALS.get(refusal)
+    return refusal_of(code) if kind is None else kind()
+
+
 class Views(Dispatcher):
     """Has the session follow subjects, and tells those who look at them."""
 
@@ -87,8 +93,7 @@ class Views(Dispatcher):
 
     def _refuse(self, refused: Refused) -> None:
         self._is_recast = True
-        kind = _REFUSALS.get(refused.refusal)
-        error = refusal_of(refused.code) if kind is None else kind()
+        error = error_of_refusal(refused.refusal, refused.code)
         followed = self._subjects.get(refused.ticket)
         if followed is not None:
             error.path = followed.path

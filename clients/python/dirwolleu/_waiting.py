@@ -263,6 +263,8 @@ class Callbacks(threading.Thread):
         self._soon = soon
         self._queue: queue.SimpleQueue[Optional[_Told]] = queue.SimpleQueue()
         self._fate = Fate()
+        self._turns = [None]
+        """The turn to start it, which one of those takes who see that it has not begun: `Thread.start` is not for two threads at once."""
         self._is_begun = self._has_ended = self._is_left = False
 
     def tell(self, function: Callable[[Any], object], argument: Any) -> bool:
@@ -283,12 +285,17 @@ class Callbacks(threading.Thread):
         self._queue.put(None)
 
     def _begin(self) -> None:
-        """Begins, if it has not. What was told stays where no thread can be started now."""
+        """Begins, if it has not, and nobody starts it. What was told stays where no thread can be started now."""
         if self._is_begun:
+            return
+        try:
+            self._turns.pop()
+        except IndexError:
             return
         try:
             self.start()
         except RuntimeError as error:
+            self._turns.append(None)
             if self.ident is None and not ending.has_come():
                 logger.error("no callback is called: %s", error)
 

@@ -264,15 +264,25 @@ class Client(Shown):
 
     async def _do(self, step: Step, news: asyncio.Event) -> Any:
         if isinstance(step, Wait):
-            with contextlib.suppress(asyncio.TimeoutError):
-                await asyncio.wait_for(news.wait(), step.seconds)
-            return news.clear()
+            return await self._wait(news, step.seconds)
         if isinstance(step, GetNews):
             return news
         if isinstance(step, Call):
             told = step.function()
             return (await told) if inspect.isawaitable(told) else told
         return await (self._send(step.request, step.timeout) if isinstance(step, Ask) else self._send(step))
+
+    async def _wait(self, news: asyncio.Event, seconds: Optional[float]) -> None:
+        """Waits for news, for at most this many seconds. `asyncio.wait_for` of Python 3.11 and before ends no wait whose news and cancellation
+        come in one turn of the loop: it forgets the cancellation.
+        """
+        timer = None if seconds is None else asyncio.get_running_loop().call_later(seconds, news.set)
+        try:
+            await news.wait()
+        finally:
+            if timer is not None:
+                timer.cancel()
+        news.clear()
 
     def _send(self, request: Request[Any], timeout: Optional[float] = None) -> _Waiter:
         waiter = _Waiter(loop=asyncio.get_running_loop())

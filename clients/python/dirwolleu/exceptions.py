@@ -185,6 +185,9 @@ class MixedNamesError(ZookeeperError):
     that of the lock. No contender of its own is left.
     """
 
+    _reason = "contenders by another kind of names are there"
+    _advice = "all contenders of a path use one kind of names"
+
 
 class SessionMovedError(ZookeeperError):
     """The session was taken up over another connection."""

@@ -1,6 +1,6 @@
 """Recipes over a client with threads: locks, a semaphore, an election, a registration, barriers, a counter, a queue.
 
-A lock is held where the proved core says so; the rest is tested. `dirwolleu.aio` has the same as coroutines.
+The proved core contends for locks; the rest is tested. `dirwolleu.aio` has the same as coroutines.
 """
 
 from __future__ import annotations
@@ -15,7 +15,7 @@ from dirwolleu._barriers import BaseBarrier, BaseDoubleBarrier
 from dirwolleu._calls import shown
 from dirwolleu._counters import BaseCounter, Number
 from dirwolleu._leases import BaseSemaphore
-from dirwolleu._locks import READING, WRITING, BaseHeld, BaseLock, BaseTaker, Holding
+from dirwolleu._locks import READING, WRITING, BaseHeld, BaseLock, BaseTaker, Taken
 from dirwolleu._queues import BaseQueue
 from dirwolleu._registrations import BaseRegistration
 from dirwolleu._steps import Result, Steps
@@ -73,17 +73,17 @@ class _Taker(BaseTaker[Client, Held]):
     def acquire(self, timeout: Optional[float] = None) -> Held:
         """Waits until the lock is held. It is not reentrant: who holds it and takes it again waits for itself.
 
-        Raises `LockTimeout` after `timeout` seconds, and leaves no contender then; a timeout of 0 tries once. Where a
-        contender may be left and there is no connection, it is looked for first, for twice the timeout of the session at
-        most; after that the client goes on to delete it. Lost connections, expired sessions and calls without an answer are lived through: no `CallTimeoutError` is
+        Raises `LockTimeout` after `timeout` seconds, and leaves no contender then; a timeout of 0 tries once. It waits until no
+        contender is left, for twice the timeout of the session at most, as where there is no connection; after that the core goes on to
+        delete it. Lost connections, expired sessions and calls without an answer are lived through: no `CallTimeoutError` is
         raised. Raises `MixedNamesError` if others contend by other names; `ConnectionClosedError` when the client is stopped;
         another `ZookeeperError` if a server refuses to make or to show the nodes, and one that says so when their numbers at
         the path are used up.
         """
         return self._client._drive(self._taking(timeout))
 
-    def _held(self, holding: Holding) -> Held:
-        return Held(self._client, holding, self._on_lost)
+    def _held(self, taken: Taken) -> Held:
+        return Held(self._client, taken, self._on_lost, self._keeps)
 
     def __enter__(self) -> Held:
         return self._enter(threading.get_ident(), self.acquire())
@@ -98,21 +98,23 @@ class Lock(_Taker, BaseLock[Client, Held]):
     """An exclusive lock: one of those that take it at a path holds it at a time, at each zxid. All contenders of a path use one
     kind of `names`: kazoo's or Curator's.
 
-    The contenders are ephemeral nodes below the path, in the order of their numbers. The proved core says which one holds,
-    and with which token: it shows that no other one was before its node at the zxid of a listing, and that the node is
-    there at the last seen zxid. It also says whom each other one waits for, and that one alone is watched. What is proved
-    is so where all contenders at the path are made as these are, and by fewer than 2,147,483,648 creates; the steps around
-    it, which ask, watch and wait, are tested.
+    The contenders are ephemeral nodes below the path, in the order of their numbers. The proved core contends: it makes the
+    node, finds it again where an answer was lost, watches it and the last one before it, and deletes it when the lock is
+    released or a wait ends. It says whether the node holds, and by which token: no other one was before it in a listing
+    that was answered after it was made, and it is there, at the last seen zxid. After an expiry a wait goes on by another
+    node. What is proved is so where all contenders at the path are made as these are, and by fewer than 2,147,483,648
+    creates; what is here, which waits for what the core tells, is tested.
 
-    A create whose answer was lost is settled, so that no contender is left which nobody waits for. With `names="kazoo"`
-    kazoo's `Lock`, and those of Dirwolleu in C and Rust by these names, are in the same line; with `names="curator"`
-    Curator's `InterProcessMutex` is. kazoo and Curator do not see each other's contenders. This one does: if it finds one
-    of the other names before it holds, it raises `MixedNamesError`.
+    With `names="kazoo"` kazoo's `Lock`, and those of Dirwolleu in C and Rust by these names, are in the same line; with
+    `names="curator"` Curator's `InterProcessMutex` is. kazoo and Curator do not see each other's contenders: `acquire`
+    raises `MixedNamesError` if the core finds one of other names before this one holds.
 
     A program that was paused, or whose packets are late, can still believe that it holds when another one does. So work
     in small steps, `check` before each, and hand the `token` on. `on_lost` is called once, in the thread of the
     callbacks, when the lock is lost: with the connection, the session or the node. With `keeps_while_suspended` a lost
-    connection alone does not end it, as long as the session goes on. What was lost once stays lost: release it.
+    connection alone does not end it, as long as the session goes on: it is held as of the last seen zxid, and `check(within)`
+    says when that is too long ago. What was lost once stays lost: release it. Where the node is gone, or its data were set, the
+    core does not take it again, and another one may hold.
 
         lock = dirwolleu.Lock(client, "/locks/job", identifier="host-1")
         with lock as held:
@@ -152,13 +154,13 @@ class ReadLock(Lock):
 
 
 class Semaphore(_Taker, BaseSemaphore[Client, Held]):
-    """A lock that `max_leases` hold at a time, at each zxid, by the nodes of kazoo's `Semaphore`. It has no other names: if the
-    path has the nodes of Curator's `InterProcessSemaphoreV2`, `acquire` raises `MixedNamesError`.
+    """A lock that `max_leases` hold at a time, at each zxid. It has no `names`: its nodes are its own, and it shares with those of
+    Dirwolleu in C and Rust alone.
 
-    The node of the path says how many they are at most. Leases are ephemeral nodes below it, and whoever takes one holds
-    the lock at `PATH-__lock__` meanwhile: a transaction makes the lease only while that lock is held. The proved core says
-    which one holds that lock. It has nothing to say of several first ones: the number of leases is tested alone. That the
-    node of a lease is there while `check` is quiet is a good answer of the core.
+    Leases are ephemeral nodes below the path, in the order of their numbers, and the first `max_leases` of them hold: the
+    proved core contends, as for `Lock`. The node of the path says how many they are, by a number below 0. Semaphores of kazoo,
+    which count other nodes, have one above it: `acquire` raises `MixedNamesError` there, and at the nodes of Curator's
+    `InterProcessSemaphoreV2`; and kazoo's raises `ValueError` here. That number is read and compared here, and is not proved.
 
     What is said of `acquire`, `check`, `on_lost` and `keeps_while_suspended` at `Lock` holds here too; `acquire` raises
     `ValueError` if the node says that there are more leases or fewer. The token of a lease is the zxid at which it was made; it is

@@ -33,6 +33,7 @@ from dirwolleu import (  # noqa: E402
     InvalidACLError,
     Lock,
     Mark,
+    MixedNamesError,
     NoAuthError,
     NoChildrenForEphemeralsError,
     NoNodeError,
@@ -326,27 +327,36 @@ class RealServerTest(unittest.TestCase):
         done = subprocess.run(words, capture_output=True, text=True, timeout=6 * WAIT, check=False)
         self.assertEqual((done.returncode, done.stdout), (0, "done\n"), done.stderr[-2000:])
 
-    def test_a_semaphore_beside_those_of_kazoo(self) -> None:
-        """Whoever has a lease sees no more of them than there may be."""
+    def test_leases(self) -> None:
+        """Whoever has a lease makes a node beside those of the others: never a fourth one."""
+        self.one.ensure_path("/judge-of-leases")
+
         def work() -> None:
             client = self.client()
             for _ in range(ROUNDS):
                 with Semaphore(client, "/leases", max_leases=3) as held:
-                    self.assertLessEqual(len(client.get_children("/leases")), 3)
+                    made = client.create("/judge-of-leases/n-", ephemeral=True, sequence=True)
+                    self.assertLessEqual(len(client.get_children("/judge-of-leases")), 3)
                     held.check()
+                    client.delete(made)
 
-        def work_as_kazoo() -> None:
-            if KAZOO is None:
-                return
-            client = KAZOO.client.KazooClient(HOST + self.root)
-            client.start()
-            for _ in range(ROUNDS):
-                with client.Semaphore("/leases", max_leases=3):
-                    self.assertLessEqual(len(client.get_children("/leases")), 3)
+        self.assertEqual([error for error in in_threads(6 * [work]) if error is not None], [])
+
+    @unittest.skipIf(KAZOO is None, "there is no kazoo")
+    def test_no_semaphore_is_beside_one_of_kazoo(self) -> None:
+        assert KAZOO is not None
+        client = KAZOO.client.KazooClient(HOST + self.root)
+        client.start()
+        try:
+            with Semaphore(self.one, "/ours", max_leases=3):
+                with self.assertRaises(ValueError):
+                    client.Semaphore("/ours", max_leases=3).acquire()
+            with client.Semaphore("/kazoos", max_leases=3):
+                with self.assertRaises(MixedNamesError):
+                    Semaphore(self.one, "/kazoos", max_leases=3).acquire(WAIT)
+        finally:
             client.stop()
             client.close()
-
-        self.assertEqual([error for error in in_threads([*3 * [work], *3 * [work_as_kazoo]]) if error is not None], [])
 
     def test_a_counter_and_a_barrier_beside_those_of_kazoo(self) -> None:
         if KAZOO is None:

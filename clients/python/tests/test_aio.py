@@ -13,7 +13,7 @@ from typing import Any, Callable, Optional
 from support import CLIENTS, TIMEOUT, WAIT, Partner, PartnerCase
 
 from dirwolleu import EventType, State, WatchedEvent
-from dirwolleu.aio import Client
+from dirwolleu.aio import Client, Lock
 
 
 async def within(condition: Callable[[], Any]) -> None:
@@ -94,6 +94,18 @@ class AioTest(unittest.IsolatedAsyncioTestCase, PartnerCase):
         call.cancel()
         partner.do("up")
         self.assertIsNotNone(await asyncio.wait_for(client.exists("/a"), WAIT))
+
+    async def test_a_wait_that_is_cancelled_as_news_come_ends(self) -> None:
+        client = await self.client(self.partner())
+        async with Lock(client, "/locks"):
+            waits = asyncio.ensure_future(Lock(client, "/locks").acquire(3 * WAIT))
+            while len(await client.get_children("/locks")) < 2:
+                await asyncio.sleep(0.005)
+            client._engine.tell_news()
+            waits.cancel()
+            with self.assertRaises(asyncio.CancelledError):
+                await asyncio.wait_for(waits, WAIT)
+            self.assertEqual(len(await client.get_children("/locks")), 1)
 
 
 class EndOfLoopTest(PartnerCase):

@@ -39,7 +39,7 @@ from dirwolleu import (
     aio,
 )
 from dirwolleu._clock import moment
-from dirwolleu._locks import Holding, Taken
+from dirwolleu._locks import Taken
 
 SET_DATA = 5
 
@@ -337,8 +337,7 @@ class AgeTest(ClientCase):
         client = self.client(self.raw_server(serves_one).host, 3 * HOUR)
         client.get("/a", watch=True)
         lock = Lock(client, "/lock")
-        holding = Holding(client._engine, Taken("/lock/x", 1, lambda: 1), False)
-        held = lock._held(holding)
+        held = lock._held(Taken("/lock/x", 1, lambda: 1, mock.Mock()))
         held.check(within=HOUR / 2)
         real = time.clock_gettime_ns
 

@@ -12,14 +12,15 @@ from unittest import mock
 from support import WAIT, within
 from test_kazoo import KazooCase
 
-from dirwolleu._handle import Standing
 from dirwolleu.kazoo.exceptions import (
     CancelledError,
+    ConfigurationError,
     ConnectionClosedError,
     ConnectionLoss,
     KazooException,
     LockTimeout,
     NoNodeError,
+    ZookeeperError,
 )
 from dirwolleu.kazoo.recipe import election, lock, party
 from dirwolleu.kazoo.recipe.cache import TreeCache, TreeEvent
@@ -90,7 +91,7 @@ class RecipesTest(RecipesCase):
         class Told(lock.Lock):
             def __setattr__(self, name: str, value: Any) -> None:
                 super().__setattr__(name, value)
-                if name == "_is_held" and not value:
+                if name == "_taken" and not value:
                     nodes.append(self.node)
 
         made = Told(self.one, "/lock")
@@ -99,36 +100,58 @@ class RecipesTest(RecipesCase):
         self.assertTrue(made.release())
         self.assertEqual(nodes, [None])
 
+    def test_a_release_is_not_cancelled(self) -> None:
+        """What is cancelled is the wait of another thread for the same lock, which has news of its own."""
+        made = self.one.Lock("/lock", "one")
+        made.acquire()
+        made.cancel()
+        self.assertTrue(made.release())
+        self.assertEqual((made.cancelled, made.wake_event.is_set()), (True, True))
+        with self.assertRaises(CancelledError):
+            made.acquire()
+        self.assertTrue(made.acquire())
+
     def test_a_lock_is_held_where_the_core_says_so(self) -> None:
-        nobody = mock.patch("dirwolleu.kazoo._session.Session.standing", lambda *_: Standing(None, None))
+        nobody = mock.patch("dirwolleu._engine.Engine.held_by", lambda *_: None)
         with nobody:
             lock = self.one.Lock("/lock", "one")
-            self.assertFalse(lock.acquire(blocking=False))
-            with self.assertRaises(LockTimeout):
-                lock.acquire(timeout=0.15)
-            for named in ({"ephemeral": False}, {"blocking": False, "ephemeral": False}):
-                self.assertTrue(lock.acquire(**named))  # of this the core knows nothing
-                lock.release()
-            self.assertTrue(self.one.Lock("/lock", "one", ["-l.ck-"]).acquire())
+            with mock.patch("dirwolleu.kazoo._session.Session.session_timeout", 0.15):
+                self.assertFalse(lock.acquire(blocking=False))
+            self.assertFalse(lock.acquire(timeout=0.15))  # nobody is before it
+        self.assertTrue(lock.acquire(blocking=False))
         self.assertFalse(lock.acquire(blocking=False))
-        curators = "/lock/_c_6fbbe9d5-8b1c-4b8a-a8a7-f9c1a1b0f3e5-lock-0000000000"
-        self.one.delete("/lock", recursive=True)
-        self.one.create(curators, makepath=True)
-        self.assertTrue(self.one.Lock("/lock", "one").acquire(blocking=False))
-        self.assertFalse(self.other.Lock("/lock", "other", ["-lock-"]).acquire(blocking=False))
 
-    def test_a_create_whose_answer_is_lost(self) -> None:
-        lock = self.one.Lock("/lock", "one")
-        lock.contenders()
-        create = self.one.create
+    def test_what_a_lock_waits_for(self) -> None:
+        """All of kazoo's, as the core says. Beside Curator's it says so, and leaves no node: it can't be seen by them."""
+        for name in ("a__lock__", "a__rlock__"):
+            self.one.create(f"/lock/{name}0000000000", makepath=True)
+            self.assertFalse(self.other.Lock("/lock", "other").acquire(blocking=False))
+            self.one.delete("/lock", recursive=True)
+        for begin, whose in (("_c_6fbbe9d5-lock-", "locks"), ("a-latch-", "latches"), ("a__WRIT__", "locks"), ("a__READ__", "locks")):
+            with self.subTest(begin):
+                name = f"{begin}0000000000"
+                self.one.create(f"/lock/{name}", makepath=True)
+                for kind in ("Lock", "ReadLock", "WriteLock"):
+                    with self.assertRaisesRegex(ZookeeperError, f"^{name} is there, by names of Curator's {whose}: /lock; all contenders"):
+                        getattr(self.other, kind)("/lock", "other").acquire()
+                self.assertEqual(self.one.get_children("/lock"), [name])
+                self.one.delete("/lock", recursive=True)
+        self.one.create("/lock/others-0000000000", makepath=True)
+        self.assertTrue(self.other.Lock("/lock", "other", ["__rlock__"]).acquire(blocking=False))
+        with self.assertRaisesRegex(ConfigurationError, 'as dirwolleu.Lock does with names="curator"$'):
+            self.other.Lock("/lock", "other", ["others-"])
+        with self.assertRaisesRegex(ConfigurationError, "leave ephemeral true"):
+            self.other.Lock("/lock", "other").acquire(ephemeral=False)
 
-        def lose(*words: Any, **named: Any) -> Any:
-            create(*words, **named)
-            raise ConnectionLoss
-
-        with mock.patch.object(self.one, "create", lose):
-            self.assertTrue(lock.acquire())
-        self.assertEqual(lock.contenders(), ["one"])
+    def test_a_lock_whose_node_is_deleted_is_lost_and_not_taken_again(self) -> None:
+        made = self.one.Lock("/lock", "one")
+        made.acquire()
+        self.other.delete(f"/lock/{made.node}")
+        within(lambda: not made.is_acquired)
+        within(lambda: made.contenders() == [])
+        self.assertFalse(made.release())
+        self.assertTrue(made.acquire())
+        self.assertEqual(made.contenders(), ["one"])
 
     def test_readers_and_writers(self) -> None:
         readers = [self.one.ReadLock("/lock", "r1"), self.other.ReadLock("/lock", "r2")]
@@ -296,6 +319,9 @@ class SharesTest(RecipesCase):
         self.assertEqual(sorted(first.lease_holders()), ["one", "third"])
         with self.assertRaisesRegex(ValueError, "^/some has 2 leases at most, and not 3$"):
             self.other.Semaphore("/some", max_leases=3).acquire()
+        self.one.create("/ours", b"-2")
+        with self.assertRaisesRegex(ValueError, "^/ours has -2 leases at most, and not 2$"):
+            self.other.Semaphore("/ours", max_leases=2).acquire()  # dirwolleu.Semaphore has other nodes
         first.release()
         with second:
             self.assertTrue(second.is_acquired)

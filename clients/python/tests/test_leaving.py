@@ -18,14 +18,14 @@ from support import WAIT, within
 
 from dirwolleu import ConnectionLoss, LockTimeout, MixedNamesError, aio
 
-CREATE, DELETE, NONE = 1, 2, -1
+CREATE, DELETE, GET_DATA, GET_CHILDREN_2, NONE = 1, 2, 4, 12, -1
 """Types of requests, and one of none."""
 OUTAGE = 0.5
 """For how long there is no server after a cut, where there is none, in seconds."""
 
 
 class Relay:
-    """What stands between a client and a server: it cuts the connection at a request or at its answer, once."""
+    """What stands between a client and a server: it cuts the connection at a request or at its answer, or keeps a request back, once."""
 
     def __init__(self, port: int) -> None:
         self._port = port
@@ -34,10 +34,14 @@ class Relay:
         self.kind, self.at, self.outage, self.cuts = NONE, "", 0.0, 0
         self._xid: Optional[int] = None
         self._opens_at = 0.0
+        self.hear: Callable[[bytes], object] = lambda _: None
+        """Is called with each request, before it passes."""
         threading.Thread(target=self._accept, daemon=True).start()
 
     def cut(self, kind: int, at: str, outage: float) -> None:
-        """Cuts at the next request of this type, or at the answer to it; then there is no server for so long, or until `open`."""
+        """Cuts at the next request of this type, or at the answer to it; then there is no server for so long, or until `open`. With
+        `nothing` that request has no answer, and the connection stays.
+        """
         self.kind, self.at, self.outage, self.cuts = kind, at, outage, 0
 
     def open(self) -> None:
@@ -61,25 +65,28 @@ class Relay:
                 for ends, passes in (((client, server), self._passes_request), ((server, client), self._passes_answer)):
                     threading.Thread(target=self._run, args=(*ends, passes), daemon=True).start()
 
-    def _run(self, source: socket.socket, target: socket.socket, passes: Callable[[bytes], bool]) -> None:
-        """Passes frames on until one does not pass, or an end is closed."""
+    def _run(self, source: socket.socket, target: socket.socket, passes: Callable[[bytes], Optional[bool]]) -> None:
+        """Passes frames on until one does not pass, or an end is closed. One of which neither is said is left out."""
         with contextlib.suppress(OSError, struct.error), source.makefile("rb") as frames:
             while True:
                 head = frames.read(4)
                 frame = frames.read(*struct.unpack(">i", head))
-                if not passes(frame):
+                does_pass = passes(frame)
+                if does_pass is False:
                     break
-                target.sendall(head + frame)
+                if does_pass:
+                    target.sendall(head + frame)
         with contextlib.suppress(OSError):
             target.shutdown(socket.SHUT_RDWR)
         source.close()
 
-    def _passes_request(self, frame: bytes) -> bool:
+    def _passes_request(self, frame: bytes) -> Optional[bool]:
+        self.hear(frame)
         xid, kind = struct.unpack_from(">ii", frame)
         if kind != self.kind:
             return True
         self._xid = xid
-        return self.at == "answer" or not self._cut()
+        return self.at == "answer" or not self._cut() and (None if self.at == "nothing" else False)
 
     def _passes_answer(self, frame: bytes) -> bool:
         (xid,) = struct.unpack_from(">i", frame)
@@ -147,10 +154,6 @@ class LeavingRules(BothCase):
             held = self.lock("Semaphore").acquire(WAIT)
             cut()
             held.release()
-            within(lambda: not self.other.get_children("/locks"))
-            self.other.delete("/locks", recursive=True)
-            self.other.delete("/locks-__lock__", recursive=True)
-            self.other.ensure_path("/locks")
 
     def test_a_wait_that_is_given_up(self) -> None:
         for cut in self.each_cut(DELETE):
@@ -174,6 +177,44 @@ class LeavingRules(BothCase):
             held = self.lock().acquire(WAIT)
             self.assertEqual(len(self.other.get_children("/locks")), 1)
             held.release()
+
+    def test_requests_without_an_answer_are_lived_through(self) -> None:
+        """The session leaves the connection, and the core asks again over the next one."""
+        self.one = self.client(self.relay.host + self.root, 3 * T)
+        for kind in (CREATE, GET_DATA, GET_CHILDREN_2, DELETE):
+            with self.subTest(kind):
+                self.relay.cut(kind, "nothing", 0.0)
+                held = self.lock(keeps_while_suspended=True).acquire(WAIT)
+                self.assertEqual(len(self.other.get_children("/locks")), 1)
+                with contextlib.suppress(ConnectionLoss):  # of a busy machine: it is deleted later
+                    held.release()
+                self.is_free()
+                self.assertEqual(self.relay.cuts, 1)
+
+    def test_a_wait_that_ends_by_requests_without_an_answer_leaves_no_contender(self) -> None:
+        self.one = self.client(self.relay.host + self.root, T)
+        with self.recipe("Lock", self.other, "/locks"):
+            for kind in (CREATE, GET_CHILDREN_2, DELETE):
+                self.relay.cut(kind, "nothing", 0.0)
+                with self.assertRaises(LockTimeout):
+                    self.lock().acquire(0.3)
+                within(lambda: len(self.other.get_children("/locks")) == 1)
+                self.assertEqual(self.relay.cuts, 1)
+
+    def test_a_rival_that_goes_between_the_listing_and_the_watch(self) -> None:
+        rival, gone = f"{self.root}/locks/b5a4__lock__0000000000", list[bytes]()
+        self.server.do(f"create {rival}")
+
+        def hear(frame: bytes) -> None:
+            if rival.encode() in frame and not gone:
+                gone.append(frame)
+                self.server.do(f"delete {rival}")
+
+        self.relay.hear = hear
+        held = self.lock().acquire(WAIT)
+        held.check()
+        self.assertEqual(len(gone), 1)
+        held.release()
 
     def test_an_outage_that_is_longer_than_a_release_waits(self) -> None:
         """The session lives on, and its client deletes the place when it has a server again."""

@@ -25,7 +25,7 @@ from dirwolleu import _library as library
 from dirwolleu import _session as of_session
 from dirwolleu._library import Answer, Drop, Report, Send, StateChange
 from dirwolleu._root import Root
-from dirwolleu._session import NO_LIMIT, Dial, PlainAction, Session
+from dirwolleu._session import NO_LIMIT, Contends, Dial, PlainAction, Session
 from dirwolleu.types import DataStat, Stat
 
 HEADER = support.CLIENTS.parent / "include" / "dirwolleu.h"
@@ -57,6 +57,13 @@ def connected(root: Root = Root()) -> Session:
     session.opened(100)
     session.received(100, CONNECT_RESPONSE)
     return session
+
+
+def sent(actions: list[of_session.Action]) -> bytes:
+    """The one frame that is to be sent, and nothing else."""
+    (action,) = actions
+    assert isinstance(action, Send), action
+    return action.frame
 
 
 # What is a union in the header, by one of its fields.
@@ -298,12 +305,37 @@ class MachineTest(unittest.TestCase):
         self.assertEqual(session.standing("/l", own, names, 90, markers), (88, None))
         self.assertEqual(session.standing("/l", own, names, 87, markers), (None, None))
         self.assertEqual(session.standing("/l", other, names, 90, markers), (None, own))
-        listing = handle.Listing.of(names, 90)
-        self.assertEqual(session.standing("/l", own, *listing, markers), (88, None))
         with self.assertRaises(ValueError):
             session.standing("/l", own, names, 90, [])
         with self.assertRaises(ValueError):
             session.standing("/l", "a/b", names, 90, markers)
+
+    def test_a_contender_below_a_root_joins_and_is_given_up(self) -> None:
+        session, own = connected(Root("/app")), b"/app/l/ab__lock__0000000003"
+        create = sent(session.contend(200, 7, "/l", library.KAZOO, "ab", b"me", False))
+        self.assertIn(buffer(own[:-10]) + buffer(b"me"), create)
+        self.assertIsNone(session.place(7) or session.held(7))
+        session.received(300, reply(1, 90, 0, buffer(own)))
+        self.assertEqual((session.place(7), session.held(7), session.held(8)), ("/l/ab__lock__0000000003", None, None))
+        self.assertEqual(session.give_up(400, 7), [])  # it has asked for its node
+        delete = sent(session.received(500, reply(2, 90, -101)))
+        self.assertIn(buffer(own), delete)
+        self.assertEqual(session.received(600, reply(3, 91)), [Contends(7, library.CONTENDER_GIVEN_UP)])
+        self.assertIsNone(session.place(7))
+        self.assertEqual(session.give_up(700, 7), [])
+        for directory, guid in (("l", "ab"), ("/l", "a/b"), ("/l", "a" * 1_048_576)):
+            with self.assertRaises(ValueError):
+                session.contend(800, 9, directory, library.KAZOO, guid, b"", False)
+
+    def test_a_contender_that_may_be_there_is_looked_for(self) -> None:
+        session = connected()
+        fence = sent(session.contend(200, 7, "/l", library.CURATOR_LOCK, "ab", b"", True))
+        self.assertIn(buffer(b"/l"), fence)
+        listing = sent(session.received(300, reply(1, 90, -110)))
+        self.assertIn(buffer(b"/l"), listing)
+        name = b"_c_ab-lock-0000000003"
+        session.received(400, reply(2, 90, 0, struct.pack(">i", 1) + buffer(name) + STAT_BYTES))
+        self.assertEqual(session.place(7), f"/l/{name.decode()}")
 
     def test_a_bad_frame_ends_the_connection(self) -> None:
         session = connected()

@@ -5,20 +5,20 @@ from __future__ import annotations
 import contextlib
 import functools
 import itertools
+import struct
 import threading
 import time
 import unittest
-from collections.abc import Iterator
-from typing import Any, Callable, Optional
+from typing import Any, Optional
 from unittest import mock
 
 from both import AioCase, BothCase, in_thread
-from support import WAIT, PartnerCase, within
+from support import GET_DATA, STAT, WAIT, PartnerCase, Peer, reply, within
 
 import dirwolleu
 from dirwolleu import (
-    CallTimeoutError,
     Client,
+    ConnectionLoss,
     Lock,
     LockLostError,
     LockTimeout,
@@ -27,26 +27,14 @@ from dirwolleu import (
     TransactionFailedError,
     ZookeeperError,
 )
-from dirwolleu import _requests as requests
-from dirwolleu._handle import Listing, Standing
-from dirwolleu._locks import _check_number
+from dirwolleu._contending import Contender
+from dirwolleu._library import Halted
 from dirwolleu._retry import is_passing
+from dirwolleu._session import Session
+from dirwolleu._steps import Steps
 
-Asked = Callable[[Any, Any], Any]
-"""Is told of a request and who waits for its answer, and says who is to wait in its place."""
-
-
-class Altered:
-    """What waits for an answer, and hands on another one."""
-
-    def __init__(self, waiter: Any, alter: Callable[[Any], Any]) -> None:
-        self._waiter, self._alter = waiter, alter
-
-    def __getattr__(self, name: str) -> Any:
-        return getattr(self._waiter, name)
-
-    def set_result(self, result: Any) -> None:
-        self._waiter.set_result(self._alter(result))
+CREATE, DELETE, GET_CHILDREN_2 = 1, 2, 12
+"""Types of requests."""
 
 
 class ContendingRules(BothCase):
@@ -66,106 +54,84 @@ class ContendingRules(BothCase):
         """The outcome of a lock that a thread takes."""
         return in_thread(lambda: self.recipe(name, client, "/locks", **named).acquire(3 * WAIT))
 
-    @contextlib.contextmanager
-    def asked(self, client: Any, told: Asked) -> Iterator[None]:
-        engine = self.engine(client)
-        ask = engine.ask
-
-        def asks(now: int, request: Any, waiter: Any, timeout: Optional[float] = None) -> None:
-            ask(now, request, told(request, waiter), timeout)
-
-        with mock.patch.object(engine, "ask", asks):
-            yield
-
-    def test_a_listing_that_is_older_than_the_node_is_not_believed(self) -> None:
-        for wrong in (lambda zxid: 0, lambda zxid: zxid + 1000):
-            seen: list[Any] = []
-
-            def told(request: Any, waiter: Any, wrong: Any = wrong, seen: Any = seen) -> Any:
-                if not isinstance(request, requests._Listing):
-                    return waiter
-                seen.append(request)
-                first = len(seen) == 1
-                return Altered(waiter, lambda got: got._replace(zxid=wrong(got.zxid)) if first else got)
-
-            with self.asked(self.one, told):
-                held = self.recipe("Lock", self.one, "/locks").acquire(WAIT)
-            self.assertEqual(len(seen), 2)
-            held.check()
-            held.release()
-
     def test_nobody_holds_unless_the_core_says_so(self) -> None:
-        with mock.patch.object(self.engine(self.one), "standing", lambda *_: Standing(None, None)):
+        with mock.patch.object(self.engine(self.one), "held_by", lambda _: None):
             with self.assertRaises(LockTimeout):
                 self.recipe("Lock", self.one, "/locks").acquire(0.15)
         self.assertEqual(self.names(), [])
 
     def test_a_check_asks_the_core_again(self) -> None:
         held, engine = self.recipe("Lock", self.one, "/locks").acquire(WAIT), self.engine(self.one)
-        standing, asked = engine.standing, list[Any]()
+        held_by, asked = engine.held_by, list[Any]()
 
-        def stands(*words: Any) -> Standing:
-            asked.append(words)
-            found: Standing = standing(*words)
+        def holds(contender: Contender) -> Optional[int]:
+            asked.append(contender)
+            found: Optional[int] = held_by(contender)
             return found
 
-        with mock.patch.object(engine, "standing", stands):
+        with mock.patch.object(engine, "held_by", holds):
             held.check()
-        ((directory, name, listing, markers),) = asked
-        self.assertEqual((directory, f"/locks/{name}", type(listing), markers[0]), ("/locks", held.path, Listing, "__lock__"))
-        with mock.patch.object(engine, "standing", lambda *_: Standing(held.token + 1, None)):
+        (contender,) = asked
+        self.assertEqual((contender.directory, engine.place_of(contender), held_by(contender)), ("/locks", held.path, held.token))
+        with mock.patch.object(engine, "held_by", lambda _: held.token + 1):
             with self.assertRaisesRegex(LockLostError, "not known to be there"):
                 held.check()
         self.assertFalse(held.is_held)
         held.release()
 
-    @contextlib.contextmanager
-    def unanswered(self, client: Any, counts: dict[str, int]) -> Iterator[None]:
-        """As many of the calls of these names have no answer in time, whether they happen or not."""
+    def test_what_is_lost_is_not_taken_again(self) -> None:
+        """Neither where its node is deleted nor where its data are set: another one takes the lock, before it is released."""
+        for lose, words in ((self.other.delete, ()), (self.other.set, (b"set",))):
+            held = self.recipe("Lock", self.one, "/locks", keeps_while_suspended=True).acquire(WAIT)
+            lose(held.path, *words)
+            within(functools.partial(self.is_lost, held))
+            within(lambda: self.names() == [])
+            later = self.recipe("Lock", self.other, "/locks").acquire(WAIT)
+            self.assertGreater(later.token, held.token)
+            self.assertFalse(held.is_held)
+            held.release()
+            later.check()
+            later.release()
 
-        def told(request: Any, waiter: Any) -> Any:
-            is_place = (request.path or "").startswith("/locks/")
-            name = request.call.__name__ if is_place else "listing" if isinstance(request, requests._Listing) else ""
-            if not counts.get(name, 0):
-                return waiter
-            counts[name] -= 1
-            error = CallTimeoutError("no answer has come in time", "it may still happen")
-            error.path, error.may_have_happened = request.path, not request.is_repeatable
-            waiter.set_exception(error)
-            return mock.Mock(begin=lambda: True, done=lambda: False)
+    def is_lost(self, held: Any) -> bool:
+        return not held.is_held
 
-        with self.asked(client, told):
-            yield
-        self.assertEqual({name for name, count in counts.items() if count}, set())
+    def halt(self, client: Any) -> None:
+        """The core of a client runs out of memory in the step that takes the next bytes, once."""
+        received, halted = Session.received, list[int]()
 
-    def test_calls_without_an_answer_are_lived_through(self) -> None:
-        with self.unanswered(self.one, {"create": 1, "get_data": 1, "listing": 1, "delete": 1}):
-            with self.recipe("Lock", self.one, "/locks") as held:
-                held.check()
-                self.assertEqual(len(self.names()), 1)
+        def receives(session: Session, *words: Any) -> list[Any]:
+            if session is self.engine(client)._session and not halted:
+                halted.append(1)
+                raise Halted
+            return received(session, *words)
+
+        with mock.patch.object(Session, "received", receives):
+            with contextlib.suppress(ConnectionLoss):
+                client.sync("/")
+            within(lambda: halted)
+        within(lambda: client.connected)
+
+    def test_a_core_without_memory_in_line_goes_on_by_the_same_place(self) -> None:
+        with self.recipe("Lock", self.other, "/locks"):
+            waits = self.taking("Lock", self.one)
+            within(lambda: len(self.other.get_children("/locks")) == 2)
+            before = sorted(self.other.get_children("/locks"))
+            self.halt(self.one)
+            self.other.sync("/")
+            self.assertEqual(sorted(self.other.get_children("/locks")), before)
+            self.assertTrue(waits.empty())
+        held = waits.get(timeout=WAIT)
+        self.assertIn(held.path.rpartition("/")[2], before)
+        held.release()
         self.assertEqual(self.names(), [])
 
-    def test_a_wait_that_ends_by_calls_without_an_answer_leaves_no_contender(self) -> None:
-        with self.recipe("Lock", self.other, "/locks"):
-            with self.unanswered(self.one, {"delete": 1, "listing": 1}), self.assertRaises(LockTimeout):
-                self.recipe("Lock", self.one, "/locks").acquire(0.3)
-            self.assertEqual(len(self.names()), 1)
-
-    def test_a_rival_that_goes_between_the_listing_and_the_watch(self) -> None:
-        rival = f"{self.root}/locks/b5a4__lock__0000000000"
-        self.server.do(f"create {self.root}/locks", f"create {rival}")
-        gone = []
-
-        def told(request: Any, waiter: Any) -> Any:
-            if request.path == "/locks/b5a4__lock__0000000000":
-                self.server.do(f"delete {rival}")
-                gone.append(request)
-            return waiter
-
-        with self.asked(self.one, told):
-            held = self.recipe("Lock", self.one, "/locks").acquire(WAIT)
-        held.check()
-        self.assertEqual(len(gone), 1)
+    def test_a_core_without_memory_holds_no_more(self) -> None:
+        held = self.recipe("Lock", self.one, "/locks", keeps_while_suspended=True).acquire(WAIT)
+        self.halt(self.one)
+        self.assertFalse(held.is_held)
+        within(lambda: self.names() == [])
+        held.release()
 
     def test_a_session_that_is_lost_in_line(self) -> None:
         first = self.recipe("Lock", self.one, "/locks").acquire(WAIT)
@@ -191,7 +157,7 @@ class ContendingRules(BothCase):
         waits = self.taking("Lock", self.other)
         within(lambda: len(self.names()) == 2)
         (own,) = {f"/locks/{name}" for name in self.names()} - {first.path}
-        within(lambda: self.engine(self.other).token_of(own))
+        within(lambda: self.engine(self.other).kept(own))
         self.one.delete(own)
         within(lambda: len(self.names()) == 2)
         self.assertTrue(waits.empty())
@@ -231,37 +197,52 @@ class ContendingRules(BothCase):
         last.release()
 
     def test_places_of_other_names_are_told(self) -> None:
-        """None of either kind waits for the other: the one that finds a place of the other names gives up its own."""
+        """The one that finds a place of other names before it holds gives up its own."""
+        kazoos, curators, latches = "kazoo", "Curator's locks", "Curator's latches"
         for names, others in (
-            ("kazoo", ("-lock-", "-__WRIT__", "-__READ__", "-latch-")),
-            ("curator", ("__lock__", "__rlock__", "-latch-")),
+            ("kazoo", {"-lock-": curators, "lock-": curators, "-__WRIT__": curators, "-__READ__": curators, "-latch-": latches}),
+            ("curator", {"__lock__": kazoos, "__rlock__": kazoos, "-latch-": latches}),
         ):
-            for kind, other in itertools.product(("Lock", "WriteLock", "ReadLock"), others):
+            for kind, (other, family) in itertools.product(("Lock", "WriteLock", "ReadLock"), others.items()):
                 with self.subTest(f"{kind} of {names} beside {other}"):
-                    foreign = f"a{other}0000000007"
-                    self.one.create(f"/locks/{foreign}", makepath=True)
-                    with self.assertRaises(MixedNamesError) as caught:
-                        self.recipe(kind, self.one, "/locks", names=names).acquire(WAIT)
-                    words = f"{foreign} is there, by other names than those of {names}: /locks; all contenders of a path use one kind of names"
-                    self.assertEqual(str(caught.exception), words)
-                    self.assertEqual(self.names(), [foreign])
-                    self.one.delete("/locks", recursive=True)
+                    self.check_meeting(self.recipe(kind, self.one, "/locks", names=names), f"a{other}0000000007", family)
+
+    def check_meeting(self, lock: Any, foreign: str, family: str) -> None:
+        self.one.create(f"/locks/{foreign}", makepath=True)
+        with self.assertRaises(MixedNamesError) as caught:
+            lock.acquire(WAIT)
+        words = f"{foreign} is there, by names of {family}: /locks; all contenders of a path use one kind of names"
+        self.assertEqual((str(caught.exception), caught.exception.path), (words, "/locks"))
+        self.assertEqual(self.names(), [foreign])
+        self.one.delete("/locks", recursive=True)
+
+    def test_a_meeting_is_told_though_nobody_is_met_any_more(self) -> None:
+        """The one that was met may be gone when the names are looked at, for the words of the error."""
+        self.one.create("/locks/a-latch-0000000007", makepath=True)
+        lock = self.recipe("Lock", self.one, "/locks")
+
+        def look(_: Any) -> Steps[list[str]]:
+            yield from ()
+            return []
+
+        with mock.patch("dirwolleu._locks.BaseLock._look_at_names", look):
+            with self.assertRaisesRegex(MixedNamesError, "^contenders by another kind of names are there: /locks; all contenders"):
+                lock.acquire(WAIT)
 
     def test_a_place_of_other_names_that_comes_in_line_is_told(self) -> None:
         for names, other in (("kazoo", "-lock-"), ("curator", "__lock__")):
             first = self.recipe("Lock", self.one, "/locks", names=names).acquire(WAIT)
             waits = self.taking("Lock", self.other, names=names)
             within(lambda: len(self.names()) == 2)
-            foreign = f"a{other}0000000000"
-            self.one.create(f"/locks/{foreign}")
+            foreign = self.one.create(f"/locks/a{other}", sequence=True)
             first.check()
             first.release()
             self.assertIsInstance(waits.get(timeout=WAIT), MixedNamesError)
-            self.assertEqual(self.names(), [foreign])
-            self.one.delete(f"/locks/{foreign}")
+            self.assertEqual(self.names(), [foreign.rpartition("/")[2]])
+            self.one.delete(foreign)
 
     def test_what_is_no_contender_is_not_waited_for(self) -> None:
-        others = "note-0000000000", "lock-0000000000", "a__lock__000000001", "a-lock-", "latch-0000000000", "a__lock__0000000000.bak"
+        others = "note-0000000000", "lock_0000000000", "a__lock__000000001", "a-lock-", "a__lock__0000000000.bak"
         for name in others:
             self.one.create(f"/locks/{name}", makepath=True)
         for names in ("kazoo", "curator"):
@@ -290,12 +271,14 @@ class ContendingRules(BothCase):
             election.run(lambda held: None)
         self.assertEqual(self.one.get_children("/leader"), ["a-latch-0000000000"])
 
-    def test_a_semaphore_is_none_of_curators(self) -> None:
-        self.one.create("/leases/leases", makepath=True)
-        with self.assertRaises(MixedNamesError):
-            self.recipe("Semaphore", self.one, "/leases", max_leases=3).acquire(WAIT)
-        self.assertEqual(self.one.get_children("/leases"), ["leases"])
-        self.assertEqual(self.one.get_children("/leases-__lock__"), [])
+    def test_a_semaphore_is_none_of_other_libraries(self) -> None:
+        self.one.create("/curators/leases", makepath=True)
+        self.one.create("/kazoos", b"3")
+        for path, whose in (("/curators", "Curator"), ("/kazoos", "kazoo")):
+            names = self.one.get_children(path)
+            with self.assertRaisesRegex(MixedNamesError, f"^the node is that of a semaphore of {whose}: {path}; take another path$"):
+                self.recipe("Semaphore", self.one, path, max_leases=3).acquire(WAIT)
+            self.assertEqual(self.one.get_children(path), names)
 
     def test_data_that_are_set_in_line_end_no_wait(self) -> None:
         """The node is read again: it is its place in line that counts."""
@@ -358,14 +341,34 @@ class OutageTest(PartnerCase):
         self.assertEqual(clients[0].retry(clients[0].get_children, "/locks"), [])
 
 
-class NumberTest(unittest.TestCase):
+class NumberTest(BothCase):
     def test_numbers_that_are_used_up_are_told(self) -> None:
         """After 2,147,483,647 the servers go on with -2147483648."""
-        check = functools.partial(_check_number, tag="t-lock-")
-        check("/locks/t-lock-2147483647")
+        place = list[bytes]()
+
+        def serve(peer: Peer) -> None:
+            peer.admit()
+            while True:
+                asked = peer.take()
+                if asked.kind == CREATE:
+                    (length,) = struct.unpack_from(">i", asked.body)
+                    place[:] = [asked.body[4 : 4 + length] + b"-2147483648"]
+                    peer.send(reply(asked, struct.pack(">i", len(place[0])) + place[0]))
+                elif asked.kind == GET_DATA:
+                    peer.send(reply(asked, struct.pack(">i", 0) + struct.pack(">qqqqiiiqiiq", 5, 5, 0, 0, 0, 0, 0, 7, 0, 0, 5)))
+                elif asked.kind == GET_CHILDREN_2:
+                    name = place[0].rpartition(b"/")[2]
+                    peer.send(reply(asked, struct.pack(">ii", 1, len(name)) + name + STAT))
+                else:
+                    peer.send(reply(asked))
+                    if asked.kind == DELETE:
+                        place.clear()
+
+        lock = self.recipe("Lock", self.client(self.raw_server(serve).host), "/locks", names="curator")
         with self.assertRaises(ZookeeperError) as caught:
-            check("/locks/t-lock--2147483648")
+            lock.acquire(WAIT)
         self.assertEqual(str(caught.exception), "the numbers of nodes below it are used up: /locks; take another path")
+        self.assertEqual(place, [])
 
 
 def load_tests(loader: unittest.TestLoader, *_: Any) -> unittest.TestSuite:

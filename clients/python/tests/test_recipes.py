@@ -13,12 +13,12 @@ from unittest import mock
 
 from both import in_thread
 from support import WAIT, ClientCase, PartnerCase, within
+from test_leaving import CREATE, Relay
 
 import dirwolleu
 from dirwolleu import (
     Client,
     ConnectionClosedError,
-    ConnectionLoss,
     Election,
     Held,
     Lock,
@@ -29,7 +29,6 @@ from dirwolleu import (
     State,
     aio,
 )
-from dirwolleu import _requests as requests
 from dirwolleu._locks import in_line
 
 
@@ -204,40 +203,22 @@ class LockTest(ClientCase):
         self.assertEqual([self.one.kept(path) for path in paths[:2]], [None, None])
 
     def test_a_lost_create_is_settled(self) -> None:
-        for happens in (True, False):
-            with self.subTest(happens=happens):
-                self.check_lost_create(happens)
-
-    def check_lost_create(self, happens: bool) -> None:
         """The answer to the first create of a contender is lost, which has happened or not."""
-        ask, count = self.one._ask, [0]
-        creates: list[Any] = []
-        create = requests.create
-
-        def made(path: str, *words: Any) -> Any:
-            request = create(path, *words)
-            if "__lock__" in path:
-                creates.append(request)
-            return request
-
-        def asked(request: Any, *words: Any, **named: Any) -> Any:
-            if request not in creates:
-                return ask(request, *words, **named)
-            count[0] += 1
-            if count[0] == 1 and not happens:
-                raise ConnectionLoss("the connection ended before the reply")
-            answer = ask(request, *words, **named)
-            if count[0] == 1:
-                raise ConnectionLoss("the connection ended before the reply")
-            return answer
-
-        lock = Lock(self.one, "/locks", "one")
-        with mock.patch.object(requests, "create", made), mock.patch.object(self.one, "_ask", asked):
-            with lock as held:
-                self.assertEqual(lock.contenders(), ["one"])
-                held.check()
-        self.assertEqual(count[0], 1 if happens else 2)
-        self.assertEqual(lock.contenders(), [])
+        relay = Relay(int(self.server.host.rpartition(":")[2]))
+        self.addCleanup(relay.stop)
+        client = self.client(relay.host + self.root)
+        client.ensure_path("/locks")
+        for at in ("request", "answer"):
+            with self.subTest(at):
+                lock, creates = Lock(client, "/locks", "one"), list[bytes]()
+                relay.hear = lambda frame, creates=creates: creates.append(frame) if b"__lock__" in frame[:200] else None  # type: ignore[misc]
+                relay.cut(CREATE, at, 0.0)
+                with lock as held:
+                    self.assertEqual((lock.contenders(), relay.cuts), (["one"], 1))
+                    held.check()
+                made = [frame for frame in creates if frame[4:8] == bytes((0, 0, 0, CREATE))]
+                self.assertEqual(len(made), 1 if at == "answer" else 2)
+                self.assertEqual(lock.contenders(), [])
 
     def test_an_expiry_is_waited_through(self) -> None:
         held = Lock(self.one, "/locks", "one", on_lost=lambda held: held.release()).acquire(WAIT)

@@ -11,14 +11,16 @@ from typing import Any, Callable, Optional
 from unittest import mock
 
 from both import AioCase, BothCase, in_thread
-from support import GET_DATA, STAT, WAIT, Asked, Peer, data_reply, reply, within
+from support import GET_DATA, STAT, WAIT, Asked, Peer, buffer, data_reply, reply, within
+from test_library import connected
+from test_library import reply as answer_to
 
 from dirwolleu import CallTimeoutError, ConnectionLoss, LockLostError, LockTimeout, aio
 from dirwolleu import _requests as requests
 from dirwolleu import _steps as steps
-from dirwolleu._locks import EXCLUSIVE, READING, WRITING
-from dirwolleu._session import Session
-
+from dirwolleu import _library as library
+from dirwolleu._locks import EXCLUSIVE, READING, WRITING, Kind
+from dirwolleu._session import Contends
 
 DELETE, GET_CHILDREN_2 = 2, 12
 """Types of requests."""
@@ -108,26 +110,26 @@ class SharingRules(BothCase):
             third.acquire(0.2)
         self.assertEqual(sorted(third.lease_holders()), ["a", "b"])
         waits = in_thread(lambda: third.acquire(3 * WAIT))
-        within(lambda: self.names_below("/leases-__lock__"))
+        within(lambda: len(self.names_below("/leases")) == 3)
         time.sleep(0.05)
         self.assertTrue(waits.empty())
+        self.assertEqual((third.lease_holders(), self.one.get("/leases")[0]), (["a", "b"], b"-2"))
         first.check()
         first.release()
         later = waits.get(timeout=WAIT)
-        within(lambda: not self.names_below("/leases-__lock__"))
         self.assertEqual(sorted(third.lease_holders()), ["b", "c"])
         self.one.delete(later.path)
         within(lambda: not later.is_held)
         with self.assertRaises(LockLostError):
             later.check()
         second.release()
-        with self.assertRaises(ValueError):
+        with self.assertRaisesRegex(ValueError, "^/leases has 2 leases at most, and not 3$"):
             self.recipe("Semaphore", self.one, "/leases", max_leases=3).acquire(WAIT)
 
     def test_a_lease_goes_with_its_session(self) -> None:
         held = self.recipe("Semaphore", self.one, "/leases").acquire(WAIT)
         waits = in_thread(lambda: self.recipe("Semaphore", self.other, "/leases").acquire(3 * WAIT))
-        within(lambda: self.names_below("/leases-__lock__"))
+        within(lambda: len(self.names_below("/leases")) == 2)
         self.server.do("expire")
         later = waits.get(timeout=3 * WAIT)
         later.check()
@@ -375,25 +377,78 @@ class AioTest(AioCase, SharingRules):
     pass
 
 
+KINDS = EXCLUSIVE, READING, WRITING
+
+
+def marker_of(kind: Kind, names: str) -> str:
+    """What is before the number in the names of contenders."""
+    if names == "kazoo":
+        return "__rlock__" if kind is READING else "__lock__"
+    return {EXCLUSIVE: "-lock-", READING: "-__READ__", WRITING: "-__WRIT__"}[kind]
+
+
+class Contest:
+    """A session of the core with a contender whose place is there, of this guid and number."""
+
+    def __init__(self, kind: Kind, names: str, guid: str, number: str) -> None:
+        self.session, self._xid = connected(), 0
+        begin = f"_c_{guid}" if names == "curator" else guid
+        self.name = f"{begin}{marker_of(kind, names)}{number}"
+        made = self.session.contend(200, 1, "/l", getattr(kind, f"{names}s"), guid, b"", False)
+        self.expect(made, f"/l/{self.name[:-10]}")
+        read = self.answer(88, buffer(f"/l/{self.name}".encode()))
+        self.expect(read, f"/l/{self.name}")
+        owned = struct.pack(">qqqqiiiqiiq", 88, 88, 0, 0, 0, 0, 0, 0x1234, 0, 0, 88)
+        self.expect(self.answer(88, buffer(b"") + owned), "/l")
+
+    def expect(self, actions: list[Any], path: str) -> None:
+        (send,) = actions
+        assert path.encode() in send.frame, actions
+
+    def answer(self, zxid: int, body: bytes) -> list[Any]:
+        self._xid += 1
+        return self.session.received(300, answer_to(self._xid, zxid, 0, body))
+
+    def listed(self, zxid: int, names: list[str]) -> list[Any]:
+        """What the core says when these are the names in the directory."""
+        return self.answer(zxid, struct.pack(">i", len(names)) + b"".join(buffer(name.encode()) for name in names) + STAT)
+
+
 class OrderTest(unittest.TestCase):
+    """Whom a contender waits for, by the core."""
+
+    def expect(self, contest: Contest, names: list[str], rival: Optional[str]) -> None:
+        """It reads the rival with a watch, or holds."""
+        (said,) = contest.listed(90, names)
+        if rival is None:
+            self.assertEqual((said, contest.session.held(1)), (Contends(1, library.CONTENDER_HOLDS, 88), 88))
+        else:
+            self.assertEqual((f"/l/{rival}".encode() in said.frame, contest.session.held(1)), (True, None))
+
     def test_which_one_is_waited_for(self) -> None:
-        """By the core, with the markers of each kind: those that share wait for those alone that do not."""
+        """Those that share wait for those alone that do not."""
         kinds = EXCLUSIVE, READING, READING, EXCLUSIVE, READING, WRITING
         for names in ("kazoo", "curator"):
-            line = [f"{letter}{kind.marker(names)}000000000{letter}" for letter, kind in zip("123456", kinds)]
-            listing = [*line[::-1], "7-lock--000000001", "8__lock__-000000001", "other", "latch-0000000000"]
-            for own, kind, wanted in zip(line, kinds, (None, 0, 0, 2, 3, 4)):
-                found = Session(6000, 1).standing("/locks", own, listing, 9, kind.markers(names))
-                self.assertEqual(found, (None, None if wanted is None else line[wanted]))
+            line = [f"{letter}{marker_of(kind, names)}000000000{letter}" for letter, kind in zip("123456", kinds)]
+            others = ["7-lock--000000001", "8__lock__-000000001", "other", "note-0000000000"]
+            for place, kind, wanted in zip(range(6), kinds, (None, 0, 0, 2, 3, 4)):
+                contest = Contest(kind, names, "own", f"000000000{place + 1}")
+                listing = [*line[:place], contest.name, *line[place + 1 :], *others]
+                self.expect(contest, listing[::-1], None if wanted is None else line[wanted])
 
-
-    def test_those_of_other_names_are_not_waited_for(self) -> None:
-        """By the core, which knows the markers of its own names alone: what is before it by others is told as an error."""
+    def test_none_holds_beside_other_names(self) -> None:
+        """Those of another family are not waited for: each kind pauses beside each kind of theirs, before it or after."""
         for names, others in (("kazoo", "curator"), ("curator", "kazoo")):
-            for kind, other in itertools.product((EXCLUSIVE, READING, WRITING), repeat=2):
-                own, foreign = f"b{kind.marker(names)}0000000002", f"a{other.marker(others)}0000000001"
-                found = Session(6000, 1).standing("/locks", own, [foreign, own], 9, kind.markers(names))
-                self.assertEqual(found, (None, None))
+            for kind, other, number in itertools.product(KINDS, KINDS, "13"):
+                contest, foreign = Contest(kind, names, "own", "0000000002"), f"a{marker_of(other, others)}000000000{number}"
+                (said,) = contest.listed(90, [foreign, contest.name])
+                self.assertEqual(said, Contends(1, library.CONTENDER_PAUSES, 0, library.MIXED_NAMES))
+                self.assertIsNone(contest.session.held(1))
+
+    def test_a_listing_that_is_older_than_the_node_is_not_believed(self) -> None:
+        contest = Contest(EXCLUSIVE, "kazoo", "own", "0000000001")
+        (said,) = contest.listed(80, [contest.name])
+        self.assertEqual((said.stands, contest.session.held(1)), (library.CONTENDER_PAUSES, None))
 
 
 def load_tests(loader: unittest.TestLoader, *_: Any) -> unittest.TestSuite:

@@ -138,6 +138,23 @@ class CallbacksTest(unittest.TestCase):
         callbacks.join(WAIT)
         self.assertEqual((callbacks.tell(called.append, 2), called), (False, [1]))
 
+    def test_it_is_started_once_where_two_threads_begin_it(self) -> None:
+        """That which polls, and one that stops the client: two threads would run it, and one of them for ever."""
+        started, goes_on = list[Callbacks](), threading.Event()
+
+        def start(callbacks: Callbacks) -> None:
+            started.append(callbacks)
+            self.assertTrue(goes_on.wait(WAIT))
+
+        callbacks = Callbacks(lambda begin: None)
+        with mock.patch.object(Callbacks, "start", start):
+            first = in_thread(callbacks._begin)
+            within(lambda: started)
+            second = in_thread(callbacks._begin)
+            within(lambda: not second.empty() or len(started) == 2)
+            goes_on.set()
+            self.assertEqual((first.get(timeout=WAIT), second.get(timeout=WAIT), started), (None, None, [callbacks]))
+
     def test_what_is_told_while_the_thread_ends(self) -> None:
         """Each number is called, or is not said to be."""
         with quick_switches():

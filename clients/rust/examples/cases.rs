@@ -168,7 +168,7 @@ impl Told<'_> {
 
     fn check(&self) -> Answer {
         let lock = self.lock.as_ref().ok_or("there is no lock")?;
-        let held = if lock.check()? { "held" } else { "lost" };
+        let held = if lock.is_held() { "held" } else { "lost" };
         Ok(format!("is {held}"))
     }
 

@@ -1,8 +1,9 @@
-//! Contends for a lock, for tests beside others: `contender HOST:PORT PATH KIND NAMES`. KIND is lock, read, write or election, and NAMES is
+//! Contends for a lock, for tests beside others: `contender HOST:PORT PATH KIND NAMES`. KIND is lock, read, write, election or work, and NAMES is
 //! kazoo or curator. What `clients/cases/README.md` says of contenders it reads and prints, a line each.
 
 use dirwolleu::{
-    Election, Error, ErrorKind, Lock, LockNames, LockOptions, Session, SharedSession, Sharing,
+    Election, Error, ErrorKind, Lock, LockNames, LockOptions, NoReply, Session, SessionOptions,
+    SharedSession, Sharing,
 };
 use std::io::{stdin, stdout, BufRead, Write};
 use std::process::exit;
@@ -10,8 +11,12 @@ use std::sync::mpsc::{channel, Receiver, RecvTimeoutError, Sender};
 use std::time::Duration;
 use std::{env, thread};
 
-/// How long a holder waits before it asks again whether it holds.
+/// How long a holder waits before it looks again whether it holds.
 const BETWEEN_LOOKS: Duration = Duration::from_millis(200);
+
+/// How long a contender that works waits each third time, and between two writes.
+const SHORT: Duration = Duration::from_millis(300);
+const BETWEEN_WRITES: Duration = Duration::from_millis(50);
 
 /// What happens to a contender.
 enum Happened<'a> {
@@ -36,18 +41,70 @@ fn leave(session: &SharedSession, line: &str) -> ! {
     exit(i32::from(line.starts_with("error")))
 }
 
-fn contend<'a>(session: &'a Session, words: &[String]) -> Result<Lock<'a>, Error> {
-    let path = &words[1];
-    let names = match words[3].as_str() {
+fn names_of(words: &[String]) -> LockNames {
+    match words[3].as_str() {
         "curator" => LockNames::Curator,
         _ => LockNames::Kazoo,
-    };
+    }
+}
+
+fn contend<'a>(session: &'a Session, words: &[String]) -> Result<Lock<'a>, Error> {
+    let path = &words[1];
+    let names = names_of(words);
     let options = LockOptions::new().names(names).data(b"rust");
     match words[2].as_str() {
         "read" => options.sharing(Sharing::Shared).acquire(session, path),
         "write" => options.sharing(Sharing::Writing).acquire(session, path),
         "election" => Election::new(session, path).names(names).lead(b"rust"),
         _ => options.acquire(session, path),
+    }
+}
+
+/// Says by which token it holds and at which zxid, and writes the token through the fence, which takes none below the one that it has.
+fn write_through_fence(session: &Session, fence: &str, lock: &Lock<'_>) -> Result<(), Error> {
+    let zxid = session.last_zxid();
+    if lock.is_held() && session.last_zxid() == zxid {
+        say(&format!("holds {} {zxid}", lock.token()));
+    }
+    let node = session.get(fence)?;
+    let data = String::from_utf8(node.data.unwrap_or_default()).unwrap_or_default();
+    if data
+        .parse()
+        .is_ok_and(|written: i64| written > lock.token())
+    {
+        say("refused");
+        return Ok(());
+    }
+    let token = lock.token().to_string();
+    session.set(fence, token.as_bytes(), node.stat.version)?;
+    say("wrote");
+    Ok(())
+}
+
+/// Holds the lock for a while, again and again, and writes meanwhile. Each third time it does not wait for long.
+fn work(session: &Session, words: &[String]) {
+    let fence = format!("{}-fence", words[1]);
+    for number in 0_u64.. {
+        let options = LockOptions::new().names(names_of(words)).data(b"rust");
+        let lock = match number % 3 {
+            2 => options.within(SHORT).acquire(session, &words[1]),
+            _ => options.acquire(session, &words[1]),
+        };
+        match lock {
+            Ok(lock) => {
+                for _ in 0..3 {
+                    // If it fails, another one was faster, or the connection is gone.
+                    let _ = write_through_fence(session, &fence, &lock);
+                    thread::sleep(BETWEEN_WRITES);
+                }
+                if lock.release().is_ok() {
+                    say("released");
+                }
+            }
+            Err(error) if *error.kind() == ErrorKind::LockTimeout => {}
+            Err(error) if *error.kind() == ErrorKind::from(NoReply::SessionClosed) => return,
+            Err(error) => say(&format!("error: {error}")),
+        }
     }
 }
 
@@ -66,14 +123,6 @@ fn release(session: &SharedSession, held: Option<Lock<'_>>, line: &str) -> ! {
     }
 }
 
-/// Whether a lock was lost, as far as a server says.
-fn is_lost(lock: &Lock<'_>) -> bool {
-    match lock.check() {
-        Ok(is_held) => !is_held,
-        Err(error) => !error.is_passing(),
-    }
-}
-
 fn obey(session: &SharedSession, happens: &Receiver<Happened<'_>>) -> ! {
     let mut held = None;
     loop {
@@ -83,7 +132,7 @@ fn obey(session: &SharedSession, happens: &Receiver<Happened<'_>>) -> ! {
                 held = Some(lock);
             }
             Ok(Happened::Taken(Err(error))) => match error.kind() {
-                ErrorKind::MixedNames { .. } => leave(session, "mixed names"),
+                ErrorKind::MixedNames => leave(session, "mixed names"),
                 _ => leave(session, &format!("error: {error}")),
             },
             Ok(Happened::Command(line)) => match line.trim() {
@@ -92,7 +141,7 @@ fn obey(session: &SharedSession, happens: &Receiver<Happened<'_>>) -> ! {
                 line => say(&format!("error: no command: {line}")),
             },
             Ok(Happened::End) | Err(RecvTimeoutError::Disconnected) => leave(session, ""),
-            Err(RecvTimeoutError::Timeout) if held.as_ref().is_some_and(is_lost) => {
+            Err(RecvTimeoutError::Timeout) if held.as_ref().is_some_and(|lock| !lock.is_held()) => {
                 say("lost");
                 held = None;
             }
@@ -107,7 +156,10 @@ fn main() {
         eprintln!("usage: contender HOST:PORT PATH KIND NAMES");
         exit(2);
     }
-    let session = match Session::open(words[0].as_str(), Duration::from_secs(10)) {
+    let works = words[2] == "work";
+    let timeout = Duration::from_secs(if works { 4 } else { 10 });
+    let options = SessionOptions::new(timeout).renews(works);
+    let session = match options.open(words[0].as_str()) {
         Ok(session) => session.shared(),
         Err(error) => {
             say(&format!("error: {error}"));
@@ -117,7 +169,14 @@ fn main() {
     let (sender, happens) = channel();
     let commands = sender.clone();
     thread::scope(|scope| {
-        scope.spawn(|| sender.send(Happened::Taken(contend(&session, &words))));
+        scope.spawn(|| {
+            if works {
+                work(&session, &words);
+            } else {
+                // Nobody may listen any more.
+                let _ = sender.send(Happened::Taken(contend(&session, &words)));
+            }
+        });
         scope.spawn(move || read_commands(&commands));
         obey(&session, &happens)
     })

@@ -1,6 +1,6 @@
 //! An election, in which this candidate leads again and again: see `docs/COOKBOOK.md`.
 
-use dirwolleu::{Code, Election, Error, SessionOptions};
+use dirwolleu::{Election, Error, SessionOptions};
 use std::thread::sleep;
 use std::time::Duration;
 
@@ -8,7 +8,7 @@ use std::time::Duration;
 fn lead(election: &Election<'_>) -> Result<(), Error> {
     let office = election.lead(b"host-1")?; // waits
     println!("leads with token {}", office.token());
-    while office.check().unwrap_or(false) {
+    while office.check(Duration::from_secs(10)) {
         sleep(Duration::from_millis(100)); // a step of the leader's work
     }
     Ok(())
@@ -19,9 +19,6 @@ fn main() -> Result<(), Box<dyn std::error::Error>> {
     let session = options.open("127.0.0.1:2181")?;
     let election = Election::new(&session, "/leader");
     loop {
-        match lead(&election) {
-            Err(error) if error.code() != Some(Code::NO_NODE) => return Err(error.into()),
-            _ => {} // the office was lost, or the session expired while it waited
-        }
+        lead(&election)?; // and again once the office is lost
     }
 }

@@ -1,6 +1,6 @@
 //! A lock, taken again whenever it is lost, with a token to hand on: see `docs/COOKBOOK.md`.
 
-use dirwolleu::{Code, Error, Lock, Session, SessionOptions, Sharing};
+use dirwolleu::{Error, Lock, Session, SessionOptions, Sharing};
 use std::thread::sleep;
 use std::time::Duration;
 
@@ -8,7 +8,7 @@ use std::time::Duration;
 fn work(session: &Session) -> Result<(), Error> {
     let lock = Lock::acquire(session, "/lock", Sharing::Exclusive, b"host-1")?; // waits
     println!("held with token {}", lock.token());
-    while lock.check().unwrap_or(false) {
+    while lock.check(Duration::from_secs(10)) {
         sleep(Duration::from_millis(100)); // a step of the work: hand the token on
     }
     println!("lost");
@@ -19,9 +19,6 @@ fn main() -> Result<(), Box<dyn std::error::Error>> {
     let options = SessionOptions::new(Duration::from_secs(10)).renews(true);
     let session = options.open("127.0.0.1:2181")?;
     loop {
-        match work(&session) {
-            Err(error) if error.code() != Some(Code::NO_NODE) => return Err(error.into()),
-            _ => {} // it was lost, or the session expired while it waited
-        }
+        work(&session)?; // and again once it is lost
     }
 }

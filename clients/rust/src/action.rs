@@ -1,5 +1,6 @@
 //! What a machine asks of its program, and tells it.
 
+use crate::error::ErrorKind;
 use crate::fault::{Code, Fault, NoReply, UnknownNumber};
 use crate::ffi::{self, Handle};
 use crate::machine::Machine;
@@ -174,6 +175,36 @@ pub enum Action<'a> {
         /// The number that the tree was given.
         tree: u64,
     },
+    /// Another one is before the contender with this ticket, and is watched. This and what is told of contenders below comes after all else of a
+    /// step, and once for each change.
+    Waits {
+        /// The number that the contender was given.
+        ticket: u64,
+    },
+    /// The contender holds.
+    Holds {
+        /// The number that the contender was given.
+        ticket: u64,
+        /// The zxid of the making of its place. Whoever the lock protects refuses a smaller one than it has seen.
+        token: i64,
+    },
+    /// The contender holds no more: its place is gone, or the session has expired, and it contends on by another place; or it was given up.
+    Lost {
+        /// The number that the contender was given.
+        ticket: u64,
+    },
+    /// A call of the contender was refused, or a listing says what is in its way. It is asked again after a second.
+    Pauses {
+        /// The number that the contender was given.
+        ticket: u64,
+        /// Why.
+        reason: Refusal,
+    },
+    /// The contender is given up, or the session is closed, and no node of it is there. It is told of no more.
+    GivenUp {
+        /// The number that the contender was given.
+        ticket: u64,
+    },
     /// The server has answered a credential, after all else of a step but frames of credentials and [`Dial`](Action::Dial). One that it
     /// refuses ends the connection: let the machine go, since it would introduce itself so on each later one.
     Credential {
@@ -184,7 +215,7 @@ pub enum Action<'a> {
     },
 }
 
-/// Why a read of what is followed was refused.
+/// Why a read of what is followed, or a call of a contender, was refused, and why else a contender pauses.
 ///
 /// ```
 /// use dirwolleu::{Code, Refusal};
@@ -203,6 +234,10 @@ pub enum Refusal {
     TooLarge,
     /// The session is being closed.
     Closed,
+    /// Of a contender: the names in the directory have had all 2,147,483,647 numbers.
+    NumbersUsedUp,
+    /// Of a contender: a name of another family is in the directory. It never holds beside that: [give it up](Machine::give_up).
+    MixedNames,
 }
 
 impl Refusal {
@@ -212,6 +247,8 @@ impl Refusal {
             refusal::READ_TOO_MANY_WATCHES => Refusal::TooManyWatches,
             refusal::READ_TOO_LARGE => Refusal::TooLarge,
             refusal::READ_CLOSED => Refusal::Closed,
+            refusal::NUMBERS_USED_UP => Refusal::NumbersUsedUp,
+            refusal::MIXED_NAMES => Refusal::MixedNames,
             other => return Err(UnknownNumber::of("refusal", other)),
         })
     }
@@ -225,6 +262,8 @@ impl fmt::Display for Refusal {
             Refusal::TooManyWatches => NoReply::TooManyWatches.fmt(f),
             Refusal::TooLarge => NoReply::TooLarge.fmt(f),
             Refusal::Closed => NoReply::SessionClosed.fmt(f),
+            Refusal::NumbersUsedUp => ErrorKind::NumbersUsedUp.fmt(f),
+            Refusal::MixedNames => ErrorKind::MixedNames.fmt(f),
         }
     }
 }
@@ -291,6 +330,25 @@ impl<'a> Action<'a> {
                 is_bounded: flat.is_null,
             },
             kind::TREE_COMPLETE => Action::TreeComplete { tree: ticket },
+            _ => return Action::of_contender(flat),
+        })
+    }
+
+    /// An action of a contender.
+    fn of_contender(flat: &ffi::Output) -> Result<Action<'a>, UnknownNumber> {
+        let ticket = flat.ticket;
+        Ok(match flat.kind {
+            kind::CONTENDER_WAITS => Action::Waits { ticket },
+            kind::CONTENDER_HOLDS => Action::Holds {
+                ticket,
+                token: flat.zxid,
+            },
+            kind::CONTENDER_LOST => Action::Lost { ticket },
+            kind::CONTENDER_PAUSES => Action::Pauses {
+                ticket,
+                reason: Refusal::of(flat)?,
+            },
+            kind::CONTENDER_GIVEN_UP => Action::GivenUp { ticket },
             other => return Err(UnknownNumber::of("output", other)),
         })
     }
@@ -361,11 +419,29 @@ mod tests {
     }
 
     #[test]
+    fn each_field_of_what_is_told_of_a_contender_has_its_place() {
+        let of_contender = |kind| ffi::Output {
+            detail: 5,
+            ticket: 9,
+            zxid: 7,
+            ..flat(kind)
+        };
+        let told = [
+            "Waits { ticket: 9 }",
+            "Holds { ticket: 9, token: 7 }",
+            "Lost { ticket: 9 }",
+            "Pauses { ticket: 9, reason: NumbersUsedUp }",
+            "GivenUp { ticket: 9 }",
+        ];
+        assert_eq!(printed([17, 18, 19, 20, 21].map(of_contender)), told);
+    }
+
+    #[test]
     fn a_number_that_nobody_knows_is_a_fault() {
         let handle = handle();
         for (numbers, what) in [
             ((0, 0, 0), "output"),
-            ((17, 0, 0), "output"),
+            ((22, 0, 0), "output"),
             ((2, 0, 0), "result of a reply"),
             ((2, 0, 8), "result of a reply"),
             ((2, 8, 0), "outcome"),
@@ -373,7 +449,8 @@ mod tests {
             ((3, 5, 1), "event"),
             ((4, 5, 0), "state"),
             ((5, 6, 0), "cause"),
-            ((11, 5, 0), "refusal"),
+            ((11, 7, 0), "refusal"),
+            ((20, 0, 0), "refusal"),
         ] {
             let (kind, detail, result) = numbers;
             let flat = ffi::Output {

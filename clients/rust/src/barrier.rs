@@ -86,13 +86,8 @@ impl<'a> Barrier<'a> {
     fn wait_until(&self, until: Option<Instant>) -> Result<bool, Error> {
         let is_past = || until.is_some_and(|until| until <= Instant::now());
         loop {
-            let left = until.map(|until| until.saturating_duration_since(Instant::now()));
             let read = Request::exists(&self.path).watched();
-            let read = match left {
-                Some(left) => read.within(left),
-                None => read,
-            };
-            match self.session.call(read) {
+            match self.session.call(read.until(until)) {
                 Ok(None) => return Ok(true),
                 Err(error) if !error.is_passing() && !self.session.lives_through(&error) => {
                     return Err(error)

@@ -39,6 +39,21 @@ pub(crate) enum TreeUpdate {
     Complete,
 }
 
+/// What is told of a contender.
+#[derive(Clone, Copy, Debug, PartialEq, Eq)]
+pub(crate) enum ContenderUpdate {
+    /// Another one is before it.
+    Waits,
+    /// It holds, by this token.
+    Holds(i64),
+    /// It holds no more.
+    Lost,
+    /// It does not get on, for this reason, and asks again after a second.
+    Pauses(Refusal),
+    /// It is given up, and no node of it is there.
+    GivenUp,
+}
+
 /// The actions of a machine, sorted, until the engine takes them.
 #[derive(Default)]
 pub(crate) struct Dispatcher {
@@ -77,6 +92,8 @@ pub(crate) struct SessionUpdate {
     pub(crate) shown: Vec<(u64, SubjectUpdate)>,
     /// Updates of trees, by their tickets. They come before those of subjects.
     pub(crate) trees: Vec<(u64, TreeUpdate)>,
+    /// Updates of contenders, by their tickets.
+    pub(crate) contenders: Vec<(u64, ContenderUpdate)>,
 }
 
 impl SessionUpdate {
@@ -152,6 +169,15 @@ impl Dispatcher {
                 self.update_tree(tree, TreeUpdate::BoundReached { is_bounded });
             }
             Action::TreeComplete { tree } => self.update_tree(tree, TreeUpdate::Complete),
+            Action::Waits { ticket } => self.update_contender(ticket, ContenderUpdate::Waits),
+            Action::Holds { ticket, token } => {
+                self.update_contender(ticket, ContenderUpdate::Holds(token));
+            }
+            Action::Lost { ticket } => self.update_contender(ticket, ContenderUpdate::Lost),
+            Action::Pauses { ticket, reason } => {
+                self.update_contender(ticket, ContenderUpdate::Pauses(reason));
+            }
+            Action::GivenUp { ticket } => self.update_contender(ticket, ContenderUpdate::GivenUp),
             Action::Credential { place, code } => self.update.credentials.push((place, code)),
         }
     }
@@ -190,6 +216,10 @@ impl Dispatcher {
 
     fn update_tree(&mut self, tree: u64, update: TreeUpdate) {
         self.update.trees.push((tree, update));
+    }
+
+    fn update_contender(&mut self, ticket: u64, update: ContenderUpdate) {
+        self.update.contenders.push((ticket, update));
     }
 
     fn change_state(&mut self, state: State) {

@@ -3,16 +3,16 @@
 
 mod calls;
 mod connection;
+pub(crate) mod contenders;
 mod credentials;
-mod deletions;
 mod steps;
 mod subjects;
 mod trees;
 
+use self::contenders::Contenders;
 use self::subjects::Subjects;
 use crate::chroot::Chroot;
 use crate::credentials::{Credential, Credentials};
-use crate::deletions::Deletions;
 use crate::dispatch::Dispatcher;
 use crate::error::{Error, ErrorKind, Search};
 use crate::events::Event;
@@ -142,7 +142,7 @@ pub(crate) struct Engine {
     /// Bytes of the server that there was no memory for.
     inbox: Vec<u8>,
     credentials: Credentials,
-    deletions: Deletions,
+    contenders: Contenders,
     tally: Tally,
     recorder: Option<Recorder>,
     /// Why the connection will be closed, if that is known.
@@ -183,7 +183,7 @@ impl Engine {
             reasons: Vec::new(),
             inbox: Vec::new(),
             credentials: Credentials::of(options.credentials),
-            deletions: Deletions::default(),
+            contenders: Contenders::default(),
             tally: Tally::default(),
             recorder: None,
             ending: None,
@@ -218,13 +218,17 @@ impl Engine {
         }
         self.note_deadline();
         self.places.begin_again();
-        self.deletions.begin_again();
+        if matches!(self.phase, Phase::Ended(_) | Phase::Unauthorized) {
+            self.contenders.clear();
+        }
+        self.contenders.begin_again();
         self.trees.values_mut().for_each(FollowedTree::begin_again);
         if self.phase != Phase::Stopped {
             self.phase = Phase::Running;
             self.send_credentials_again()?;
             self.follow_again();
             self.follow_trees_again();
+            self.contend_again();
         }
         Ok(())
     }
@@ -420,7 +424,7 @@ impl Engine {
     /// Whether those that wait for events or updates have something to look at.
     pub(crate) fn has_event(&mut self) -> bool {
         let is_news = self.takes_tree_news() | self.subjects.takes_updates();
-        let is_news = self.deletions.takes_news() | is_news;
+        let is_news = self.contenders.takes_news() | is_news;
         is_news || self.dispatcher.has_event() || self.is_over()
     }
 
@@ -624,13 +628,25 @@ mod tests {
         .unwrap()
     }
 
-    /// A response that admits the session of number 7, with a timeout of 3 seconds.
-    fn accepted() -> Vec<u8> {
-        let (mut accepted, mut frame) = (Writer::default(), Writer::default());
-        accepted.int(0).int(3_000).int(0).int(7);
-        accepted.buffer(&[0; 16]).boolean(false);
-        frame.buffer(&accepted.into_bytes());
+    /// A response that admits the session of this number with this timeout. Zeros say that it has expired.
+    pub(super) fn response(timeout_ms: i32, session: i32) -> Vec<u8> {
+        let (mut response, mut frame) = (Writer::default(), Writer::default());
+        response.int(0).int(timeout_ms).int(0).int(session);
+        response.buffer(&[0; 16]).boolean(false);
+        frame.buffer(&response.into_bytes());
         frame.into_bytes()
+    }
+
+    /// One of the session of number 7, with a timeout of 3 seconds.
+    fn accepted() -> Vec<u8> {
+        response(3_000, 7)
+    }
+
+    /// Makes the connection that is asked for.
+    pub(super) fn open(engine: &mut Engine) {
+        let attempt = engine.begin_attempt().unwrap();
+        let made = engine.opened(attempt.number, address(), Box::new(Nowhere));
+        made.unwrap();
     }
 
     /// Dials, and makes the connection.
@@ -638,12 +654,10 @@ mod tests {
         assert_eq!(engine.plan(NEVER), Plan::Tick);
         engine.tick().unwrap();
         assert_eq!(engine.plan(NEVER), Plan::Dial);
-        let attempt = engine.begin_attempt().unwrap();
-        let made = engine.opened(attempt.number, address(), Box::new(Nowhere));
-        made.unwrap();
+        open(engine);
     }
 
-    fn connected() -> Engine {
+    pub(super) fn connected() -> Engine {
         let mut engine = engine();
         connect(&mut engine);
         engine.hand_in(&accepted()).unwrap();

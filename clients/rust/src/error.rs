@@ -2,7 +2,6 @@
 
 use crate::action::Refusal;
 use crate::fault::{Code, Fault, NoReply};
-use crate::lock::LockNames;
 use crate::path_fault::Escaped;
 use std::error;
 use std::fmt;
@@ -36,13 +35,11 @@ pub enum ErrorKind {
     NotWhole,
     /// The caller's limit has passed before a lock was held: its place is given up.
     LockTimeout,
-    /// The path of a lock has a place by the other names: all contenders of a path use one kind.
-    MixedNames {
-        /// The names that were asked for.
-        names: LockNames,
-        /// The name of that place.
-        place: String,
-    },
+    /// The path of a lock has a place by other names, or that of a [`Semaphore`](crate::Semaphore) is of a semaphore of kazoo's or Curator's: all
+    /// contenders of a path use one kind. The place is given up.
+    MixedNames,
+    /// The names below the path of a lock have had all 2,147,483,647 numbers.
+    NumbersUsedUp,
     /// The node of a [`Counter`](crate::Counter) holds no whole number of 64 bits, or would hold none.
     NotNumber,
     /// The node of a [`Semaphore`](crate::Semaphore) says that another number hold it at most.
@@ -86,7 +83,8 @@ impl ErrorKind {
             | ErrorKind::NotWhole
             | ErrorKind::LockTimeout => true,
             ErrorKind::Fault(_)
-            | ErrorKind::MixedNames { .. }
+            | ErrorKind::NumbersUsedUp
+            | ErrorKind::MixedNames
             | ErrorKind::NotNumber
             | ErrorKind::OtherNumber { .. }
             | ErrorKind::RolledBack { .. } => false,
@@ -103,8 +101,9 @@ impl ErrorKind {
             ErrorKind::QueueFull => "call again when some of it was",
             ErrorKind::NotWhole => "it is read on",
             ErrorKind::LockTimeout | ErrorKind::NotNumber => "",
+            ErrorKind::NumbersUsedUp => "take another path",
             ErrorKind::OtherNumber { .. } => "take the same number everywhere",
-            ErrorKind::MixedNames { .. } => "use one kind of names for all contenders",
+            ErrorKind::MixedNames => "use one kind of names for all contenders",
         }
     }
 }
@@ -120,12 +119,10 @@ impl fmt::Display for ErrorKind {
             ErrorKind::QueueFull => f.write_str("more than 16 MiB wait to be written"),
             ErrorKind::NotWhole => f.write_str("the tree was not whole in time"),
             ErrorKind::LockTimeout => f.write_str("the lock was not held in time"),
-            ErrorKind::MixedNames { names, place } => write!(
-                f,
-                "{} contends by other names than those of {}",
-                Escaped(place),
-                names.word()
-            ),
+            ErrorKind::MixedNames => f.write_str("contenders by another kind of names are there"),
+            ErrorKind::NumbersUsedUp => {
+                f.write_str("the names below it have had all 2147483647 numbers")
+            }
             ErrorKind::NotNumber => f.write_str("it is no whole number of 64 bits"),
             ErrorKind::OtherNumber { number } => {
                 write!(f, "the node says that it has {number} leases")
@@ -159,6 +156,8 @@ impl From<Refusal> for ErrorKind {
             Refusal::TooManyWatches => NoReply::TooManyWatches.into(),
             Refusal::TooLarge => NoReply::TooLarge.into(),
             Refusal::Closed => NoReply::SessionClosed.into(),
+            Refusal::NumbersUsedUp => ErrorKind::NumbersUsedUp,
+            Refusal::MixedNames => ErrorKind::MixedNames,
         }
     }
 }

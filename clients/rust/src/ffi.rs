@@ -2,6 +2,7 @@
 //! crate is here.
 #![deny(clippy::undocumented_unsafe_blocks)]
 
+use crate::contention::Contention;
 use crate::fault::{done, done_at, Fault};
 use crate::moment::Moment;
 use crate::node::{DataStat, Mode, Side, Stat, Watch};
@@ -600,6 +601,60 @@ impl Handle {
     pub(crate) fn unfollow_tree(&mut self, now: Moment, ticket: u64) -> Result<(), Fault> {
         // SAFETY: as `Handle` says.
         done(unsafe { dw_session_unfollow_tree(self.pointer(), now.as_millis(), ticket) })
+    }
+
+    /// A contender joins, by this ticket.
+    pub(crate) fn contend(
+        &mut self,
+        now: Moment,
+        ticket: u64,
+        contention: &Contention<'_>,
+    ) -> Result<(), Fault> {
+        let (directory, guid) = (contention.directory, contention.guid);
+        let (bytes, is_null) = (
+            contention.data.unwrap_or_default(),
+            contention.data.is_none(),
+        );
+        // SAFETY: as `Handle` says.
+        let code = unsafe {
+            dw_session_contend(
+                self.pointer(),
+                now.as_millis(),
+                ticket,
+                directory.as_ptr(),
+                directory.len(),
+                contention.naming.number(),
+                guid.as_ptr(),
+                guid.len(),
+                bytes.as_ptr(),
+                bytes.len(),
+                is_null,
+                contention.may_be_there,
+            )
+        };
+        done_at(directory, code)
+    }
+
+    pub(crate) fn give_up(&mut self, now: Moment, ticket: u64) -> Result<(), Fault> {
+        // SAFETY: as `Handle` says.
+        done(unsafe { dw_session_give_up(self.pointer(), now.as_millis(), ticket) })
+    }
+
+    /// The token by which a contender holds, where it does.
+    pub(crate) fn held(&self, ticket: u64) -> Option<i64> {
+        let mut token = 0;
+        // SAFETY: as `Handle` says.
+        let code = unsafe { dw_session_held(self.pointer(), ticket, &mut token) };
+        (code == result::OK).then_some(token)
+    }
+
+    /// Copies the path of the place of a contender, and tells how many bytes it has: 0 where it is not known.
+    pub(crate) fn place(&self, ticket: u64, room: &mut [u8]) -> usize {
+        let mut count = 0;
+        let (out, room) = (room.as_mut_ptr(), room.len());
+        // SAFETY: as `Handle` says.
+        unsafe { dw_session_place(self.pointer(), ticket, out, room, &mut count) };
+        count
     }
 
     /// When the server was heard last, where it was.

@@ -29,7 +29,7 @@
 //! **Proved** is the core: what each function of its header says. So it is when which host is dialled, which calls wait, when they are
 //! late, which are asked again after a lost connection, and when what is followed is read. **Tested** is all that is above it, in this
 //! crate: connections, tickets, retries, chroots, the addresses of hosts, records that the core does not read, when a [`Tree`] is read and shown,
-//! and [`Registration`]; and of a [`Lock`] and an [`Election`] all but who comes first, which the core says. Which nodes a [`TreeSnapshot`] and a [`Snapshot`] have, and that all of them are of one moment, the core says.
+//! and [`Registration`]. A [`Lock`] and an [`Election`] are contenders of the core, whose header says at `dw_session_held` what of them is proved. Which nodes a [`TreeSnapshot`] and a [`Snapshot`] have, and that all of them are of one moment, the core says.
 //!
 //! Transactions, ACLs, `sync` and other [operations](RawOperation) go by the core, which numbers, sends, answers and loses them as each call,
 //! and reads no byte of them: what is spelled, and what an answer says, is tested. For the core, what they change is changed by others: so
@@ -52,9 +52,9 @@ mod buffer;
 mod cache;
 mod chroot;
 mod connection;
+mod contention;
 mod counter;
 mod credentials;
-mod deletions;
 mod dispatch;
 mod driver;
 mod engine;
@@ -111,6 +111,7 @@ pub use action::{Action, Actions, Refusal};
 pub use barrier::Barrier;
 pub use cache::{Children, DataAnswer, Kept, Mark};
 pub use connection::{Connection, Dial, Incoming, Outgoing, Server, Tcp};
+pub use contention::{Contention, Naming};
 pub use counter::Counter;
 pub use error::{Error, ErrorKind};
 pub use events::{Event, Events};
@@ -118,7 +119,7 @@ pub use fault::{Code, Fault, NoReply, UnknownNumber};
 pub use follow::{Follow, KeptNode};
 pub use hosts::{Hosts, HostsFault};
 pub use local_session::LocalSession;
-pub use lock::{Election, Lock, LockNames, LockOptions, Sharing};
+pub use lock::{Contending, Election, Lock, LockNames, LockOptions, Sharing};
 pub use machine::{Limits, Machine, State};
 pub use moment::{Clock, Moment};
 pub use multi_read::{Read, ReadAnswer};

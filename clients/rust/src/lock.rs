@@ -1,25 +1,25 @@
-//! Locks and elections, over the calls of a session. The core decides which contender comes first; the rest is tested, and not proved.
+//! Locks and elections: contenders of the session's machine, which decides all about them. What is here hands over, and waits.
 
-use crate::cache::Mark;
-use crate::deletions::{child_of, Place};
+use crate::contention::Naming;
+use crate::engine::contenders::{Entry, Hold};
 use crate::error::{Error, ErrorKind};
 use crate::fault::Code;
 use crate::hosts::random;
-use crate::node::Mode;
+use crate::paths::child_of;
 use crate::request::Request;
 use crate::session::Session;
-use crate::standing::{Contender, Markers, Standing};
+use crate::shared::Poller;
+use crate::standing::{Contender, Markers};
 use crate::view::View;
+use std::fmt;
+use std::future::Future;
+use std::mem;
+use std::pin::Pin;
+use std::task::{Context, Poll};
 use std::time::{Duration, Instant};
 
-/// How long a contender waits before it looks again where the core shows neither that it comes first nor for whom it waits.
-const BETWEEN_LOOKS: Duration = Duration::from_millis(100);
-
-/// How many digits the server adds to a name.
-const DIGITS: usize = 10;
-
-/// What stands before the number of a candidate of Curator's `LeaderLatch`, which waits for no lock.
-const LATCH: &str = "-latch-";
+/// How much longer than the timeout of its session one waits who only tries to take a lock.
+const PATIENCE: Duration = Duration::from_secs(1);
 
 /// With whom a lock is held at once.
 ///
@@ -30,7 +30,7 @@ const LATCH: &str = "-latch-";
 /// # fn main() -> Result<(), Box<dyn std::error::Error>> {
 /// let session = Session::open("127.0.0.1:2181", Duration::from_secs(10))?;
 /// let reads = LockOptions::new().sharing(Sharing::Shared).acquire(&session, "/locks/ledger")?;
-/// assert!(reads.check()?);
+/// assert!(reads.is_held());
 /// # Ok(())
 /// # }
 /// ```
@@ -44,9 +44,9 @@ pub enum Sharing {
     Shared,
 }
 
-/// How the places of contenders are named. All contenders of a path use one kind of names: those that do, of whatever language or library,
-/// never hold together unless they share the lock. Where a place of the other names is there, taking a lock fails with
-/// [`ErrorKind::MixedNames`]. Nodes that are no place by either names count for nothing.
+/// Whose names the places of contenders have. All contenders of a path use names of one kind, since kazoo and Curator see those of their own kind
+/// alone. A lock that finds places of another kind before it holds gives its own up: [`ErrorKind::MixedNames`]. Nodes that are no places make
+/// nobody wait.
 ///
 /// ```no_run
 /// use dirwolleu::{LockNames, LockOptions, Session};
@@ -65,93 +65,39 @@ pub enum LockNames {
     Kazoo,
     /// Those of Curator.
     Curator,
+    /// Those of Curator's `LeaderLatch`, which is held alone.
+    Latch,
 }
 
 impl LockNames {
-    pub(crate) const fn word(self) -> &'static str {
-        match self {
-            LockNames::Kazoo => "kazoo",
-            LockNames::Curator => "Curator",
-        }
-    }
-
-    const fn other(self) -> LockNames {
-        match self {
-            LockNames::Kazoo => LockNames::Curator,
-            LockNames::Curator => LockNames::Kazoo,
-        }
-    }
-
-    /// What stands before the number of a place.
-    const fn marker(self, sharing: Sharing) -> &'static str {
+    const fn naming(self, sharing: Sharing) -> Naming {
         match (self, sharing) {
-            (LockNames::Kazoo, Sharing::Shared) => "__rlock__",
-            (LockNames::Kazoo, _) => "__lock__",
-            (LockNames::Curator, Sharing::Exclusive) => "-lock-",
-            (LockNames::Curator, Sharing::Writing) => "-__WRIT__",
-            (LockNames::Curator, Sharing::Shared) => "-__READ__",
+            (LockNames::Kazoo, Sharing::Shared) => Naming::KazooReader,
+            (LockNames::Kazoo, _) => Naming::Kazoo,
+            (LockNames::Curator, Sharing::Exclusive) => Naming::CuratorLock,
+            (LockNames::Curator, Sharing::Writing) => Naming::CuratorWriter,
+            (LockNames::Curator, Sharing::Shared) => Naming::CuratorReader,
+            (LockNames::Latch, _) => Naming::CuratorLatch,
         }
-    }
-
-    /// All that do so.
-    const fn markers(self) -> &'static [&'static str] {
-        match self {
-            LockNames::Kazoo => &["__lock__", "__rlock__"],
-            LockNames::Curator => &["-lock-", "-__WRIT__", "-__READ__"],
-        }
-    }
-
-    /// Those of places that are to be waited for.
-    const fn against(self, sharing: Sharing) -> &'static [&'static str] {
-        match (self, sharing) {
-            (LockNames::Kazoo, Sharing::Shared) => &["__lock__"],
-            (LockNames::Curator, Sharing::Shared) => &["-lock-", "-__WRIT__"],
-            (names, _) => names.markers(),
-        }
-    }
-
-    /// The beginning of a name that nobody else has: the tag tells a place from others where the answer to its create is lost.
-    fn new_tag(self, sharing: Sharing) -> String {
-        let (one, other) = (random(), random());
-        let marker = self.marker(sharing);
-        match self {
-            LockNames::Kazoo => format!("{one:016x}{other:016x}{marker}"),
-            LockNames::Curator => format!(
-                "_c_{:08x}-{:04x}-{:04x}-{:04x}-{:012x}{marker}",
-                one >> 32,
-                one >> 16 & 0xffff,
-                one & 0xffff,
-                other >> 48,
-                other & 0xffff_ffff_ffff
-            ),
-        }
-    }
-
-    /// The number of a place of these names.
-    fn number_of(self, name: &str) -> Option<&str> {
-        number_after(self.markers(), name)
-    }
-
-    /// Whether a name is that of a contender that waits for no place of these names, as none of these waits for it.
-    fn is_foreign(self, name: &str) -> bool {
-        self.other().number_of(name).is_some() || number_after(&[LATCH], name).is_some()
     }
 }
 
-/// The number at the end of a name, if one of these stands before it.
-fn number_after<'n>(markers: &[&str], name: &'n str) -> Option<&'n str> {
-    let end = name.len().checked_sub(DIGITS)?;
-    let (begin, number) = (name.get(..end)?, name.get(end..)?);
-    let is_number = number.bytes().all(|digit| digit.is_ascii_digit());
-    let is_marked = markers.iter().any(|marker| begin.ends_with(marker));
-    (is_number && is_marked).then_some(number)
-}
-
-/// The names of places, in the order of their numbers. It is for people: who comes first is the core's verdict.
-fn in_order(names: LockNames, mut found: Vec<String>) -> Vec<String> {
-    found.retain(|name| names.number_of(name).is_some());
-    found.sort_by(|one, other| names.number_of(one).cmp(&names.number_of(other)));
-    found
+/// A text that no other contender has.
+fn new_guid(naming: Naming) -> String {
+    let (one, other) = (random(), random());
+    match naming {
+        Naming::Kazoo | Naming::KazooReader | Naming::Leases { .. } => {
+            format!("{one:016x}{other:016x}")
+        }
+        _ => format!(
+            "{:08x}-{:04x}-{:04x}-{:04x}-{:012x}",
+            one >> 32,
+            one >> 16 & 0xffff,
+            one & 0xffff,
+            other >> 48,
+            other & 0xffff_ffff_ffff
+        ),
+    }
 }
 
 /// How a lock is taken, where [`Lock::acquire`] does not do.
@@ -221,90 +167,195 @@ impl<'d> LockOptions<'d> {
         self
     }
 
-    /// Waits until the lock is held. The node of the lock is made where it is not there.
+    fn until(&self) -> Option<Instant> {
+        self.limit
+            .and_then(|limit| Instant::now().checked_add(limit))
+    }
+
+    /// Waits until the lock is held. The node of the lock is made where it is not there. A place that is taken away, or has gone with a session
+    /// that renews itself, is made again.
     ///
     /// # Errors
     ///
-    /// [`ErrorKind::LockTimeout`] where it is not held in time, [`ErrorKind::MixedNames`] where a place has the other names, those of
-    /// calls that do not pass, and [`Code::NO_NODE`] where its place is taken away, or has gone with a session that renews itself. The
-    /// session deletes the place then, on the next connection where that is needed.
+    /// [`ErrorKind::LockTimeout`] where it is not held in time, [`ErrorKind::MixedNames`] where a place has other names,
+    /// [`ErrorKind::NumbersUsedUp`], those of calls that do not pass, and why the session is over. The contender is given up then, and the
+    /// session deletes its place, on the next connection where that is needed.
     pub fn acquire<'s>(self, session: &'s Session, path: &str) -> Result<Lock<'s>, Error> {
-        let until = self
-            .limit
-            .and_then(|limit| Instant::now().checked_add(limit));
-        let line = Line {
-            session,
-            path,
-            options: self,
-            until,
-        };
-        line.hold(session)
+        let until = self.until();
+        self.contend(session, path)?.wait_until(until)
+    }
+
+    /// Takes the lock if nobody is before this one: none if somebody is. It waits for the first word on that, for the timeout of the session and a
+    /// second at most, whatever [`within`](LockOptions::within) says.
+    ///
+    /// # Errors
+    ///
+    /// As [`acquire`](LockOptions::acquire).
+    pub fn try_acquire<'s>(
+        self,
+        session: &'s Session,
+        path: &str,
+    ) -> Result<Option<Lock<'s>>, Error> {
+        let contending = self.contend(session, path)?;
+        let ticket = contending.stake.ticket;
+        let until = Instant::now().checked_add(session.timeout() + PATIENCE);
+        session.wait_while(until, |engine| {
+            engine.is_contending(ticket) && !engine.is_behind(ticket)
+        });
+        if session.change(|engine| engine.is_behind(ticket)) {
+            return Ok(None);
+        }
+        contending.wait_until(Some(Instant::now())).map(Some)
+    }
+
+    /// Contends for the lock, and does not wait: what this gives is a future of no runtime. It is given up where that is dropped, and
+    /// [`within`](LockOptions::within) says nothing.
+    ///
+    /// ```no_run
+    /// use dirwolleu::{Error, LockOptions, Session};
+    ///
+    /// /// Works while a lock is held.
+    /// async fn work(session: &Session) -> Result<(), Error> {
+    ///     let lock = LockOptions::new().contend(session, "/locks/ledger")?.await?;
+    ///     println!("held with token {}", lock.token());
+    ///     lock.lost().await;
+    ///     Ok(())
+    /// }
+    /// ```
+    ///
+    /// # Errors
+    ///
+    /// That the path is none, that memory ran out, and why the session is over.
+    pub fn contend<'s>(self, session: &'s Session, path: &str) -> Result<Contending<'s>, Error> {
+        let naming = self.names.naming(self.sharing);
+        Contending::by(naming, session, path, self.data)
     }
 }
 
-/// A place in the line for a lock: the session deletes it where it is dropped.
+/// A contender of a session, which is given up where this is dropped.
 #[derive(Debug)]
-pub(crate) struct Claim<'a> {
-    pub(crate) session: &'a Session,
-    /// None where there is nothing to be deleted.
-    place: Option<Place>,
+struct Stake<'s> {
+    session: &'s Session,
+    ticket: u64,
+    is_left: bool,
 }
 
-impl<'a> Claim<'a> {
-    /// One of nothing yet.
-    pub(crate) fn none(session: &'a Session) -> Claim<'a> {
-        let place = None;
-        Claim { session, place }
+impl<'s> Stake<'s> {
+    fn leave(&mut self) {
+        if !mem::replace(&mut self.is_left, true) {
+            self.session.change(|engine| engine.give_up(self.ticket));
+        }
     }
 
-    pub(crate) fn is_something(&self) -> bool {
-        self.place.is_some()
-    }
-
-    pub(crate) fn is_nothing(&mut self) {
-        self.place = None;
-    }
-
-    pub(crate) fn is_of(&mut self, place: Place) {
-        self.place = Some(place);
-    }
-
-    /// The session deletes the place: what has become of it is asked by this number.
-    fn give_up(&mut self, is_awaited: bool) -> Option<u64> {
-        let place = self.place.take()?;
-        let session = self.session;
-        Some(session.change(|engine| engine.delete(place, is_awaited)))
-    }
-
-    /// Gives it up, and waits until its node, which is this one, is gone: for twice the timeout of the session at most.
-    pub(crate) fn release(&mut self, node: &str) -> Result<(), Error> {
-        let session = self.session;
-        let Some(number) = self.give_up(true) else {
-            return Ok(());
-        };
-        let until = Instant::now().checked_add(session.timeout() * 2);
-        session.wait_while(until, |engine| engine.is_left(number));
-        match session.change(|engine| engine.fault_of_deletion(number)) {
-            Some(kind) => Err(Error::about(Some(node), kind)),
-            None => Ok(()),
+    /// The same contender, which is given up where that is dropped, and no longer where this is.
+    fn hand_on(&mut self) -> Stake<'s> {
+        Stake {
+            session: self.session,
+            ticket: self.ticket,
+            is_left: mem::replace(&mut self.is_left, true),
         }
     }
 }
 
-impl Drop for Claim<'_> {
+impl Drop for Stake<'_> {
     fn drop(&mut self) {
-        self.give_up(false);
+        self.leave();
     }
 }
 
-/// A lock that is held, until it is let go or the session has expired.
+/// A lock that is contended for, of [`LockOptions::contend`]: a future, which is ready once the lock is held. To drop it gives the place up.
+#[must_use = "to drop it gives the place up"]
+pub struct Contending<'s> {
+    stake: Stake<'s>,
+    path: String,
+    poller: Poller,
+}
+
+impl<'s> Contending<'s> {
+    /// One that contends by this naming.
+    pub(crate) fn by(
+        naming: Naming,
+        session: &'s Session,
+        path: &str,
+        data: &[u8],
+    ) -> Result<Contending<'s>, Error> {
+        let joined = session.change(|engine| {
+            let entry = Entry {
+                directory: engine.chroot().outer(path)?.into_owned(),
+                naming,
+                guid: new_guid(naming),
+                data: data.to_vec(),
+            };
+            engine.contend(&entry)
+        });
+        let ticket = joined.map_err(|kind| Error::about(Some(path), kind))?;
+        Ok(Contending {
+            stake: Stake {
+                session,
+                ticket,
+                is_left: false,
+            },
+            path: String::from(path),
+            poller: session.poller(),
+        })
+    }
+
+    /// Waits until this instant at most.
+    pub(crate) fn wait_until(mut self, until: Option<Instant>) -> Result<Lock<'s>, Error> {
+        let (session, ticket) = (self.stake.session, self.stake.ticket);
+        loop {
+            session.wait_while(until, |engine| engine.is_contending(ticket));
+            match session.change(|engine| engine.take_hold(ticket)) {
+                Poll::Ready(found) => return self.end(found),
+                Poll::Pending if until.is_some_and(|until| until <= Instant::now()) => {
+                    return self.end(Err(ErrorKind::LockTimeout));
+                }
+                Poll::Pending => {}
+            }
+        }
+    }
+
+    /// It holds, or is given up for this reason.
+    fn end(&mut self, found: Result<Hold, ErrorKind>) -> Result<Lock<'s>, Error> {
+        let stake = self.stake.hand_on();
+        match found {
+            Ok(hold) => Ok(Lock::of(stake, hold)),
+            Err(kind) => Err(Error::about(Some(&self.path), kind)),
+        }
+    }
+}
+
+impl<'s> Future for Contending<'s> {
+    type Output = Result<Lock<'s>, Error>;
+
+    /// # Panics
+    ///
+    /// Where it is polled again after its end.
+    fn poll(mut self: Pin<&mut Self>, context: &mut Context<'_>) -> Poll<Self::Output> {
+        assert!(!self.stake.is_left, "a lock is polled after its end");
+        let ticket = self.stake.ticket;
+        let found = self.poller.poll(context, |engine| engine.take_hold(ticket));
+        found.map(|found| self.end(found))
+    }
+}
+
+impl fmt::Debug for Contending<'_> {
+    fn fmt(&self, f: &mut fmt::Formatter<'_>) -> fmt::Result {
+        f.debug_struct("Contending")
+            .field("path", &self.path)
+            .finish_non_exhaustive()
+    }
+}
+
+/// A lock that is held, until it is let go, somebody takes its place away, or the session has expired.
 ///
-/// All contenders of a path use one kind of names, [`LockNames`]: kazoo's unless [`LockOptions`] says otherwise. Each who wants the lock
-/// makes an ephemeral node, and the first one has it; who shares it, once no exclusive one is before it. A program that was held up, or
-/// whose packets were lost, believes that it has the lock for a while after its session has expired. So hand the [token](Lock::token) on
-/// with each request to what is protected, and have that refuse a token below the greatest one that it has seen.
+/// Held means: at the last zxid that the session has seen, the lock was this one's. While there is no connection it stays so, and another one may
+/// hold by now: [`check`](Lock::check) is false once no server was heard for as long as you allow. A program that was held up does not even ask in
+/// time. So hand the [token](Lock::token) on with each request to what is protected, and have that refuse a token below the greatest one that
+/// it has seen.
 ///
-/// However it is let go, the session deletes its node: again on each connection, until there is none or the session is over.
+/// One that is lost is given up. However it is let go, the session deletes its node: again on each connection, until there is none or the
+/// session is over.
 ///
 /// ```no_run
 /// use dirwolleu::{Lock, Session, Sharing};
@@ -314,9 +365,8 @@ impl Drop for Claim<'_> {
 /// # fn main() -> Result<(), Box<dyn std::error::Error>> {
 /// let session = Session::open("127.0.0.1:2181", Duration::from_secs(10))?;
 /// let lock = Lock::acquire(&session, "/locks/ledger", Sharing::Exclusive, b"host-1")?;
-/// store(lock.token()); // it refuses a token below one that it has seen
-/// if lock.check()? {
-///     println!("the lock was held when the servers answered");
+/// while lock.check(Duration::from_secs(5)) {
+///     store(lock.token()); // it refuses a token below one that it has seen
 /// }
 /// lock.release()?;
 /// # Ok(())
@@ -325,12 +375,20 @@ impl Drop for Claim<'_> {
 #[derive(Debug)]
 #[must_use = "to drop it lets the lock go"]
 pub struct Lock<'a> {
-    claim: Claim<'a>,
-    node: String,
+    stake: Stake<'a>,
+    place: String,
     token: i64,
 }
 
 impl<'a> Lock<'a> {
+    fn of(stake: Stake<'a>, (token, place): Hold) -> Lock<'a> {
+        Lock {
+            stake,
+            place,
+            token,
+        }
+    }
+
     /// Waits until the lock is held, by the names of kazoo. [`LockOptions`] takes one otherwise. The node of the lock is made where it is
     /// not there, and its places have these data.
     ///
@@ -353,198 +411,88 @@ impl<'a> Lock<'a> {
         self.token
     }
 
-    /// Asks whether the lock is held. It was when the server answered; it may not be any more.
-    ///
-    /// # Errors
-    ///
-    /// Those of a read: whether it is held is not known then.
-    pub fn check(&self) -> Result<bool, Error> {
-        let stat = self.claim.session.exists(&self.node)?;
-        Ok(stat.is_some_and(|stat| stat.czxid == self.token))
+    /// The path of its place: [`exists`](Session::exists) of it asks a server.
+    #[must_use]
+    pub fn place(&self) -> &str {
+        &self.place
+    }
+
+    /// Whether the lock is held at the [last zxid](Session::last_zxid). It asks nobody.
+    #[must_use]
+    pub fn is_held(&self) -> bool {
+        self.stake.session.view(|view| self.is_held_in(view))
+    }
+
+    pub(crate) fn is_held_in(&self, view: View<'_>) -> bool {
+        view.held(self.stake.ticket) == Some(self.token)
+    }
+
+    /// Whether the lock is held at the last zxid, and a server was heard within this time. It asks nobody.
+    #[must_use]
+    pub fn check(&self, within: Duration) -> bool {
+        let is_heard = |view: View<'_>| view.age().is_some_and(|age| age <= within);
+        let session = self.stake.session;
+        session.view(|view| self.is_held_in(view) && is_heard(view))
+    }
+
+    /// Waits until the lock is known to be lost, for so long at most: whether it is.
+    #[must_use]
+    pub fn is_lost_within(&self, limit: Duration) -> bool {
+        let until = Instant::now().checked_add(limit);
+        let session = self.stake.session;
+        session.wait_until(until, |view| self.is_held_in(view));
+        !self.is_held()
+    }
+
+    /// A future, of no runtime, which is ready once the lock is known to be lost.
+    pub fn lost(&self) -> impl Future<Output = ()> + '_ {
+        Loss {
+            lock: self,
+            poller: self.stake.session.poller(),
+        }
     }
 
     /// Lets the lock go, and waits until its node is gone: for twice the timeout of the session at most. To drop it does not wait.
     ///
     /// # Errors
     ///
-    /// Why the node is left, whose path the error has: [`ErrorKind::TimedOut`] where the servers were not reached, and the session still
-    /// deletes it then; or why they refuse it. It goes with the session at the latest.
+    /// Why the node is left, whose path the error has: [`ErrorKind::TimedOut`] where the servers were not reached; or why they refuse it. The
+    /// session deletes it still, and it goes with the session at the latest.
     pub fn release(mut self) -> Result<(), Error> {
-        self.claim.release(&self.node)
-    }
-
-    /// The path of its place.
-    pub(crate) fn node(&self) -> &str {
-        &self.node
+        let (session, ticket) = (self.stake.session, self.stake.ticket);
+        self.stake.leave();
+        let until = Instant::now().checked_add(session.timeout() * 2);
+        session.wait_while(until, |engine| engine.is_leaving(ticket));
+        match session.change(|engine| engine.fault_of_leaving(ticket)) {
+            Some(kind) => Err(Error::about(Some(&self.place), kind)),
+            None => Ok(()),
+        }
     }
 }
 
-/// The line for a lock, and until when its end is waited for.
-#[derive(Clone, Copy)]
-struct Line<'a> {
-    session: &'a Session,
-    path: &'a str,
-    options: LockOptions<'a>,
-    until: Option<Instant>,
+/// Waits for the loss of a lock.
+struct Loss<'l> {
+    lock: &'l Lock<'l>,
+    poller: Poller,
 }
 
-impl Line<'_> {
-    /// Waits until the lock is held.
-    fn hold(self, session: &Session) -> Result<Lock<'_>, Error> {
-        let mut claim = Claim::none(session);
-        let node = self.take_place(&mut claim)?;
-        let name = &node[node.rfind('/').map_or(0, |slash| slash + 1)..];
-        loop {
-            self.keep(&node)?;
-            match self.standing(name)? {
-                Standing::First { token } => {
-                    return Ok(Lock { claim, node, token });
-                }
-                Standing::After { rival } => self.wait_for(&node, &rival)?,
-                Standing::Unsure => {
-                    let soon = Instant::now().checked_add(BETWEEN_LOOKS);
-                    let soon = soon.into_iter().chain(self.until).min();
-                    self.session.wait_until(soon, |_| true);
-                }
-            }
-            self.check_limit()?;
-        }
-    }
+impl Future for Loss<'_> {
+    type Output = ();
 
-    fn check_limit(&self) -> Result<(), Error> {
-        match self.until {
-            Some(until) if until <= Instant::now() => {
-                Err(Error::about(Some(self.path), ErrorKind::LockTimeout))
+    fn poll(self: Pin<&mut Self>, context: &mut Context<'_>) -> Poll<()> {
+        let lock = self.lock;
+        self.poller.poll(context, |engine| {
+            if lock.is_held_in(View::of(engine)) {
+                return Poll::Pending;
             }
-            _ => Ok(()),
-        }
-    }
-
-    /// Asks, and waits to the limit at most.
-    fn call<T>(&self, request: Request<T>) -> Result<T, Error> {
-        self.session.call(match self.until {
-            Some(until) => request.within(until.saturating_duration_since(Instant::now())),
-            None => request,
+            Poll::Ready(())
         })
-    }
-
-    /// Reads, as often as it takes.
-    fn again<T>(&self, read: impl Fn() -> Request<T>) -> Result<T, Error> {
-        loop {
-            match self.call(read()) {
-                Err(error) if error.is_passing() => self.check_limit()?,
-                answer => return answer,
-            }
-        }
-    }
-
-    /// Takes a place, at the end of the line: the path of its node.
-    fn take_place(&self, claim: &mut Claim<'_>) -> Result<String, Error> {
-        let LockOptions {
-            names,
-            sharing,
-            data,
-            ..
-        } = self.options;
-        let tag = names.new_tag(sharing);
-        let place = child_of(self.path, &tag);
-        loop {
-            claim.is_of(Place::Tagged {
-                directory: String::from(self.path),
-                tag: tag.clone(),
-            });
-            let create = Request::create(&place, data, Mode::EphemeralSequential);
-            let made = match self.call(create) {
-                Ok(node) => Some(node),
-                Err(error) if error.may_have_happened() => self.find_place(&tag)?,
-                Err(error) => {
-                    claim.is_nothing();
-                    self.begin_again(error)?;
-                    None
-                }
-            };
-            if let Some(node) = made {
-                claim.is_of(Place::Node(node.clone()));
-                return Ok(node);
-            }
-            self.check_limit()?;
-        }
-    }
-
-    /// A create has not happened. It fails where it is of no use to ask again.
-    fn begin_again(&self, error: Error) -> Result<(), Error> {
-        match error.code() {
-            Some(Code::NO_NODE) => match self.session.ensure_path(self.path) {
-                Err(error) if error.is_passing() => Ok(()),
-                made => made,
-            },
-            _ if error.is_passing() => Ok(()),
-            _ => Err(error),
-        }
-    }
-
-    /// The node with this tag, once its create has happened or can't happen any more.
-    fn find_place(&self, tag: &str) -> Result<Option<String>, Error> {
-        let synced = self.again(|| Request::sync(self.path));
-        match synced.and_then(|()| self.again(|| Request::children(self.path))) {
-            Ok((names, _)) => {
-                let found = names.iter().find(|name| name.starts_with(tag));
-                Ok(found.map(|name| child_of(self.path, name)))
-            }
-            Err(error) if error.code() == Some(Code::NO_NODE) => Ok(None),
-            Err(error) => Err(error),
-        }
-    }
-
-    /// Has the node of the place be kept and good. [`Code::NO_NODE`] where it is gone, as it goes with its session.
-    fn keep(&self, node: &str) -> Result<(), Error> {
-        if self.session.data_mark(node)? == Some(Mark::Good) {
-            return Ok(());
-        }
-        self.again(|| Request::get(node).watched()).map(drop)
-    }
-
-    /// The core's verdict, by a listing that is answered after the place was made.
-    fn standing(&self, name: &str) -> Result<Standing, Error> {
-        let LockOptions { names, sharing, .. } = self.options;
-        let (found, listed) = self.again(|| Request::listing(self.path))?;
-        if let Some(place) = found.iter().find(|other| names.is_foreign(other)) {
-            let place = place.clone();
-            let mixed = ErrorKind::MixedNames { names, place };
-            return Err(Error::about(Some(self.path), mixed));
-        }
-        let contender = Contender {
-            directory: self.path,
-            name,
-            names: &found,
-            listed,
-            markers: Markers {
-                own: names.marker(sharing),
-                against: names.against(sharing),
-            },
-        };
-        Ok(self.session.view(|view| view.standing(&contender))?)
-    }
-
-    /// Waits until a rival is gone, or something else is to be looked at. A read of data leaves no watch where there is no node.
-    fn wait_for(&self, node: &str, rival: &str) -> Result<(), Error> {
-        let rival = child_of(self.path, rival);
-        match self.again(|| Request::get(&rival).watched()) {
-            Ok(_) => {}
-            Err(error) if error.code() == Some(Code::NO_NODE) => return Ok(()),
-            Err(error) => return Err(error),
-        }
-        let is_good = |view: View<'_>, path| matches!(view.data_mark(path), Ok(Some(Mark::Good)));
-        self.session.wait_until(self.until, |view| {
-            is_good(view, &rival) && is_good(view, node)
-        });
-        Ok(())
     }
 }
 
 /// An election: each candidate leads once those before it have resigned or are gone. All candidates of a path use one kind of names,
-/// [`LockNames`]. It is an exclusive lock whose places say who has made them: by the names of kazoo it goes with kazoo's `Election`, and
-/// by those of Curator with its `LeaderSelector`, and not with its `LeaderLatch`.
+/// [`LockNames`]. It is an exclusive lock whose places say who has made them: by the names of kazoo it goes with kazoo's `Election`, by those
+/// of Curator with its `LeaderSelector`, and by those of a latch with its `LeaderLatch`.
 ///
 /// ```no_run
 /// use dirwolleu::{Election, Session};
@@ -566,6 +514,15 @@ pub struct Election<'a> {
     path: String,
     names: LockNames,
 }
+
+/// The markers of candidates.
+const OF_CANDIDATES: Markers<'_> = Markers {
+    own: "__lock__",
+    against: &["__lock__", "lock-", "latch-"],
+};
+
+/// No place has a greater number than this name.
+const AFTER_ALL: &str = "__lock__9999999999";
 
 impl<'a> Election<'a> {
     /// The election at this node, which is made where it is not there, by the names of kazoo.
@@ -591,8 +548,17 @@ impl<'a> Election<'a> {
     ///
     /// As [`LockOptions::acquire`].
     pub fn lead(&self, data: &[u8]) -> Result<Lock<'a>, Error> {
+        self.contend(data)?.wait_until(None)
+    }
+
+    /// Becomes a candidate, and does not wait: what this gives is a future of no runtime, as of [`LockOptions::contend`].
+    ///
+    /// # Errors
+    ///
+    /// As [`LockOptions::contend`].
+    pub fn contend(&self, data: &[u8]) -> Result<Contending<'a>, Error> {
         let options = LockOptions::new().names(self.names).data(data);
-        options.acquire(self.session, &self.path)
+        options.contend(self.session, &self.path)
     }
 
     /// What the candidates have said of themselves, the one that leads first.
@@ -601,26 +567,47 @@ impl<'a> Election<'a> {
     ///
     /// Those of reads that do not pass.
     pub fn candidates(&self) -> Result<Vec<Vec<u8>>, Error> {
-        let line = Line {
-            session: self.session,
-            path: &self.path,
-            options: LockOptions::new(),
-            until: None,
-        };
-        let names = match line.again(|| Request::children(&self.path)) {
-            Ok((names, _)) => in_order(self.names, names),
-            Err(error) if error.code() == Some(Code::NO_NODE) => Vec::new(),
-            Err(error) => return Err(error),
+        let (names, listed) = match self.again(|| Request::listing(&self.path)) {
+            Err(error) if error.code() == Some(Code::NO_NODE) => return Ok(Vec::new()),
+            listing => listing?,
         };
         let mut candidates = Vec::new();
-        for name in names {
-            match line.again(|| Request::get(&child_of(&self.path, &name))) {
+        for name in self.in_order(&names, listed)? {
+            match self.again(|| Request::get(&child_of(&self.path, &name))) {
                 Ok(node) => candidates.push(node.data.unwrap_or_default()),
                 Err(error) if error.code() == Some(Code::NO_NODE) => {}
                 Err(error) => return Err(error),
             }
         }
         Ok(candidates)
+    }
+
+    /// Those of these names that are candidates' places, in their order, as the core says: it has the one before each.
+    fn in_order(&self, names: &[String], listed: i64) -> Result<Vec<String>, Error> {
+        let mut found = vec![String::from(AFTER_ALL)];
+        loop {
+            let contender = Contender {
+                directory: &self.path,
+                name: &found[found.len() - 1],
+                names,
+                listed,
+                markers: OF_CANDIDATES,
+            };
+            match self.session.view(|view| view.rival(&contender))? {
+                Some(rival) => found.push(rival),
+                None => return Ok(found.into_iter().skip(1).rev().collect()),
+            }
+        }
+    }
+
+    /// Reads, as often as it takes.
+    fn again<T>(&self, read: impl Fn() -> Request<T>) -> Result<T, Error> {
+        loop {
+            match self.session.call(read()) {
+                Err(error) if error.is_passing() || self.session.lives_through(&error) => {}
+                answer => return answer,
+            }
+        }
     }
 
     /// What the one that leads has said of itself, and none where there is no candidate.
@@ -630,85 +617,5 @@ impl<'a> Election<'a> {
     /// Those of reads that do not pass.
     pub fn leader(&self) -> Result<Option<Vec<u8>>, Error> {
         Ok(self.candidates()?.into_iter().next())
-    }
-}
-
-#[cfg(test)]
-mod tests {
-    use super::{in_order, LockNames, Sharing};
-
-    #[test]
-    fn places_are_in_the_order_of_their_numbers() {
-        let names = [
-            "b__lock__0000000003",
-            "z__rlock__0000000001",
-            "note",
-            "note-0000000000",
-            "_c_d-lock-0000000000",
-            "a__lock__0000000002",
-        ];
-        let found = in_order(LockNames::Kazoo, names.map(String::from).into());
-        let expected = [
-            "z__rlock__0000000001",
-            "a__lock__0000000002",
-            "b__lock__0000000003",
-        ];
-        assert_eq!(found, expected);
-    }
-
-    #[test]
-    fn each_sees_places_of_its_own_names_alone() {
-        let (kazoo, curator) = (LockNames::Kazoo, LockNames::Curator);
-        for (name, of_kazoo, of_curator) in [
-            ("a__lock__0000000002", Some("0000000002"), None),
-            ("z__rlock__0000000001", Some("0000000001"), None),
-            ("_c_d-lock-0000000007", None, Some("0000000007")),
-            ("_c_d-__WRIT__0000000007", None, Some("0000000007")),
-            ("_c_d-latch-0000000007", None, None),
-            ("lock-0000000007", None, None),
-            ("a__lock__000000002", None, None),
-            ("é__lock__", None, None),
-            ("", None, None),
-        ] {
-            let found = (kazoo.number_of(name), curator.number_of(name));
-            assert_eq!(found, (of_kazoo, of_curator), "{name}");
-        }
-    }
-
-    #[test]
-    fn a_latch_is_foreign_to_both() {
-        for (name, is_foreign) in [("_c_d-latch-0000000007", true), ("note-0000000007", false)] {
-            for names in [LockNames::Kazoo, LockNames::Curator] {
-                assert_eq!(names.is_foreign(name), is_foreign, "{name}");
-            }
-        }
-    }
-
-    #[test]
-    fn a_tag_is_one_of_its_names() {
-        for names in [LockNames::Kazoo, LockNames::Curator] {
-            for sharing in [Sharing::Exclusive, Sharing::Writing, Sharing::Shared] {
-                let name = names.new_tag(sharing) + "0000000012";
-                assert_eq!(names.number_of(&name), Some("0000000012"));
-                assert_eq!(names.other().number_of(&name), None);
-            }
-        }
-        let tag = LockNames::Curator.new_tag(Sharing::Exclusive);
-        let dashes = tag.match_indices('-').map(|(at, _)| at);
-        assert_eq!(dashes.collect::<Vec<_>>(), [11, 16, 21, 26, 39, 44]);
-    }
-
-    #[test]
-    fn only_those_that_share_do_not_wait_for_one_another() {
-        for names in [LockNames::Kazoo, LockNames::Curator] {
-            let shared = names.marker(Sharing::Shared);
-            assert!(!names.against(Sharing::Shared).contains(&shared));
-            for sharing in [Sharing::Exclusive, Sharing::Writing] {
-                let marker = names.marker(sharing);
-                assert!(names.against(Sharing::Shared).contains(&marker));
-                assert!(names.against(sharing).contains(&marker));
-                assert!(names.against(sharing).contains(&shared));
-            }
-        }
     }
 }

@@ -3,6 +3,7 @@
 mod look_ups;
 
 use crate::action::Actions;
+use crate::contention::Contention;
 use crate::fault::Fault;
 use crate::ffi::{Call, Handle, Settings};
 use crate::moment::Moment;
@@ -318,6 +319,47 @@ impl Machine {
     /// [`Fault::Halted`] and [`Fault::UnknownNumber`].
     pub fn unfollow_tree(&mut self, now: Moment, ticket: u64) -> Result<Actions<'_>, Fault> {
         self.step(|handle| handle.unfollow_tree(now, ticket))
+    }
+
+    /// A contender for a lock or an election joins. It makes its place, watches the last rival before it, and no other, and tells how it stands by
+    /// [`Action::Waits`](crate::Action::Waits) and those after it. A place whose making was lost is looked for, and in each new session it
+    /// contends by another one. No other call, subject, tree or contender has or had the ticket.
+    ///
+    /// ```
+    /// use dirwolleu::{Action, Contention, Machine, Moment};
+    ///
+    /// /// Does what a step says of contenders.
+    /// fn tell(action: &Action<'_>) {
+    ///     match action {
+    ///         Action::Holds { token, .. } => println!("held: each write takes {token} along"),
+    ///         Action::Lost { .. } => println!("another one may hold; this one contends on"),
+    ///         Action::GivenUp { .. } => println!("no node of it is there"),
+    ///         _ => {}
+    ///     }
+    /// }
+    /// ```
+    ///
+    /// # Errors
+    ///
+    /// [`Fault::NotPath`], also where no place in the directory has a path, and [`Fault::NoMemory`]: then nothing has happened.
+    /// [`Fault::Halted`] and [`Fault::UnknownNumber`].
+    pub fn contend(
+        &mut self,
+        now: Moment,
+        ticket: u64,
+        contention: &Contention<'_>,
+    ) -> Result<Actions<'_>, Fault> {
+        self.step(|handle| handle.contend(now, ticket, contention))
+    }
+
+    /// The contender of this ticket is given up: its places are deleted, through any number of connections, and
+    /// [`Action::GivenUp`](crate::Action::GivenUp) is told once none is left. Where there is no such contender, the moment alone is noticed.
+    ///
+    /// # Errors
+    ///
+    /// [`Fault::Halted`] and [`Fault::UnknownNumber`].
+    pub fn give_up(&mut self, now: Moment, ticket: u64) -> Result<Actions<'_>, Fault> {
+        self.step(|handle| handle.give_up(now, ticket))
     }
 
     /// Introduces the session by a credential, of a scheme as `digest` and a secret as `user:password`: at once where there is a

@@ -243,7 +243,8 @@ impl SessionOptions {
     }
 
     /// What is told what is observed of the session, for metrics and traces: [`Observation`]. Several threads may call it at once, so it is to be
-    /// short; it may look at the session, and is not to wait for it. [`Session::stats`] counts without it.
+    /// short; it may look at the session, and is not to wait for it. A panic of it is one of the thread that calls it: in its own thread, it ends
+    /// the session. [`Session::stats`] counts without it.
     ///
     /// ```no_run
     /// use dirwolleu::{Observation, SessionOptions};

@@ -1,6 +1,5 @@
 //! Nodes with all that are above them, or below.
 
-use crate::deletions::child_of;
 use crate::error::Error;
 use crate::fault::{Code, NoReply};
 use crate::node::{Mode, ANY_VERSION};
@@ -19,6 +18,12 @@ fn surely<T>(session: &mut impl Caller, request: &Request<T>) -> Result<T, Error
         }
     }
     session.answer(request.clone())
+}
+
+/// The path of the node of this name below another one.
+pub(crate) fn child_of(directory: &str, name: &str) -> String {
+    let directory = directory.strip_suffix('/').unwrap_or(directory);
+    format!("{directory}/{name}")
 }
 
 /// The node above this one. The root has none.

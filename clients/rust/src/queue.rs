@@ -1,11 +1,11 @@
 //! Entries that each go to one of those that take them. Tested, and not proved.
 
 use crate::cache::Mark;
-use crate::deletions::child_of;
 use crate::error::Error;
 use crate::fault::Code;
 use crate::hosts::random;
 use crate::node::Mode;
+use crate::paths::child_of;
 use crate::request::Request;
 use crate::session::Session;
 use std::time::{Duration, Instant};

@@ -13,7 +13,7 @@ use crate::node::{Mode, Node, Stat, Watch};
 use crate::raw::{Lifetime, RawCall};
 use crate::ticket::CallResult;
 use std::fmt;
-use std::time::Duration;
+use std::time::{Duration, Instant};
 
 /// A call of the core, without its path.
 #[derive(Clone, PartialEq, Eq)]
@@ -148,6 +148,14 @@ impl<T> Request<T> {
     pub fn within(mut self, limit: Duration) -> Request<T> {
         self.asked.limit = Some(limit);
         self
+    }
+
+    /// The same, which waits until this instant at most, if there is one.
+    pub(crate) fn until(self, until: Option<Instant>) -> Request<T> {
+        match until {
+            Some(until) => self.within(until.saturating_duration_since(Instant::now())),
+            None => self,
+        }
     }
 
     /// Whether it only reads. A read is safe to be asked again, whatever became of it; a write is where it was not sent or was refused.

@@ -7,13 +7,14 @@ use crate::moment::{Clock, Moment};
 use crate::notify::Notify;
 use crate::outbox::{Outbox, Writer, Written};
 use crate::request::Request;
-use crate::stats::{CallKind, Observer};
+use crate::stats::{CallKind, Observation, Observer};
 use crate::ticket::{CallLimit, ExpireCalls, Slot, Ticket};
 use std::collections::HashMap;
 use std::mem;
+use std::panic::{catch_unwind, resume_unwind, AssertUnwindSafe};
 use std::sync::{Arc, Mutex, MutexGuard, PoisonError, Weak};
 use std::task::{Context, Poll, Waker};
-use std::thread::Builder;
+use std::thread::{self, Builder};
 use std::time::{Duration, Instant};
 
 /// The longest wait of one read, and of one rest: an hour.
@@ -85,11 +86,7 @@ impl Shared {
         let (outboxes, tree_copies) = (engine.take_outboxes(), engine.take_tree_copies());
         let (is_news, seen) = (engine.has_event(), engine.take_seen());
         drop(engine);
-        if let Some(observer) = &self.observer {
-            for seen in &seen {
-                observer(seen);
-            }
-        }
+        let observed = self.observe(&seen);
         for outbox in outboxes {
             self.write(&outbox, self.writer, Duration::ZERO);
         }
@@ -103,6 +100,20 @@ impl Shared {
             copy.show();
             self.wake();
         }
+        if let Err(panic) = observed {
+            if !thread::panicking() {
+                resume_unwind(panic);
+            }
+        }
+    }
+
+    /// Tells the observer. Its panic goes on once all else is handed out, for which others wait.
+    fn observe(&self, seen: &[Observation]) -> thread::Result<()> {
+        let Some(observer) = &self.observer else {
+            return Ok(());
+        };
+        let tell = || seen.iter().for_each(|seen| observer(seen));
+        catch_unwind(AssertUnwindSafe(tell))
     }
 
     /// Wakes all threads that wait and all futures that were polled.

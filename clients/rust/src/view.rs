@@ -106,16 +106,22 @@ impl View<'_> {
         }
     }
 
-    /// Where a contender stands.
-    pub(crate) fn standing(self, contender: &Contender<'_>) -> Result<Standing, Fault> {
-        let looked = self.at(contender.directory, |machine, directory| {
-            let contender = Contender {
-                directory,
-                ..*contender
-            };
-            machine.standing(&contender).map(Some)
-        });
-        Ok(looked?.unwrap_or(Standing::Unsure))
+    /// The token by which the contender of this ticket holds.
+    pub(crate) fn held(self, ticket: u64) -> Option<i64> {
+        self.engine.held(ticket)
+    }
+
+    /// The last rival before a contender, if there is one. The names alone say that, also where the session is over.
+    pub(crate) fn rival(self, contender: &Contender<'_>) -> Result<Option<String>, Fault> {
+        let outer = self.engine.chroot().outer(contender.directory)?;
+        let contender = Contender {
+            directory: &outer,
+            ..*contender
+        };
+        Ok(match self.engine.machine().standing(&contender)? {
+            Standing::After { rival } => Some(rival),
+            Standing::First { .. } | Standing::Unsure => None,
+        })
     }
 
     /// The mark of what is kept about the data of a path, and none where nothing is. It copies no data.

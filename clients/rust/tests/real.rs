@@ -313,7 +313,7 @@ fn a_lock_is_held_by_one_at_a_time() {
         Session::open(&place, TIMEOUT).unwrap(),
     );
     let lock = Lock::acquire(&first, "/lock/a", Sharing::Exclusive, b"first").unwrap();
-    assert_eq!(lock.check(), Ok(true));
+    assert!(lock.is_held() && lock.check(TIMEOUT));
     let limit = Duration::from_millis(300);
     let late = LockOptions::new().sharing(Sharing::Shared).within(limit);
     let late = late.acquire(&second, "/lock/a");

@@ -11,7 +11,7 @@ import logging
 import ssl
 import struct
 import time
-from collections.abc import Iterable, Sequence
+from collections.abc import Iterable
 from dataclasses import dataclass
 from typing import TYPE_CHECKING, Any, Callable, NamedTuple, Optional
 
@@ -22,7 +22,6 @@ from dirwolleu._connection_stats import ConnectionStats
 from dirwolleu._credentials import Credential
 from dirwolleu._driver import Driver
 from dirwolleu._engine import Engine, Tell
-from dirwolleu._handle import Listing, Standing
 from dirwolleu._hosts import Place, Servers
 from dirwolleu._requests import Watcher
 from dirwolleu._root import Root
@@ -289,11 +288,6 @@ class Session(Client):
             threads.loop.soon(call)
             threads.loop.act()
 
-    def abandon(self) -> None:
-        """Ends the engine in the thread of the clients, after the step that runs."""
-        if self._dials is not None:
-            self.soon(functools.partial(self._dials.stop, self._engine.end))
-
     def drop_connection(self, why: str) -> None:
         """Closes the connection, so that another one is made. The session goes on."""
         self.soon(lambda: self._engine.drop_connection(why))
@@ -314,18 +308,6 @@ class Session(Client):
     def identity(self) -> Identity:
         """What the session is known by."""
         return identity_of(self._engine.saved())
-
-    def token_of(self, path: str) -> Optional[int]:
-        """The zxid at which a node of this session was made, where that it is there is kept and good."""
-        return self._engine.token_of(path)
-
-    def standing(self, directory: str, name: str, listing: Listing, markers: Sequence[str]) -> Standing:
-        """Whether the session comes first in a directory by its node of this name, and else whom it waits for."""
-        return self._engine.standing(directory, name, listing, markers)
-
-    def used(self) -> None:
-        """Counts that a lock is done with its node, so that what it has left is forgotten from time to time."""
-        self._engine.used()
 
     def no_server(self, timeout: Optional[float]) -> str:
         """That no server was found in this time, and what became of the last attempt, in words."""

@@ -18,7 +18,6 @@ from dirwolleu import _records as records
 from dirwolleu import _requests as requests
 from dirwolleu import exceptions as own
 from dirwolleu._credentials import Credential, CredentialCall
-from dirwolleu._handle import Listing, Standing
 from dirwolleu._hosts import Hosts, Servers
 from dirwolleu._plans import Plan
 from dirwolleu._records import Mode
@@ -478,28 +477,6 @@ class KazooClient:
     def _kept_children(self, path: str) -> Optional[KeptChildren]:
         """What is kept of the children of a node."""
         return None if self._session is None else self._session.kept_children(own_path(path))
-
-    # What locks ask.
-
-    def _is_owned(self, path: str) -> bool:
-        """Whether a node of this session is kept and good."""
-        return self._session is not None and self._session.token_of(own_path(path)) is not None
-
-    def _look(self, path: str) -> Optional[ZnodeStat]:
-        """What is known of a node, which is kept from then on, or None where there is none."""
-        found: Optional[ZnodeStat] = self._send(requests.exists(checked_path(path), True), forms.stat).get()
-        return found
-
-    def _standing(self, path: str, name: str, markers: Sequence[str]) -> Standing:
-        """Whether the session comes first in a directory by its node of this name, and else whom it waits for. It lists it now."""
-        listing: Listing = self._send(requests.listing(checked_path(path))).get()
-        session = self._session
-        return Standing(None, None) if session is None else session.standing(own_path(path), name, listing, markers)
-
-    def _used(self) -> None:
-        """Counts that a lock is done with its node."""
-        if self._session is not None:
-            self._session.used()
 
     # Calls.
 

@@ -73,7 +73,7 @@ impl Engine {
         self.hang_up();
         self.phase = Phase::Unauthorized;
         self.credentials.clear();
-        self.deletions.clear();
+        self.contenders.clear();
         let saved = self.machine.saved();
         if let Ok(other) = saved.and_then(|saved| self.machine_of(&saved)) {
             self.machine = other; // the one before is freed, with what it knows of the session

@@ -55,7 +55,7 @@ impl Engine {
         self.note_followed(&mut update);
         self.note(now, &update);
         self.send();
-        if self.end_answered(now) {
+        if self.end_answered() {
             self.ending = Some(ConnectionEnd::Unreadable);
             self.end()?;
         }
@@ -65,7 +65,7 @@ impl Engine {
         if let Some(reason) = self.reason_of_end() {
             self.calls.end_all(&reason);
         }
-        self.ask_deletions();
+        self.give_up_lost();
         self.flush_record();
         taken
     }
@@ -84,6 +84,9 @@ impl Engine {
             self.subjects.update(ticket, shows);
             self.update_tree_members(ticket, shows);
         }
+        for (ticket, stands) in update.contenders.drain(..) {
+            self.contenders.update(ticket, stands);
+        }
     }
 
     /// Records the new state of the session, and the attempt that the machine asks for.
@@ -95,14 +98,14 @@ impl Engine {
         if update.is_expired {
             self.tally.note(Observation::SessionLost);
             self.record_renewal();
-            self.deletions.clear();
             self.trees.values_mut().for_each(FollowedTree::invalidate);
             if !self.renews {
+                self.contenders.clear();
                 self.finish(Phase::Ended(State::Expired));
             }
         }
         if update.state == Some(State::Closed) {
-            self.deletions.clear();
+            self.contenders.clear();
             self.finish(Phase::Ended(State::Closed));
         }
         if let Some((place, within)) = update.dial.filter(|_| !self.is_over()) {
@@ -142,14 +145,13 @@ impl Engine {
     }
 
     /// Hands out answers. Whether one does not parse, so that the connection has to end: its call may have happened.
-    fn end_answered(&mut self, now: Moment) -> bool {
+    fn end_answered(&mut self) -> bool {
         let mut is_end = false;
         let mut answers = mem::take(&mut self.dispatcher.answers);
         for (ticket, outcome) in answers.drain(..) {
             let read = self.calls.read(ticket, outcome, &self.chroot);
             is_end |= read.is_none();
             let outcome = read.unwrap_or(Err(NoReply::ConnectionLoss.into()));
-            self.deletions.call_answered(now, ticket, &outcome);
             self.calls.end(ticket, outcome);
         }
         self.dispatcher.answers = answers;

@@ -12,6 +12,7 @@ use crate::saved::SavedSession;
 use crate::snapshot::{snapshot_in, Snapshot};
 use crate::standing::{Contender, Standing};
 use crate::subtree::{lacking_in, nodes_in, Lacking, Subtree};
+use std::convert::Infallible;
 use std::time::Duration;
 
 /// Look-ups. They ask nobody, and serve after [`Fault::Halted`] too, when nothing is kept.
@@ -205,6 +206,20 @@ impl Machine {
             (result::NOT_PATH, _) => Err(no_path_among([&directory, &path])),
             (code, token) => done(code).map(|()| Some(token)),
         }
+    }
+
+    /// The token by which the session holds by the contender of this ticket, and none where that is not shown: no rival is before its place in a
+    /// listing that was answered since it came there, and the place is kept good and is this session's. So it is at the
+    /// [last zxid](Self::last_zxid). While there is no connection it stays so; [`heard_at`](Self::heard_at) says how old that is.
+    pub fn held(&self, ticket: u64) -> Option<i64> {
+        self.handle.held(ticket)
+    }
+
+    /// The path of the place of the contender of this ticket, and none where it is not known.
+    pub fn place(&self, ticket: u64) -> Option<String> {
+        let place = copy_whole(|room| Ok::<_, Infallible>(self.handle.place(ticket, room)));
+        let place = place.unwrap_or_default();
+        (!place.is_empty()).then(|| text_of(place))
     }
 
     /// What a [`subtree`](Machine::subtree) has, as the library spells it. A tree that is looked at again is mostly as long as it was: it

@@ -1,12 +1,14 @@
 //! Locks and elections, at the server in memory. Where there is no python3, each test says so and passes.
 
+use crate::runtime::block_on;
 use crate::server::Server;
-use crate::{kind_of, started, PATIENCE, TIMEOUT};
+use crate::{kind_of, millis, renewing, started, wait_until, PATIENCE, TIMEOUT};
 use dirwolleu::{
-    Code, Election, Error, ErrorKind, Lock, LockNames, LockOptions, Mark, Mode, NoReply, Session,
-    Sharing, ANY_VERSION,
+    Code, Election, Error, ErrorKind, Fault, Lock, LockNames, LockOptions, Mark, Mode, NoReply,
+    Request, Session, SessionOptions, Sharing, ANY_VERSION,
 };
-use std::sync::mpsc;
+use std::sync::atomic::{AtomicBool, Ordering};
+use std::sync::{mpsc, Arc};
 use std::thread;
 use std::time::Duration;
 
@@ -15,6 +17,11 @@ const A_WHILE: Duration = Duration::from_millis(300);
 
 fn session_at(server: &Server) -> Session {
     Session::open(server.address, TIMEOUT).unwrap()
+}
+
+/// How many places there are.
+fn places(session: &Session) -> usize {
+    session.children("/locks/a").unwrap().0.len()
 }
 
 fn exclusive(session: &Session) -> Lock<'_> {
@@ -27,7 +34,9 @@ fn one_at_a_time_holds_a_lock_and_tokens_rise() {
     let first = session_at(&server);
     let lock = exclusive(&first);
     let token = lock.token();
-    assert_eq!(lock.check(), Ok(true));
+    assert!(lock.is_held() && lock.check(PATIENCE));
+    wait_until("nothing is heard", || !lock.check(millis(20)));
+    assert!(lock.is_held() && !lock.is_lost_within(Duration::ZERO));
     let second = session_at(&server);
     let (sender, held) = mpsc::channel();
     thread::scope(|scope| {
@@ -63,6 +72,18 @@ fn a_limit_gives_the_place_up() {
 }
 
 #[test]
+fn one_that_only_tries_leaves_no_place() {
+    let Some(server) = started() else { return };
+    let (first, second) = (session_at(&server), session_at(&server));
+    let tries = |session| LockOptions::new().try_acquire(session, "/locks/a").unwrap();
+    let lock = tries(&first).unwrap();
+    assert!(tries(&second).is_none());
+    wait_until("it has no place", || places(&first) == 1);
+    lock.release().unwrap();
+    assert!(tries(&second).is_some());
+}
+
+#[test]
 fn those_that_share_hold_together_and_wait_for_who_does_not() {
     let Some(server) = started() else { return };
     let session = session_at(&server);
@@ -93,42 +114,128 @@ fn a_lock_goes_with_its_session() {
     let session = session_at(&server);
     let lock = exclusive(&session);
     server.tell("expire");
-    let mut checked = lock.check();
-    while matches!(&checked, Err(error) if error.no_reply() == Some(NoReply::ConnectionLoss)) {
-        checked = lock.check();
-    }
-    assert_eq!(
-        checked.map_err(Error::into_kind),
-        Err(ErrorKind::NoReply(NoReply::SessionExpired))
-    );
+    assert!(lock.is_lost_within(PATIENCE) && !lock.check(PATIENCE));
+    block_on(lock.lost());
+    let over = LockOptions::new().acquire(&session, "/locks/a").map(drop);
+    assert_eq!(kind_of(over), NoReply::SessionExpired.into());
     session.renew().unwrap();
-    assert_eq!(lock.check(), Ok(false));
+    assert!(!lock.is_held());
     let again = exclusive(&session);
     assert!(again.token() > lock.token());
-    assert_eq!((lock.release(), again.check()), (Ok(()), Ok(true)));
+    assert_eq!((lock.release(), again.is_held()), (Ok(()), true));
 }
 
 #[test]
-fn a_place_that_is_taken_away_is_told() {
+fn a_lock_goes_with_a_session_that_is_closed() {
+    let Some(server) = started() else { return };
+    let [first, second] = [(); 2].map(|()| session_at(&server).shared());
+    let lock = exclusive(&first);
+    let options = LockOptions::new();
+    thread::scope(|scope| {
+        let waits = scope.spawn(|| options.acquire(&second, "/locks/a").map(drop));
+        wait_until("it waits", || places(&first) == 2);
+        second.close().unwrap();
+        let over = waits.join().unwrap();
+        assert_eq!(kind_of(over), NoReply::SessionClosed.into());
+    });
+    first.close().unwrap();
+    block_on(lock.lost());
+    assert_eq!((lock.is_held(), lock.release()), (false, Ok(())));
+}
+
+/// An observer that panics each time ends its session, and nobody waits any longer.
+#[test]
+fn a_lock_goes_with_a_session_whose_thread_panics() {
+    let Some(server) = started() else { return };
+    let panics = Arc::new(AtomicBool::new(false));
+    let is_time = Arc::clone(&panics);
+    let options = SessionOptions::new(TIMEOUT).observe(move |_| {
+        let is_own = thread::current().name() == Some("dirwolleu");
+        assert!(
+            !is_own || !is_time.load(Ordering::SeqCst),
+            "as the test has it"
+        );
+    });
+    let session = options.open(server.address).unwrap();
+    let lock = exclusive(&session);
+    panics.store(true, Ordering::SeqCst);
+    let read = session.ask(Request::get("/locks/a"));
+    block_on(lock.lost());
+    assert!(!lock.is_held());
+    assert_eq!(kind_of(lock.release()), Fault::Panicked.into());
+    assert!(read.wait_for(PATIENCE).is_ok(), "the answer had come");
+}
+
+/// Of two that expire together the one that waits contends on by itself, and the one that held has no place any more.
+#[test]
+fn a_session_that_is_renewed_contends_anew() {
+    let Some(mut server) = started() else { return };
+    let (first, second) = (renewing(&server), renewing(&server));
+    let lock = exclusive(&first);
+    thread::scope(|scope| {
+        let waits = scope.spawn(|| exclusive(&second));
+        wait_until("it waits", || places(&first) == 2);
+        server.tell("expire");
+        let next = waits.join().unwrap();
+        assert!(next.token() > lock.token() && !lock.is_held());
+        wait_until("the other one has no place", || places(&second) == 1);
+        assert_eq!((lock.release(), next.is_held()), (Ok(()), true));
+    });
+}
+
+/// A holder whose place somebody deletes is told, and does not contend on: nobody would hear that it holds again.
+#[test]
+fn a_lock_whose_place_is_taken_away_is_lost() {
+    let Some(server) = started() else { return };
+    let (first, second) = (session_at(&server), session_at(&server));
+    let lock = exclusive(&first);
+    second.delete(lock.place(), ANY_VERSION).unwrap();
+    block_on(lock.lost());
+    assert!(!lock.is_held());
+    wait_until("no place is left", || places(&second) == 0);
+    exclusive(&second).release().unwrap();
+    lock.release().unwrap();
+}
+
+#[test]
+fn a_lock_is_awaited() {
+    let Some(server) = started() else { return };
+    let (first, second) = (session_at(&server), session_at(&server));
+    let contends = |session| LockOptions::new().contend(session, "/locks/a").unwrap();
+    let lock = block_on(contends(&first)).unwrap();
+    drop(contends(&second)); // it gives up
+    let next = contends(&second);
+    wait_until("it waits", || places(&first) == 2);
+    let token = lock.token();
+    lock.release().unwrap();
+    assert!(block_on(next).unwrap().token() > token);
+    let none = LockOptions::new().contend(&first, "locks").map(drop);
+    assert_eq!(
+        none.unwrap_err().to_string(),
+        "locks is no path: no slash at its beginning"
+    );
+}
+
+#[test]
+fn a_place_that_is_taken_away_is_made_anew() {
     let Some(server) = started() else { return };
     let (first, second) = (session_at(&server), session_at(&server));
     let lock = exclusive(&first);
     let held = first.children("/locks/a").unwrap().0;
     let before = format!("/locks/a/{}", held[0]);
     thread::scope(|scope| {
-        let waits =
-            scope.spawn(|| Lock::acquire(&second, "/locks/a", Sharing::Exclusive, b"").map(drop));
+        let waits = scope.spawn(|| exclusive(&second).release());
         while second.data_mark(&before) != Ok(Some(Mark::Good)) {
             thread::sleep(Duration::from_millis(5));
         }
-        let mut places = first.children("/locks/a").unwrap().0;
-        places.sort_by_key(|name| name[name.len() - 10..].to_owned());
+        let mut names = first.children("/locks/a").unwrap().0;
+        names.sort_by_key(|name| name[name.len() - 10..].to_owned());
         first
-            .delete(&format!("/locks/a/{}", places[1]), ANY_VERSION)
+            .delete(&format!("/locks/a/{}", names[1]), ANY_VERSION)
             .unwrap();
+        wait_until("it has another place", || places(&first) == 2);
         lock.release().unwrap();
-        let told = waits.join().unwrap();
-        assert_eq!(kind_of(told), Code::NO_NODE.into());
+        assert_eq!(waits.join().unwrap(), Ok(()));
     });
 }
 
@@ -141,7 +248,7 @@ fn one_leads_at_a_time() {
         Election::new(&second, "/leader"),
     );
     assert_eq!(one.leader(), Ok(None));
-    let office = one.lead(b"one").unwrap();
+    let office = block_on(one.contend(b"one").unwrap()).unwrap();
     thread::scope(|scope| {
         let waits = scope.spawn(|| other.lead(b"other"));
         while one.candidates().unwrap().len() < 2 {
@@ -170,65 +277,62 @@ fn a_node_that_is_no_place_counts_for_nothing() {
     let session = session_at(&server);
     session.create("/locks", b"", Mode::Persistent).unwrap();
     session.create("/locks/a", b"", Mode::Persistent).unwrap();
-    for name in ["note-", "lock-", "x"] {
+    for name in ["note-", "locks-", "x"] {
         let path = format!("/locks/a/{name}");
         let made = session.create(&path, b"", Mode::PersistentSequential);
         made.unwrap();
     }
-    for names in [LockNames::Kazoo, LockNames::Curator] {
+    for names in [LockNames::Kazoo, LockNames::Curator, LockNames::Latch] {
         let options = LockOptions::new().names(names).within(PATIENCE);
         let lock = options.acquire(&session, "/locks/a").unwrap();
         lock.release().unwrap();
     }
 }
 
-#[test]
-fn a_place_of_the_other_names_is_told() {
-    let Some(server) = started() else { return };
-    let (first, second) = (session_at(&server), session_at(&server));
-    for (names, other) in [
-        (LockNames::Kazoo, LockNames::Curator),
-        (LockNames::Curator, LockNames::Kazoo),
-    ] {
-        for sharing in [Sharing::Exclusive, Sharing::Writing, Sharing::Shared] {
-            let held = LockOptions::new().names(names).sharing(sharing);
-            let held = held.acquire(&first, "/locks/a").unwrap();
-            let place = first.children("/locks/a").unwrap().0.remove(0);
-            let mixed = LockOptions::new().names(other);
-            let mixed = mixed.acquire(&second, "/locks/a").map(drop).unwrap_err();
-            let told = mixed.to_string();
-            assert!(told.contains("/locks/a") && told.contains(&place), "{told}");
-            let names = other;
-            let kind = ErrorKind::MixedNames { names, place };
-            assert_eq!(mixed.into_kind(), kind);
-            assert_eq!(held.check(), Ok(true));
-            while first.children("/locks/a").unwrap().0.len() > 1 {
-                thread::sleep(Duration::from_millis(5));
-            }
-            held.release().unwrap();
-        }
-    }
+const MIXED: &str = "contenders by another kind of names are there: /locks/a; \
+                     use one kind of names for all contenders";
+
+/// Each kind of contender by each kind of names.
+fn contenders() -> impl Iterator<Item = (LockNames, Sharing)> {
+    let names = [LockNames::Kazoo, LockNames::Curator, LockNames::Latch];
+    let kinds = [Sharing::Exclusive, Sharing::Writing, Sharing::Shared];
+    let all = names.into_iter();
+    all.flat_map(move |names| kinds.map(|sharing| (names, sharing)))
 }
 
+/// A latch is never shared, and who has other names gives up.
 #[test]
-fn those_of_one_path_and_names_never_hold_together() {
+fn those_of_one_path_never_hold_together() {
     let Some(server) = started() else { return };
     let (first, second) = (session_at(&server), session_at(&server));
-    let kinds = [Sharing::Exclusive, Sharing::Writing, Sharing::Shared];
-    for names in [LockNames::Kazoo, LockNames::Curator] {
-        for (one, other) in kinds
-            .iter()
-            .flat_map(|one| kinds.map(|other| (*one, other)))
-        {
-            let is_shared = one == Sharing::Shared && other == Sharing::Shared;
-            let options = LockOptions::new().names(names).within(PATIENCE);
-            let held = options.sharing(one).acquire(&first, "/locks/a").unwrap();
-            let bound = if is_shared { PATIENCE } else { A_WHILE };
-            let next = options.sharing(other).within(bound);
-            let next = next.acquire(&second, "/locks/a");
-            assert_eq!(next.is_ok(), is_shared, "{names:?} {one:?} {other:?}");
-            next.map(|lock| lock.release().unwrap()).ok();
-            held.release().unwrap();
-        }
+    let can_share = |(names, sharing)| names != LockNames::Latch && sharing == Sharing::Shared;
+    for (one, other) in contenders().flat_map(|one| contenders().map(move |other| (one, other))) {
+        let is_shared = can_share(one) && can_share(other);
+        let is_mixed = one.0 != other.0;
+        let [held, next] = [one, other].map(|(names, sharing)| {
+            let options = LockOptions::new().names(names).sharing(sharing);
+            options.within(PATIENCE)
+        });
+        let held = held.acquire(&first, "/locks/a").unwrap();
+        thread::scope(|scope| {
+            let next = scope.spawn(|| next.acquire(&second, "/locks/a"));
+            if is_mixed {
+                let mixed = next.join().unwrap().map(drop).unwrap_err();
+                assert_eq!(mixed.to_string(), MIXED);
+                wait_until("it leaves no place", || places(&first) == 1);
+                held.release().unwrap();
+            } else if is_shared {
+                next.join().unwrap().unwrap().release().unwrap();
+                held.release().unwrap();
+            } else {
+                wait_until("it waits", || places(&first) == 2);
+                assert!(!next.is_finished(), "{one:?} {other:?}");
+                let token = held.token();
+                held.release().unwrap();
+                let next = next.join().unwrap().unwrap();
+                assert!(next.token() > token);
+                next.release().unwrap();
+            }
+        });
     }
 }

@@ -1,10 +1,10 @@
 //! Paths, counters, queues, barriers and semaphores, at the server in memory. Where there is no python3, each test says so and passes.
 
+use crate::runtime::block_on;
 use crate::server::Server;
 use crate::{kind_of, renewing, started, wait_until, PATIENCE, TIMEOUT};
 use dirwolleu::{
-    Barrier, Code, Counter, ErrorKind, LocalSession, LockNames, Mode, Queue, Semaphore, Session,
-    ANY_VERSION,
+    Barrier, Code, Counter, ErrorKind, LocalSession, Mode, Queue, Semaphore, Session, ANY_VERSION,
 };
 use std::sync::Mutex;
 use std::thread::{scope, sleep};
@@ -215,14 +215,16 @@ fn so_many_hold_a_semaphore_as_it_says() {
         Some(ErrorKind::LockTimeout)
     );
     wait_until("no place of it is left", || {
-        session.children("/s/two-__lock__").unwrap().0.is_empty()
+        session.children("/s/two").unwrap().0.len() == 2
     });
     scope(|scope| {
         let third = scope.spawn(|| same.acquire_within(b"three", PATIENCE));
-        sleep(Duration::from_millis(20));
+        wait_until("it waits", || {
+            session.children("/s/two").unwrap().0.len() == 3
+        });
         assert!(!third.is_finished());
         assert_eq!(first.release(), Ok(()));
-        assert_eq!(third.join().unwrap().unwrap().check(), Ok(true));
+        assert!(third.join().unwrap().unwrap().check(PATIENCE));
     });
     let other_number = Semaphore::new(&session, "/s/two", 3).acquire(b"");
     assert_eq!(
@@ -230,21 +232,18 @@ fn so_many_hold_a_semaphore_as_it_says() {
         "the node says that it has 2 leases: /s/two; take the same number everywhere"
     );
     server.tell("expire");
-    wait_until("the lease is gone", || second.check() == Ok(false));
-    let again = same.acquire(b"two").unwrap();
-    drop(again);
+    block_on(second.lost());
+    assert!(!second.is_held() && !second.check(PATIENCE));
+    drop(block_on(same.contend(b"two").unwrap()).unwrap());
     wait_until("no lease is left", || {
         session.children("/s/two").unwrap().0.is_empty()
     });
     server.tell("create /s/two/leases -");
-    let mixed = semaphore.acquire(b"").unwrap_err();
-    assert!(matches!(
-        mixed.kind(),
-        ErrorKind::MixedNames {
-            names: LockNames::Kazoo,
-            ..
-        }
-    ));
+    server.tell("create /s/kazoo 2");
+    let kazoos = Semaphore::new(&session, "/s/kazoo", 2);
+    for mixed in [semaphore, kazoos] {
+        assert_eq!(kind_of(mixed.acquire(b"")), ErrorKind::MixedNames);
+    }
 }
 
 #[test]
@@ -258,11 +257,9 @@ fn no_lease_is_left_wherever_connections_end() {
         assert!(other.children("/s/one").unwrap().0.len() == 1, "{place}");
         assert_eq!(lease.release(), Ok(()));
         spare(&session, &mut server);
-        for path in ["/s/one", "/s/one-__lock__"] {
-            wait_until("nothing is left", || {
-                other.children(path).unwrap().0.is_empty()
-            });
-        }
+        wait_until("nothing is left", || {
+            other.children("/s/one").unwrap().0.is_empty()
+        });
     }
     assert_eq!(
         kind_of(session.delete("/s", ANY_VERSION)),

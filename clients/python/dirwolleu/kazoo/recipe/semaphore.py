@@ -107,7 +107,7 @@ class Semaphore:
             except NodeExistsError:
                 pass
         number = (data or b"").decode("utf-8", "replace")
-        if number.isdecimal() and int(number) != self.max_leases:
+        if number.removeprefix("-").isdecimal() and int(number) != self.max_leases:  # those of `dirwolleu.Semaphore` are below 0
             raise ValueError(f"{self.path} has {number} leases at most, and not {self.max_leases}")
 
     def _has_lease(self) -> bool:
