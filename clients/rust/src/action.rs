@@ -56,9 +56,10 @@ impl<'a> Actions<'a> {
     /// [`Fault::UnknownNumber`] alone, where the library is of another version than this crate.
     #[allow(clippy::should_implement_trait)] // an iterator can't lend
     pub fn next(&mut self) -> Result<Option<Action<'_>>, Fault> {
-        let Some(flat) = self.machine.handle.next()? else {
+        let mut flat = ffi::Output::default();
+        if !self.machine.handle.next(&mut flat)? {
             return Ok(None);
-        };
+        }
         Ok(Some(Action::of(&self.machine.handle, &flat)?))
     }
 

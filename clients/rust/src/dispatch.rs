@@ -60,13 +60,14 @@ pub(crate) struct Dispatcher {
     /// Frames for the server.
     pub(crate) frames: Vec<u8>,
     /// The answers to calls, by their tickets.
-    pub(crate) answers: Vec<(u64, Outcome)>,
-    /// The update of the session since the engine took the last one.
-    pub(crate) update: SessionUpdate,
+    pub(crate) answers: VecDeque<(u64, Outcome)>,
+    /// The update of the session since the engine took the last one, if there is one: most steps answer calls and send frames alone.
+    pub(crate) update: Option<Box<SessionUpdate>>,
     state: Option<State>,
     chroot: Chroot,
     events: VecDeque<Event>,
     missed: u64,
+    is_news: bool,
 }
 
 /// What one step of a machine changes in its session, and asks for.
@@ -146,10 +147,10 @@ impl Dispatcher {
             Action::Report { path, side, event } => self.report(path, side, event),
             Action::State(state) => self.change_state(state),
             Action::Drop(given_up) => {
-                self.update.cause = Some(ConnectionEnd::of(&given_up.cause));
+                self.update().cause = Some(ConnectionEnd::of(&given_up.cause));
                 self.push_event(dropped(&given_up));
             }
-            Action::Dial { place, within } => self.update.dial = Some((place, within)),
+            Action::Dial { place, within } => self.update().dial = Some((place, within)),
             Action::HangUp => self.hang_up(),
             Action::Renewed => {}
             Action::Shown { ticket } => self.update_subject(ticket, SubjectUpdate::Good),
@@ -178,12 +179,24 @@ impl Dispatcher {
                 self.update_contender(ticket, ContenderUpdate::Pauses(reason));
             }
             Action::GivenUp { ticket } => self.update_contender(ticket, ContenderUpdate::GivenUp),
-            Action::Credential { place, code } => self.update.credentials.push((place, code)),
+            Action::Credential { place, code } => self.update().credentials.push((place, code)),
+        }
+    }
+
+    /// The update of the session at this step.
+    pub(crate) fn update(&mut self) -> &mut SessionUpdate {
+        self.update.get_or_insert_with(Box::default)
+    }
+
+    /// At this step the machine leaves no server for a missing answer.
+    pub(crate) fn lacks_no_answer(&mut self) {
+        if let Some(update) = &mut self.update {
+            update.is_left = false;
         }
     }
 
     fn answer(&mut self, ticket: u64, outcome: Outcome) {
-        self.answers.push((ticket, outcome));
+        self.answers.push_back((ticket, outcome));
     }
 
     /// Why a call ends whose limit has come.
@@ -197,35 +210,36 @@ impl Dispatcher {
 
     /// The connection is to be closed. Frames that were not yet written are dropped.
     fn hang_up(&mut self) {
-        self.update.is_left = self.state == Some(State::Connected);
+        let is_left = self.state == Some(State::Connected);
         self.frames.clear();
-        self.update.dial = None;
-        self.update.hangs_up = true;
+        let update = self.update();
+        (update.is_left, update.hangs_up, update.dial) = (is_left, true, None);
     }
 
     fn report(&mut self, path: Text<'_>, side: Side, event: NodeEvent) {
         let outer = String::from(path);
-        self.update.reported.push(outer.clone());
+        self.update().reported.push(outer.clone());
         let path = self.chroot.inner(outer);
         self.push_event(Event::Report { path, side, event });
     }
 
     fn update_subject(&mut self, ticket: u64, update: SubjectUpdate) {
-        self.update.shown.push((ticket, update));
+        self.update().shown.push((ticket, update));
     }
 
     fn update_tree(&mut self, tree: u64, update: TreeUpdate) {
-        self.update.trees.push((tree, update));
+        self.update().trees.push((tree, update));
     }
 
     fn update_contender(&mut self, ticket: u64, update: ContenderUpdate) {
-        self.update.contenders.push((ticket, update));
+        self.update().contenders.push((ticket, update));
     }
 
     fn change_state(&mut self, state: State) {
         self.state = Some(state);
-        self.update.state = Some(state);
-        self.update.is_expired |= state == State::Expired;
+        let update = self.update();
+        update.state = Some(state);
+        update.is_expired |= state == State::Expired;
         self.push_event(Event::State(state));
     }
 
@@ -236,11 +250,12 @@ impl Dispatcher {
             self.missed += 1;
         }
         self.events.push_back(event);
+        self.is_news = true;
     }
 
-    /// Whether an event waits for the caller.
-    pub(crate) fn has_event(&self) -> bool {
-        self.missed > 0 || !self.events.is_empty()
+    /// Whether an event came since the last call of this.
+    pub(crate) fn takes_news(&mut self) -> bool {
+        mem::take(&mut self.is_news)
     }
 
     /// The next event for the caller.

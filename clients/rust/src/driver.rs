@@ -85,7 +85,10 @@ impl Driver {
             Plan::Tick => self.shared.with(Engine::tick),
             Plan::Dial => self.dial(),
             Plan::Listen(until) => self.listen(until),
-            Plan::HandIn => self.shared.with(|engine| engine.hand_in(&[])),
+            Plan::HandIn => {
+                let now = self.shared.clock().now();
+                self.shared.with(|engine| engine.hand_in(now, &[]))
+            }
         }
     }
 
@@ -154,8 +157,8 @@ impl Driver {
     }
 
     /// Catches up if something is due already.
-    pub(crate) fn catch_up_if_late(&mut self) -> Result<(), Fault> {
-        if self.shared.look(Engine::is_late) {
+    pub(crate) fn catch_up_if_late(&mut self, now: Moment) -> Result<(), Fault> {
+        if self.shared.look(|engine| engine.is_late(now)) {
             self.catch_up()?;
         }
         Ok(())
@@ -167,13 +170,13 @@ impl Driver {
             return Ok(Received::End);
         };
         let read = incoming.read(&mut self.room, wait);
-        let room = &self.room;
+        let (room, now) = (&self.room, self.shared.clock().now());
         self.shared.with(|engine| {
-            let is_late = engine.is_late();
+            let is_late = engine.is_late(now);
             match read {
                 _ if !engine.is_open() => Ok(Received::End),
                 Ok(count @ 1..) => {
-                    engine.hand_in(&room[..count])?;
+                    engine.hand_in(now, &room[..count])?;
                     Ok(Received::Bytes { is_late })
                 }
                 Err(fault) if connection::is_late(&fault) => Ok(Received::Nothing),

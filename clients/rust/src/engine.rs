@@ -25,13 +25,13 @@ use crate::pending::PendingCalls;
 use crate::recording::Recorder;
 use crate::saved::SavedSession;
 use crate::stats::{ConnectionEnd, Observation, Stats, Tally};
-use crate::ticket::{CallResult, Slot};
+use crate::ticket::Slot;
 use crate::tree_view::{FollowedTree, TreeCopy};
 use std::collections::BTreeMap;
 use std::mem;
 use std::net::SocketAddr;
 use std::sync::Arc;
-use std::time::Duration;
+use std::time::{Duration, Instant};
 
 /// How long the admission of a session is waited for at a time: a call that was asked meanwhile may have a limit.
 const LOOK_ROUND: Duration = Duration::from_millis(250);
@@ -133,8 +133,8 @@ pub(crate) struct Engine {
     /// The host that was dialled last.
     server: Option<Host>,
     outbox: Option<Arc<Outbox>>,
-    /// Those that have frames to write, or have ended: written without the lock.
-    outboxes: Vec<Arc<Outbox>>,
+    /// The one that has frames to write, or has ended: written without the lock.
+    to_write: Option<Arc<Outbox>>,
     /// The server of the last connection.
     address: Option<SocketAddr>,
     /// Why no server was found since the last accepted session: the last reason of each address.
@@ -178,7 +178,7 @@ impl Engine {
             dialling: None,
             server: None,
             outbox: None,
-            outboxes: Vec::new(),
+            to_write: None,
             address: None,
             reasons: Vec::new(),
             inbox: Vec::new(),
@@ -283,7 +283,7 @@ impl Engine {
         let taken = actions.and_then(|actions| self.dispatcher.dispatch(actions));
         self.note_deadline();
         // A session that moves leaves no server for a missing answer.
-        self.dispatcher.update.is_left = false;
+        self.dispatcher.lacks_no_answer();
         self.settle(now, taken)
     }
 
@@ -358,7 +358,7 @@ impl Engine {
 
     /// Whether nothing more happens before it is renewed.
     pub(crate) fn is_over(&self) -> bool {
-        self.phase != Phase::Running
+        !matches!(self.phase, Phase::Running)
     }
 
     /// Whether a server has accepted the session, so that calls are sent.
@@ -421,24 +421,31 @@ impl Engine {
         self.dispatcher.next_event()
     }
 
-    /// Whether those that wait for events or updates have something to look at.
-    pub(crate) fn has_event(&mut self) -> bool {
+    /// Whether those that wait for events or updates have something new to look at.
+    pub(crate) fn takes_news(&mut self) -> bool {
         let is_news = self.takes_tree_news() | self.subjects.takes_updates();
         let is_news = self.contenders.takes_news() | is_news;
-        is_news || self.dispatcher.has_event() || self.is_over()
+        self.dispatcher.takes_news() | is_news | self.is_over()
     }
 
-    /// The answers that are to be handed out.
-    pub(crate) fn take_answers(&mut self) -> Vec<(Arc<Slot>, CallResult)> {
-        let answers = self.calls.take_answers();
-        for (slot, ending) in &answers {
-            let (kind, outcome, took) = slot.came(ending);
+    /// The calls whose answers are to be told, without the lock.
+    pub(crate) fn take_answered(&mut self) -> Vec<Arc<Slot>> {
+        let answered = self.calls.take_answered();
+        if !answered.is_empty() {
+            self.count(&answered, Instant::now());
+        }
+        answered
+    }
+
+    /// Counts calls that have ended by now.
+    fn count(&mut self, answered: &[Arc<Slot>], now: Instant) {
+        for slot in answered {
+            let (kind, outcome, took) = slot.came(now);
             self.tally.stats.note_answer(kind, outcome, took);
             if self.tally.is_observed {
-                self.tally.tell(slot.observed(ending));
+                self.tally.tell(slot.observed(now));
             }
         }
-        answers
     }
 
     /// The observations for the observer.
@@ -483,8 +490,8 @@ impl Engine {
     }
 
     /// Whether something is due on the connection already.
-    pub(crate) fn is_late(&self) -> bool {
-        self.outbox.is_some() && self.due() <= self.clock.now()
+    pub(crate) fn is_late(&self, now: Moment) -> bool {
+        self.outbox.is_some() && self.due() <= now
     }
 
     /// Whether there is a connection.
@@ -498,9 +505,9 @@ impl Engine {
         (outbox.waiting() > 0).then(|| Arc::clone(outbox))
     }
 
-    /// The connections that are to be written to, or to be closed.
-    pub(crate) fn take_outboxes(&mut self) -> Vec<Arc<Outbox>> {
-        mem::take(&mut self.outboxes)
+    /// The connection that is to be written to, or to be closed.
+    pub(crate) fn take_to_write(&mut self) -> Option<Arc<Outbox>> {
+        self.to_write.take()
     }
 
     /// Notes how the last attempt to find a server ended, for the errors of calls that wait for one: the last reason of each address.
@@ -582,7 +589,8 @@ impl Engine {
 #[cfg(test)]
 mod tests {
     use super::{
-        DialOrder, Engine, EngineOptions, ErrorKind, Fault, Hosts, NoReply, Plan, Slot, NEVER,
+        DialOrder, Engine, EngineOptions, Error, ErrorKind, Fault, Hosts, NoReply, Plan, Slot,
+        NEVER,
     };
     use crate::action::Refusal;
     use crate::connection::Outgoing;
@@ -592,7 +600,6 @@ mod tests {
     use crate::machine::State;
     use crate::node::ANY_VERSION;
     use crate::request::Request;
-    use crate::stats::CallKind;
     use std::io;
     use std::net::SocketAddr;
     use std::sync::Arc;
@@ -657,10 +664,23 @@ mod tests {
         open(engine);
     }
 
+    fn ask<T>(engine: &mut Engine, request: Request<T>) -> Arc<Slot> {
+        let slot = Slot::new(request.path, &request.call);
+        let now = engine.clock.at(slot.asked_at());
+        engine.ask(now, request.call, request.limit, &slot);
+        slot
+    }
+
+    /// Why a call has failed.
+    fn fault_of(engine: &mut Engine, slot: &Slot) -> Error {
+        engine.take_answered().iter().for_each(|slot| slot.tell());
+        slot.take().unwrap().unwrap_err()
+    }
+
     pub(super) fn connected() -> Engine {
         let mut engine = engine();
         connect(&mut engine);
-        engine.hand_in(&accepted()).unwrap();
+        engine.hand_in(engine.clock.now(), &accepted()).unwrap();
         assert_eq!(engine.state(Duration::ZERO), Some(State::Connected));
         engine
     }
@@ -673,27 +693,20 @@ mod tests {
         assert_eq!(settled, Err(fault.clone()));
         assert!(engine.is_over());
         assert_eq!(engine.halt(), Err(fault.clone()));
-        engine.ask(
-            Request::get("/a").asked,
-            Slot::new(Some("/a"), CallKind::Get),
-        );
-        let (_, ending) = engine.take_answers().remove(0);
-        assert_eq!(ending.unwrap_err().kind(), &fault.into());
+        let slot = ask(&mut engine, Request::get("/a"));
+        assert_eq!(fault_of(&mut engine, &slot).kind(), &fault.into());
     }
 
     #[test]
     fn a_session_that_has_halted_goes_on_where_it_is_renewed() {
         let mut engine = connected();
-        let slot = Slot::new(Some("/a"), CallKind::Get);
-        engine.ask(Request::get("/a").asked, Arc::clone(&slot));
+        let slot = ask(&mut engine, Request::get("/a"));
         let settled = engine.settle(NEVER, Err(Fault::Halted));
         assert_eq!(settled, Err(Fault::Halted));
         assert_eq!(engine.plan(NEVER), Plan::Rest(NEVER));
-        let (_, ending) = engine.take_answers().remove(0);
-        assert!(ending.unwrap_err().may_have_happened());
-        engine.ask(Request::get("/a").asked, slot);
-        let (_, ending) = engine.take_answers().remove(0);
-        assert_eq!(ending.unwrap_err().kind(), &Fault::Halted.into());
+        assert!(fault_of(&mut engine, &slot).may_have_happened());
+        let slot = ask(&mut engine, Request::get("/a"));
+        assert_eq!(fault_of(&mut engine, &slot).kind(), &Fault::Halted.into());
         engine.renew().unwrap();
         let saved = engine.machine().saved().unwrap();
         assert_eq!((saved.id(), engine.is_over()), (Some(7), false));
@@ -717,9 +730,9 @@ mod tests {
         let (tree, ticket) = (*engine.trees.keys().next().unwrap(), 1 << 63 | 1);
         let refused = SubjectUpdate::Refused(Refusal::TooManyWatches);
         let path = String::from("/t/a");
-        engine.dispatcher.update.shown.push((ticket, refused));
+        engine.dispatcher.update().shown.push((ticket, refused));
         let taken_on = TreeUpdate::MemberAdded { ticket, path };
-        engine.dispatcher.update.trees.push((tree, taken_on));
+        engine.dispatcher.update().trees.push((tree, taken_on));
         engine.settle(NEVER, Ok(())).unwrap();
         let trouble = shown.trouble().unwrap();
         let kind = ErrorKind::from(Refusal::TooManyWatches);
@@ -732,7 +745,7 @@ mod tests {
         connect(&mut engine);
         engine.inbox = accepted();
         assert_eq!(engine.plan(NEVER), Plan::HandIn);
-        engine.hand_in(&[]).unwrap();
+        engine.hand_in(engine.clock.now(), &[]).unwrap();
         assert_eq!(engine.state(Duration::ZERO), Some(State::Connected));
         assert!(matches!(engine.plan(NEVER), Plan::Listen(_)));
     }
@@ -740,8 +753,7 @@ mod tests {
     #[test]
     fn why_a_connection_is_left_is_told() {
         let mut engine = connected();
-        let asked = Request::set_acls("/", &[], ANY_VERSION).asked;
-        engine.ask(asked, Slot::new(Some("/"), CallKind::Close));
+        let slot = ask(&mut engine, Request::set_acls("/", &[], ANY_VERSION));
         let begun = engine.clock.now();
         let after = |millis| begun.saturating_add(Duration::from_millis(millis));
         let mut notice = Writer::default();
@@ -751,18 +763,15 @@ mod tests {
         let frame = frame.into_bytes();
         let heard = engine.step(after(1_500), |machine, now| machine.bytes(now, &frame));
         heard.unwrap();
-        assert!(engine.is_open() && engine.take_answers().is_empty());
+        assert!(engine.is_open() && engine.take_answered().is_empty());
         engine.tick_at(after(2_100)).unwrap();
         assert!(!engine.is_open());
-        let (_, ending) = engine.take_answers().remove(0);
         let lost = ErrorKind::NoReply(NoReply::ConnectionLoss);
-        assert_eq!(ending.unwrap_err().kind(), &lost);
-        let late = Request::get("/a").within(Duration::ZERO);
-        engine.ask(late.asked, Slot::new(Some("/a"), CallKind::Get));
+        assert_eq!(fault_of(&mut engine, &slot).kind(), &lost);
+        let slot = ask(&mut engine, Request::get("/a").within(Duration::ZERO));
         sleep(Duration::from_millis(2));
         engine.tick().unwrap();
-        let (_, ending) = engine.take_answers().remove(0);
-        let told = ending.unwrap_err().to_string();
+        let told = fault_of(&mut engine, &slot).to_string();
         let seconds = told
             .strip_prefix("no server of 127.0.0.1:1 accepted the session in ")
             .and_then(|rest| rest.strip_suffix(" s; last: 127.0.0.1:1: an answer did not come"));

@@ -234,6 +234,9 @@ pub(crate) fn done_at(path: &str, code: i32) -> Result<(), Fault> {
 
 /// The same where there is no path.
 pub(crate) fn done(code: i32) -> Result<(), Fault> {
+    if code == result::OK {
+        return Ok(());
+    }
     done_at("", code)
 }
 

@@ -302,15 +302,14 @@ impl Handle {
         done(unsafe { dw_session_close(self.pointer(), now, call.ticket, until) })
     }
 
-    /// The next output of the last step, and none where all were told.
-    pub(crate) fn next(&mut self) -> Result<Option<Output>, Fault> {
-        let mut output = Output::default();
+    /// Writes the next output of the last step there, and tells whether there was one: none where all were told.
+    pub(crate) fn next(&mut self, output: &mut Output) -> Result<bool, Fault> {
         // SAFETY: as `Handle` says.
-        let code = unsafe { dw_session_next(self.pointer(), &mut output) };
+        let code = unsafe { dw_session_next(self.pointer(), output) };
         if code == result::NONE {
-            return Ok(None);
+            return Ok(false);
         }
-        done(code).map(|()| Some(output))
+        done(code).map(|()| true)
     }
 
     /// Copies the text of the output that was told last, and tells how many bytes there are from that place on.

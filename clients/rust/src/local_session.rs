@@ -17,9 +17,10 @@ use crate::request::Request;
 use crate::retry::{Retry, Tries};
 use crate::saved::SavedSession;
 use crate::session_methods::{calls, look_ups, watch, Caller};
-use crate::shared::{ask, Shared};
+use crate::shared::Shared;
 use crate::snapshot::Snapshot;
 use crate::stats::Stats;
+use crate::ticket::Slot;
 use crate::tree::{LocalTree, MOST_NODES};
 use crate::tree_snapshot::TreeSnapshot;
 use crate::view::View;
@@ -121,25 +122,29 @@ impl LocalSession {
     ///
     /// As [`Session::call`](crate::Session::call).
     pub fn call<T>(&mut self, mut request: Request<T>) -> Result<T, Error> {
-        let tries = Tries::of(self.renews, request.asked.limit.or(self.limit));
+        let tries = Tries::of(self.retry, self.renews, request.limit.or(self.limit));
         for pause in self.retry.pauses() {
-            request.asked.limit = tries.left();
             match self.call_once(request.clone()) {
                 Err(error) if tries.goes_on(&request, &error, pause) => self.pass(pause)?,
                 answer => return answer,
             }
+            request.limit = tries.left();
         }
-        request.asked.limit = tries.left();
         self.call_once(request)
     }
 
     fn call_once<T>(&mut self, request: Request<T>) -> Result<T, Error> {
-        self.driver.catch_up_if_late()?;
-        let ticket = ask(self.driver.shared(), request);
-        while !ticket.is_answered() {
+        let slot = Slot::new(request.path, &request.call);
+        let now = self.inner().clock().at(slot.asked_at());
+        self.driver.catch_up_if_late(now)?;
+        self.inner()
+            .with(|engine| engine.ask(now, request.call, request.limit, &slot));
+        loop {
+            if let Some(ending) = slot.take() {
+                return (request.read)(ending);
+            }
             self.driver.turn(NEVER)?;
         }
-        ticket.wait()
     }
 }
 
@@ -230,8 +235,8 @@ impl LocalSession {
         tree: &mut LocalTree,
         until: Option<Instant>,
     ) -> Result<Option<TreeSnapshot>, Error> {
-        self.driver.catch_up_if_late()?;
         let clock = self.inner().clock();
+        self.driver.catch_up_if_late(clock.now())?;
         let until = until.map_or(NEVER, |until| clock.moment_of(until));
         let mut is_past = false;
         loop {

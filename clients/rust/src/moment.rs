@@ -80,7 +80,12 @@ impl Clock {
 
     /// The moment that it is. A part of a millisecond is not counted.
     pub fn now(&self) -> Moment {
-        Moment(millis(self.beginning.elapsed()))
+        self.at(Instant::now())
+    }
+
+    /// The moment that it is at an instant. A part of a millisecond is not counted.
+    pub(crate) fn at(&self, instant: Instant) -> Moment {
+        Moment(millis(instant.saturating_duration_since(self.beginning)))
     }
 
     /// The first moment that is not before an instant.

@@ -46,6 +46,13 @@ struct Held {
     is_over: bool,
 }
 
+impl Held {
+    /// Whether nothing is to be written, nor to be closed.
+    fn is_done(&self) -> bool {
+        self.left == 0 && self.frames.is_empty() && !self.is_over
+    }
+}
+
 /// Which thread writes.
 #[derive(Clone, Copy, Debug, PartialEq, Eq)]
 pub(crate) enum Writer {
@@ -97,9 +104,14 @@ impl Outbox {
         self.held.lock().unwrap_or_else(PoisonError::into_inner)
     }
 
-    /// These frames are to be written.
-    pub(crate) fn put(&self, frames: &[u8]) {
-        self.held().frames.extend(frames);
+    /// These frames are to be written, after those that wait. They are copied only where some do.
+    pub(crate) fn put(&self, frames: &mut Vec<u8>) {
+        let mut held = self.held();
+        if held.frames.is_empty() {
+            mem::swap(&mut held.frames, frames);
+        } else {
+            held.frames.append(frames);
+        }
     }
 
     /// How many bytes wait.
@@ -120,16 +132,9 @@ impl Outbox {
                 return Written::All;
             };
             let done = line.write(wait);
-            let is_full = done.is_err() || line.left() > 0 || piece == MOST_PIECES;
-            let wants_helper = self.put_back(line, writer, is_full);
-            match done {
-                Err(fault) if !is_late(&fault) => {
-                    self.is_unhelped();
-                    return Written::Failed;
-                }
-                _ if wants_helper => return Written::WantsHelper,
-                _ if is_full => return Written::Some,
-                _ => {}
+            let written = self.put_back(line, writer, done, piece == MOST_PIECES);
+            if let Some(written) = written {
+                return written;
             }
         }
         Written::Some
@@ -141,7 +146,7 @@ impl Outbox {
         if held.is_helped && writer != Writer::Helper {
             return None;
         }
-        if held.left + held.frames.len() == 0 && !held.is_over {
+        if held.is_done() {
             held.is_helped = false;
             return None;
         }
@@ -160,14 +165,32 @@ impl Outbox {
         Some(line)
     }
 
-    /// Another thread may write. Whether a helper is to begin, since there was no room.
-    fn put_back(&self, line: Line, writer: Writer, is_full: bool) -> bool {
+    /// Another thread may write. How the writes have ended, unless this thread writes on.
+    fn put_back(
+        &self,
+        line: Line,
+        writer: Writer,
+        done: io::Result<()>,
+        is_last: bool,
+    ) -> Option<Written> {
         let mut held = self.held();
         held.left = line.left();
         held.line = Some(line);
-        let begins = is_full && writer == Writer::Passing;
-        held.is_helped |= begins;
-        begins
+        let is_full = done.is_err() || held.left > 0 || is_last;
+        let has_failed = done.is_err_and(|fault| !is_late(&fault));
+        let written = match writer {
+            _ if has_failed => Written::Failed,
+            _ if !is_full && !held.is_done() => return None,
+            _ if !is_full => Written::All,
+            Writer::Passing => Written::WantsHelper,
+            Writer::Alone | Writer::Helper => Written::Some,
+        };
+        match written {
+            Written::All | Written::Failed => held.is_helped = false,
+            Written::WantsHelper => held.is_helped = true,
+            Written::Some => {}
+        }
+        Some(written)
     }
 
     /// No helper writes any more.
@@ -226,15 +249,15 @@ mod tests {
     #[test]
     fn a_helper_writes_what_there_was_no_room_for() {
         let (outbox, seen) = scripted(&[Ok(2), Err(ErrorKind::WouldBlock), Ok(1)]);
-        outbox.put(b"first");
+        outbox.put(&mut b"first".to_vec());
         assert_eq!(write(&outbox, Writer::Passing), Written::WantsHelper);
-        outbox.put(b" second");
+        outbox.put(&mut b" second".to_vec());
         assert_eq!(outbox.waiting(), 10);
         assert_eq!(write(&outbox, Writer::Passing), Written::All);
         assert_eq!(write(&outbox, Writer::Helper), Written::Some);
         assert_eq!(write(&outbox, Writer::Helper), Written::Some);
         assert_eq!(write(&outbox, Writer::Helper), Written::All);
-        outbox.put(b" third");
+        outbox.put(&mut b" third".to_vec());
         assert_eq!(write(&outbox, Writer::Passing), Written::All);
         assert_eq!(seen.lock().unwrap().bytes, b"first second third");
     }
@@ -242,7 +265,7 @@ mod tests {
     #[test]
     fn what_a_helper_cannot_write_ends_the_line() {
         let (outbox, seen) = scripted(&[Err(ErrorKind::TimedOut), Err(ErrorKind::BrokenPipe)]);
-        outbox.put(b"first");
+        outbox.put(&mut b"first".to_vec());
         assert_eq!(write(&outbox, Writer::Passing), Written::WantsHelper);
         assert_eq!(write(&outbox, Writer::Helper), Written::Failed);
         outbox.end();
@@ -254,7 +277,7 @@ mod tests {
     #[test]
     fn a_line_that_is_over_is_closed_by_the_helper_that_has_it() {
         let (outbox, seen) = scripted(&[Err(ErrorKind::TimedOut)]);
-        outbox.put(b"first");
+        outbox.put(&mut b"first".to_vec());
         assert_eq!(write(&outbox, Writer::Passing), Written::WantsHelper);
         outbox.end();
         assert_eq!(write(&outbox, Writer::Passing), Written::All);

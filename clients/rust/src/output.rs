@@ -194,8 +194,8 @@ impl Bytes<'_> {
 
     /// A copy of them.
     pub fn to_vec(&self) -> Vec<u8> {
-        let mut bytes = vec![0; self.length];
-        self.copy_to(0, &mut bytes);
+        let mut bytes = Vec::with_capacity(self.length);
+        self.append_to(&mut bytes);
         bytes
     }
 }

@@ -1,10 +1,11 @@
-//! The pending calls of a session, and their answers until they are handed out.
+//! The pending calls of a session, and those that are answered until they are told so.
 
 use crate::answer::Outcome;
 use crate::chroot::Chroot;
 use crate::error::{ErrorKind, Search};
+use crate::fault::NoReply;
 use crate::raw::RawCall;
-use crate::ticket::{CallResult, Slot};
+use crate::ticket::Slot;
 use std::collections::HashMap;
 use std::hash::{BuildHasherDefault, Hasher};
 use std::mem;
@@ -14,7 +15,7 @@ use std::sync::Arc;
 struct PendingCall {
     slot: Arc<Slot>,
     /// The call that reads the answer, if the core does not.
-    raw: Option<RawCall>,
+    raw: Option<Box<RawCall>>,
 }
 
 /// A hash for tickets: no one outside chooses them.
@@ -37,13 +38,13 @@ impl Hasher for TicketHasher {
     }
 }
 
-/// The calls of a session, which wait in its machine, and the answers that were not handed out yet.
+/// The calls of a session, which wait in its machine, and those whose answers were not told yet.
 #[derive(Default)]
 pub(crate) struct PendingCalls {
     last_ticket: u64,
     waiting: HashMap<u64, PendingCall, BuildHasherDefault<TicketHasher>>,
     search: Option<Search>,
-    answers: Vec<(Arc<Slot>, CallResult)>,
+    answered: Vec<Arc<Slot>>,
 }
 
 impl PendingCalls {
@@ -71,18 +72,9 @@ impl PendingCalls {
     }
 
     /// This call will read the answer to the call of this ticket.
-    pub(crate) fn is_read_by(&mut self, ticket: u64, call: RawCall) {
+    pub(crate) fn is_read_by(&mut self, ticket: u64, call: Box<RawCall>) {
         if let Some(waiting) = self.waiting.get_mut(&ticket) {
             waiting.raw = Some(call);
-        }
-    }
-
-    /// The outcome of the call of this ticket. If the core has not read the answer, the call reads it: none if it does not parse.
-    pub(crate) fn read(&self, ticket: u64, outcome: Outcome, root: &Chroot) -> Option<Outcome> {
-        let waiting = self.waiting.get(&ticket);
-        match (waiting.and_then(|it| it.raw.as_ref()), outcome) {
-            (Some(call), Ok(found)) => call.read(&found.data.unwrap_or_default(), root),
-            (_, outcome) => Some(outcome),
         }
     }
 
@@ -91,7 +83,23 @@ impl PendingCalls {
         self.waiting.contains_key(&ticket)
     }
 
-    /// A call has its answer.
+    /// A call is answered. If the core has not read the answer, the call reads it. Whether it parses: if not, the call may have happened.
+    pub(crate) fn read(&mut self, ticket: u64, outcome: Outcome, root: &Chroot) -> bool {
+        let Some(PendingCall { slot, raw }) = self.waiting.remove(&ticket) else {
+            return true;
+        };
+        let (Some(call), Ok(found)) = (raw, &outcome) else {
+            self.answer(slot, outcome);
+            return true;
+        };
+        let read = call.read(found.data.as_deref().unwrap_or_default(), root);
+        let parses = read.is_some();
+        let lost = || Err(NoReply::ConnectionLoss.into());
+        self.answer(slot, read.unwrap_or_else(lost));
+        parses
+    }
+
+    /// A call ends so.
     pub(crate) fn end(&mut self, ticket: u64, outcome: Outcome) {
         if let Some(waiting) = self.waiting.remove(&ticket) {
             self.answer(waiting.slot, outcome);
@@ -99,8 +107,8 @@ impl PendingCalls {
     }
 
     fn answer(&mut self, slot: Arc<Slot>, outcome: Outcome) {
-        let ending = slot.ending(outcome, self.search.as_ref());
-        self.answers.push((slot, ending));
+        slot.put(outcome, self.search.as_ref());
+        self.answered.push(slot);
     }
 
     /// All calls have this answer, also those that were not sent yet.
@@ -110,8 +118,8 @@ impl PendingCalls {
         }
     }
 
-    /// The answers that are to be handed out.
-    pub(crate) fn take_answers(&mut self) -> Vec<(Arc<Slot>, CallResult)> {
-        mem::take(&mut self.answers)
+    /// The calls whose answers are to be told.
+    pub(crate) fn take_answered(&mut self) -> Vec<Arc<Slot>> {
+        mem::take(&mut self.answered)
     }
 }

@@ -165,9 +165,9 @@ impl Recorder {
         self.machine.extend(format!(" {zxid}").bytes());
     }
 
-    /// The moment of a step.
+    /// The moment of a step. One below an earlier one counts as that, as for the machine.
     pub(crate) fn at(&mut self, now: Moment) {
-        self.now = now.as_millis();
+        self.now = self.now.max(now.as_millis());
     }
 
     /// The machine was handed a connection.

@@ -16,7 +16,7 @@ use std::fmt;
 use std::time::{Duration, Instant};
 
 /// A call of the core, without its path.
-#[derive(Clone, PartialEq, Eq)]
+#[derive(Clone)]
 pub(crate) enum CoreCall {
     Exists(Watch),
     Data(Watch),
@@ -55,11 +55,17 @@ impl CoreCall {
 }
 
 /// A call, without its path.
-#[derive(Clone, PartialEq, Eq)]
+#[derive(Clone)]
 pub(crate) enum Call {
     Core(CoreCall),
-    Raw(RawCall),
+    Raw(Box<RawCall>),
     Auth(Credential),
+}
+
+impl From<RawCall> for Call {
+    fn from(call: RawCall) -> Call {
+        Call::Raw(Box::new(call))
+    }
 }
 
 impl Call {
@@ -72,26 +78,14 @@ impl Call {
             Call::Raw(call) => call.is_read(),
         }
     }
-}
 
-/// What is asked, without what its answer is made to.
-#[derive(Clone, PartialEq, Eq)]
-pub(crate) struct Asked {
-    pub(crate) path: String,
-    pub(crate) call: Call,
-    /// How long it waits at most, where it says so itself.
-    pub(crate) limit: Option<Duration>,
-}
-
-impl Asked {
-    /// The path of the node that it is about. None where it is about no node.
-    pub(crate) fn node(&self) -> Option<&str> {
-        let has_node = match &self.call {
-            Call::Core(call) => *call != CoreCall::Close,
+    /// Whether it is about a node.
+    pub(crate) fn has_node(&self) -> bool {
+        match self {
+            Call::Core(call) => !matches!(call, CoreCall::Close),
             Call::Raw(call) => call.has_node(),
             Call::Auth(_) => false,
-        };
-        has_node.then_some(self.path.as_str())
+        }
     }
 }
 
@@ -115,7 +109,10 @@ impl Asked {
 /// ```
 #[must_use = "it is not sent before it is asked"]
 pub struct Request<T> {
-    pub(crate) asked: Asked,
+    pub(crate) path: String,
+    pub(crate) call: Call,
+    /// How long it waits at most, where it says so itself.
+    pub(crate) limit: Option<Duration>,
     pub(crate) read: fn(CallResult) -> Result<T, Error>,
 }
 
@@ -125,9 +122,10 @@ impl<T> Request<T> {
         call: Call,
         read: fn(CallResult) -> Result<T, Error>,
     ) -> Request<T> {
-        let (path, limit) = (String::from(path), None);
         Request {
-            asked: Asked { path, call, limit },
+            path: String::from(path),
+            call,
+            limit: None,
             read,
         }
     }
@@ -146,7 +144,7 @@ impl<T> Request<T> {
     /// # }
     /// ```
     pub fn within(mut self, limit: Duration) -> Request<T> {
-        self.asked.limit = Some(limit);
+        self.limit = Some(limit);
         self
     }
 
@@ -160,7 +158,7 @@ impl<T> Request<T> {
 
     /// Whether it only reads. A read is safe to be asked again, whatever became of it; a write is where it was not sent or was refused.
     pub fn is_read(&self) -> bool {
-        self.asked.call.is_read()
+        self.call.is_read()
     }
 
     /// Whether it is safe to be asked again after this error, and of use.
@@ -185,7 +183,7 @@ impl Request<Option<Stat>> {
 
     /// The same, and a watch is left, also where there is no node.
     pub fn watched(mut self) -> Request<Option<Stat>> {
-        self.asked.call = Call::Core(CoreCall::Exists(Watch::Yes));
+        self.call = Call::Core(CoreCall::Exists(Watch::Yes));
         self
     }
 }
@@ -201,7 +199,7 @@ impl Request<Node> {
 
     /// The same, and a watch is left where there is a node.
     pub fn watched(mut self) -> Request<Node> {
-        self.asked.call = Call::Core(CoreCall::Data(Watch::Yes));
+        self.call = Call::Core(CoreCall::Data(Watch::Yes));
         self
     }
 }
@@ -217,7 +215,7 @@ impl Request<(Vec<String>, Stat)> {
 
     /// The same, and a watch is left where there is a node.
     pub fn watched(mut self) -> Request<(Vec<String>, Stat)> {
-        self.asked.call = Call::Core(CoreCall::Children(Watch::Yes));
+        self.call = Call::Core(CoreCall::Children(Watch::Yes));
         self
     }
 }
@@ -245,15 +243,15 @@ impl Request<Stat> {
     /// Sets the ACL of a node whose ACL has this version ([`Stat::aversion`]); [`ANY_VERSION`](crate::ANY_VERSION) is that of each node.
     pub fn set_acls(path: &str, acls: &[Acl], version: i32) -> Request<Stat> {
         let acls = acls.to_vec();
-        let call = Call::Raw(RawCall::SetAcls { acls, version });
-        Request::new(path, call, |ending| ending.map(|found| found.stat))
+        let call = RawCall::SetAcls { acls, version };
+        Request::new(path, call.into(), |ending| ending.map(|found| found.stat))
     }
 }
 
 impl Request<(Vec<Acl>, Stat)> {
     /// The ACL of a node, and what is known of it.
     pub fn acls(path: &str) -> Request<(Vec<Acl>, Stat)> {
-        Request::new(path, Call::Raw(RawCall::Acls), |ending| {
+        Request::new(path, RawCall::Acls.into(), |ending| {
             ending
                 .map(|found| (found.stat, found.records().acls))
                 .map(|(stat, acls)| (acls, stat))
@@ -308,11 +306,12 @@ impl Request<String> {
 /// A create that brings the path and the Stat of the node.
 fn creation(data: &[u8], acls: &[Acl], lifetime: Lifetime) -> Call {
     let (data, acls) = (data.to_vec(), acls.to_vec());
-    Call::Raw(RawCall::Create {
+    let call = RawCall::Create {
         data,
         acls,
         lifetime,
-    })
+    };
+    call.into()
 }
 
 impl Request<(String, Stat)> {
@@ -329,8 +328,8 @@ impl Request<Vec<Result<ReadAnswer, Code>>> {
     /// Reads several nodes at one zxid, and tells what each read has brought, in their order, or with which code the server has refused it.
     /// ZooKeeper has it since version 3.6. It leaves no watch.
     pub fn multi_read(reads: &[Read]) -> Request<Vec<Result<ReadAnswer, Code>>> {
-        let call = Call::Raw(RawCall::Reads(reads.to_vec()));
-        Request::new("/", call, |ending| {
+        let call = RawCall::Reads(reads.to_vec());
+        Request::new("/", call.into(), |ending| {
             ending.map(|found| found.records().answers)
         })
     }
@@ -340,7 +339,7 @@ impl Request<Vec<String>> {
     /// The paths of the session's ephemeral nodes that begin with this path, which need not be one of a node: `/a` begins `/ab` too. ZooKeeper
     /// has it since version 3.6.
     pub fn ephemerals(prefix: &str) -> Request<Vec<String>> {
-        Request::new(prefix, Call::Raw(RawCall::Ephemerals), |ending| {
+        Request::new(prefix, RawCall::Ephemerals.into(), |ending| {
             ending.map(|found| found.records().paths)
         })
     }
@@ -350,7 +349,7 @@ impl Request<i32> {
     /// How many nodes are below a node, at all depths. Where there is no node the answer is [`Code::NO_NODE`]. ZooKeeper has it since version
     /// 3.6.
     pub fn all_children_number(path: &str) -> Request<i32> {
-        Request::new(path, Call::Raw(RawCall::AllChildrenNumber), |ending| {
+        Request::new(path, RawCall::AllChildrenNumber.into(), |ending| {
             ending.map(|found| found.records().count)
         })
     }
@@ -360,7 +359,7 @@ impl Request<Vec<Id>> {
     /// As whom the server knows the session: by its address, and by its credentials. ZooKeeper has it since version 3.7; else the answer is
     /// [`Code::UNIMPLEMENTED`].
     pub fn who_am_i() -> Request<Vec<Id>> {
-        Request::new("/", Call::Raw(RawCall::WhoAmI), |ending| {
+        Request::new("/", RawCall::WhoAmI.into(), |ending| {
             ending.map(|found| found.records().ids)
         })
     }
@@ -377,7 +376,7 @@ impl Request<()> {
     /// Has the server that the session is connected to catch up with the leader, as far as it was when that was asked: a read that is
     /// asked after it is of no older state.
     pub fn sync(path: &str) -> Request<()> {
-        Request::new(path, Call::Raw(RawCall::Sync), |ending| ending.map(drop))
+        Request::new(path, RawCall::Sync.into(), |ending| ending.map(drop))
     }
 
     /// Tells the server who the session is, now and on each later connection.
@@ -395,7 +394,9 @@ impl Request<()> {
 impl<T> Clone for Request<T> {
     fn clone(&self) -> Request<T> {
         Request {
-            asked: self.asked.clone(),
+            path: self.path.clone(),
+            call: self.call.clone(),
+            limit: self.limit,
             read: self.read,
         }
     }
@@ -405,7 +406,7 @@ impl<T> Clone for Request<T> {
 impl<T> fmt::Debug for Request<T> {
     fn fmt(&self, f: &mut fmt::Formatter<'_>) -> fmt::Result {
         f.debug_struct("Request")
-            .field("path", &self.asked.path)
+            .field("path", &self.path)
             .finish_non_exhaustive()
     }
 }

@@ -67,8 +67,9 @@ pub(crate) struct Tries {
 }
 
 impl Tries {
-    /// Of a session that renews itself, or does not.
-    pub(crate) fn of(renews: bool, limit: Option<Duration>) -> Tries {
+    /// Of a session that renews itself, or does not. A call that is asked once needs no look at the clock.
+    pub(crate) fn of(retry: Retry, renews: bool, limit: Option<Duration>) -> Tries {
+        let limit = limit.filter(|_| retry != Retry::never());
         let until = limit.and_then(|limit| Instant::now().checked_add(limit));
         Tries { renews, until }
     }

@@ -183,15 +183,14 @@ impl Session {
     /// [`ErrorKind::Fault`](crate::ErrorKind::Fault) of [`Fault::NotPath`], [`Fault::NoMemory`], [`Fault::Halted`],
     /// [`Fault::UnknownNumber`] or [`Fault::Panicked`]. [`QueueFull`](crate::ErrorKind::QueueFull) where too much waits to be written.
     pub fn call<T>(&self, mut request: Request<T>) -> Result<T, Error> {
-        let tries = Tries::of(self.renews, request.asked.limit.or(self.limit));
+        let tries = Tries::of(self.retry, self.renews, request.limit.or(self.limit));
         for pause in self.retry.pauses() {
-            request.asked.limit = tries.left();
             match self.ask(request.clone()).wait() {
                 Err(error) if tries.goes_on(&request, &error, pause) => thread::sleep(pause),
                 answer => return answer,
             }
+            request.limit = tries.left();
         }
-        request.asked.limit = tries.left();
         self.ask(request).wait()
     }
 

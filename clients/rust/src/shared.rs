@@ -7,11 +7,12 @@ use crate::moment::{Clock, Moment};
 use crate::notify::Notify;
 use crate::outbox::{Outbox, Writer, Written};
 use crate::request::Request;
-use crate::stats::{CallKind, Observation, Observer};
+use crate::stats::{Observation, Observer};
 use crate::ticket::{CallLimit, ExpireCalls, Slot, Ticket};
 use std::collections::HashMap;
 use std::mem;
 use std::panic::{catch_unwind, resume_unwind, AssertUnwindSafe};
+use std::sync::atomic::{AtomicBool, Ordering};
 use std::sync::{Arc, Mutex, MutexGuard, PoisonError, Weak};
 use std::task::{Context, Poll, Waker};
 use std::thread::{self, Builder};
@@ -39,6 +40,8 @@ pub(crate) struct Shared {
     observer: Option<Observer>,
     /// Which thread writes what there is no room for at once: a helper, or the driver's own.
     writer: Writer,
+    /// Whether there was no room for all at the last write.
+    is_full: AtomicBool,
     own: Weak<Shared>,
 }
 
@@ -59,6 +62,7 @@ impl Shared {
             changed: Notify::default(),
             wakers: Mutex::default(),
             writer,
+            is_full: AtomicBool::new(false),
             own: Weak::clone(own),
         })
     }
@@ -82,21 +86,21 @@ impl Shared {
 
     /// Releases the engine, so that a woken thread can have it, then writes frames and hands out answers.
     fn hand_out(&self, mut engine: MutexGuard<'_, Engine>) {
-        let answers = engine.take_answers();
-        let (outboxes, tree_copies) = (engine.take_outboxes(), engine.take_tree_copies());
-        let (is_news, seen) = (engine.has_event(), engine.take_seen());
+        let answered = engine.take_answered();
+        let (outbox, tree_copies) = (engine.take_to_write(), engine.take_tree_copies());
+        let (is_news, seen) = (engine.takes_news(), engine.take_seen());
         drop(engine);
         let observed = self.observe(&seen);
-        for outbox in outboxes {
+        if let Some(outbox) = outbox {
             self.write(&outbox, self.writer, Duration::ZERO);
         }
-        for (slot, ending) in answers {
-            slot.tell(ending);
+        for slot in answered {
+            slot.tell();
         }
         if is_news {
             self.notify_all();
         }
-        for copy in tree_copies {
+        for copy in &tree_copies {
             copy.show();
             self.wake();
         }
@@ -160,7 +164,7 @@ impl Shared {
         };
         let written = outbox.write(writer, wait);
         guard.is_done = true;
-        match written {
+        let is_full = match written {
             Written::All => false,
             Written::Some => true,
             Written::WantsHelper => self.begin_to_help(outbox),
@@ -168,7 +172,9 @@ impl Shared {
                 self.with(|engine| engine.is_broken(outbox));
                 false
             }
-        }
+        };
+        self.is_full.store(is_full, Ordering::Relaxed);
+        is_full
     }
 
     /// A thread of its own writes what there is no room for, until nothing waits. If the system makes none, the connection is over.
@@ -188,7 +194,7 @@ impl Shared {
 
     /// Writes on for a while, in a session without helpers. Whether something waits for room still.
     pub(crate) fn writes_on(&self) -> bool {
-        if self.writer != Writer::Alone {
+        if self.writer != Writer::Alone || !self.is_full.load(Ordering::Relaxed) {
             return false;
         }
         let unwritten = self.look(Engine::unwritten);
@@ -298,9 +304,9 @@ impl ExpireCalls for Shared {
 
 /// Asks a request of a session: the ticket for its answer.
 pub(crate) fn ask<T>(shared: &Arc<Shared>, request: Request<T>) -> Ticket<T> {
-    let Request { asked, read } = request;
-    let slot = Slot::new(asked.node(), CallKind::of(&asked.call));
-    let wait = shared.with(|engine| engine.ask(asked, Arc::clone(&slot)));
+    let slot = Slot::new(request.path, &request.call);
+    let now = shared.clock().at(slot.asked_at());
+    let wait = shared.with(|engine| engine.ask(now, request.call, request.limit, &slot));
     if wait.is_to_wake {
         shared.wake();
     }
@@ -310,5 +316,5 @@ pub(crate) fn ask<T>(shared: &Arc<Shared>, request: Request<T>) -> Ticket<T> {
         clock: shared.clock(),
         session,
     };
-    Ticket::new(slot, read, limit)
+    Ticket::new(slot, request.read, limit)
 }

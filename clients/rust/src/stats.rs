@@ -112,15 +112,21 @@ impl CallKind {
             Call::Core(CoreCall::Data(_)) => CallKind::Get,
             Call::Core(CoreCall::Children(_)) => CallKind::Children,
             Call::Core(CoreCall::Set { .. }) => CallKind::Set,
-            Call::Core(CoreCall::Create { .. }) | Call::Raw(RawCall::Create { .. }) => {
-                CallKind::Create
-            }
+            Call::Core(CoreCall::Create { .. }) => CallKind::Create,
             Call::Core(CoreCall::Delete { .. }) => CallKind::Delete,
             Call::Core(CoreCall::Close) => CallKind::Close,
-            Call::Raw(RawCall::Transaction(_)) => CallKind::Transaction,
-            Call::Raw(RawCall::Sync) => CallKind::Sync,
-            Call::Raw(RawCall::Acls | RawCall::SetAcls { .. }) => CallKind::Acl,
-            Call::Raw(_) | Call::Auth(_) => CallKind::Other,
+            Call::Raw(call) => CallKind::of_raw(call),
+            Call::Auth(_) => CallKind::Other,
+        }
+    }
+
+    fn of_raw(call: &RawCall) -> CallKind {
+        match call {
+            RawCall::Create { .. } => CallKind::Create,
+            RawCall::Transaction(_) => CallKind::Transaction,
+            RawCall::Sync => CallKind::Sync,
+            RawCall::Acls | RawCall::SetAcls { .. } => CallKind::Acl,
+            _ => CallKind::Other,
         }
     }
 }

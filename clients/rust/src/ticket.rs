@@ -4,24 +4,34 @@ use crate::answer::{Answer, Outcome};
 use crate::error::{Error, ErrorKind, Search};
 use crate::moment::{Clock, Moment};
 use crate::notify::Notify;
+use crate::request::Call;
 use crate::stats::{CallKind, CallOutcome, Observation};
 use std::fmt;
 use std::future::Future;
-use std::mem;
 use std::pin::Pin;
 use std::sync::{Arc, Mutex, MutexGuard, PoisonError, Weak};
 use std::task::{Context, Poll, Waker};
 use std::time::{Duration, Instant};
 
 /// What has become of a call.
-#[derive(Debug)]
-enum Stage {
-    /// There is no answer yet. The waker is that of the last poll.
-    Waits(Option<Waker>),
-    /// There is one.
-    Answered(CallResult),
-    /// It was taken.
-    Taken,
+#[derive(Debug, Default)]
+struct Stage {
+    /// How it ends, from its answer until that is taken.
+    ending: Option<CallResult>,
+    /// Whether the answer may be taken.
+    is_told: bool,
+    /// That of the last poll.
+    waker: Option<Waker>,
+}
+
+impl Stage {
+    /// The answer, if it may be taken and was not.
+    fn take(&mut self) -> Option<CallResult> {
+        if self.is_told {
+            return self.ending.take();
+        }
+        None
+    }
 }
 
 /// How a call ends.
@@ -30,7 +40,8 @@ pub(crate) type CallResult = Result<Answer, Error>;
 /// Where the answer to a call is put.
 #[derive(Debug)]
 pub(crate) struct Slot {
-    node: Option<String>,
+    path: String,
+    has_node: bool,
     kind: CallKind,
     asked_at: Instant,
     stage: Mutex<Stage>,
@@ -38,13 +49,14 @@ pub(crate) struct Slot {
 }
 
 impl Slot {
-    /// Of a call that is asked now, about this node.
-    pub(crate) fn new(node: Option<&str>, kind: CallKind) -> Arc<Slot> {
+    /// Of this call, which is asked now at this path.
+    pub(crate) fn new(path: String, call: &Call) -> Arc<Slot> {
         Arc::new(Slot {
-            node: node.map(String::from),
-            kind,
+            path,
+            has_node: call.has_node(),
+            kind: CallKind::of(call),
             asked_at: Instant::now(),
-            stage: Mutex::new(Stage::Waits(None)),
+            stage: Mutex::default(),
             answered: Notify::default(),
         })
     }
@@ -56,7 +68,7 @@ impl Slot {
     /// How the call ends with this outcome, after this search for a server where there was one.
     pub(crate) fn ending(&self, outcome: Outcome, search: Option<&Search>) -> CallResult {
         outcome.map_err(|kind| {
-            let error = Error::about(self.node.as_deref(), kind);
+            let error = Error::about(self.node(), kind);
             match search {
                 Some(search) => error.after(search, self.asked_at.elapsed()),
                 None => error,
@@ -64,32 +76,58 @@ impl Slot {
         })
     }
 
-    /// What the call was about, what has come of it where it ends so, and the time since it was asked.
-    pub(crate) fn came(&self, ending: &CallResult) -> (CallKind, CallOutcome, Duration) {
-        let outcome = CallOutcome::of(ending.as_ref().err().map(Error::kind));
-        (self.kind, outcome, self.asked_at.elapsed())
+    /// Puts the answer there, after this search for a server if there was one. Nobody takes it before it is told.
+    pub(crate) fn put(&self, outcome: Outcome, search: Option<&Search>) {
+        let ending = self.ending(outcome, search);
+        self.stage().ending = Some(ending);
     }
 
-    /// What is observed of the call where it ends so.
-    pub(crate) fn observed(&self, ending: &CallResult) -> Observation {
-        let (kind, outcome, took) = self.came(ending);
+    /// What the call was about, what has come of it by the answer that is not told yet, and the time since it was asked.
+    pub(crate) fn came(&self, now: Instant) -> (CallKind, CallOutcome, Duration) {
+        let stage = self.stage();
+        let ending = stage.ending.as_ref();
+        let error = ending.and_then(|ending| ending.as_ref().err());
+        let outcome = CallOutcome::of(error.map(Error::kind));
+        let took = now.saturating_duration_since(self.asked_at);
+        (self.kind, outcome, took)
+    }
+
+    /// What is observed of the call by that answer.
+    pub(crate) fn observed(&self, now: Instant) -> Observation {
+        let (kind, outcome, took) = self.came(now);
+        let stage = self.stage();
+        let ending = stage.ending.as_ref();
+        let error = ending.and_then(|ending| ending.as_ref().err());
+        let found = ending.and_then(|ending| ending.as_ref().ok());
         Observation::Answered {
             kind,
-            path: self.node.clone(),
+            path: self.node().map(String::from),
             outcome,
-            code: ending.as_ref().err().and_then(Error::code),
-            zxid: ending.as_ref().map_or(0, |found| found.zxid),
+            code: error.and_then(Error::code),
+            zxid: found.map_or(0, |found| found.zxid),
             took,
         }
     }
 
-    /// Puts the answer there, and wakes who waits for it.
-    pub(crate) fn tell(&self, ending: CallResult) {
-        let before = mem::replace(&mut *self.stage(), Stage::Answered(ending));
+    /// The answer may be taken: wakes who waits for it.
+    pub(crate) fn tell(&self) {
+        let mut stage = self.stage();
+        stage.is_told = true;
+        let waker = stage.waker.take();
+        drop(stage);
         self.answered.notify_all();
-        if let Stage::Waits(Some(waker)) = before {
+        if let Some(waker) = waker {
             waker.wake();
         }
+    }
+
+    pub(crate) fn path(&self) -> &str {
+        &self.path
+    }
+
+    /// The path of the node that the call is about. None where it is about no node.
+    fn node(&self) -> Option<&str> {
+        self.has_node.then_some(self.path.as_str())
     }
 
     /// When the call was asked.
@@ -98,14 +136,19 @@ impl Slot {
     }
 
     pub(crate) fn answered(&self) -> bool {
-        !matches!(*self.stage(), Stage::Waits(_))
+        self.stage().is_told
+    }
+
+    /// The answer, if it was told and not taken.
+    pub(crate) fn take(&self) -> Option<CallResult> {
+        self.stage().take()
     }
 
     /// The answer, once it is there. None where it is not there by this instant.
     pub(crate) fn wait(&self, until: Option<Instant>) -> Option<CallResult> {
         let mut stage = self.stage();
         loop {
-            if let Some(ending) = take(&mut stage) {
+            if let Some(ending) = stage.take() {
                 return Some(ending);
             }
             let left = match until {
@@ -118,25 +161,12 @@ impl Slot {
 
     fn poll(&self, context: &Context<'_>) -> Poll<CallResult> {
         let mut stage = self.stage();
-        if let Some(ending) = take(&mut stage) {
+        if let Some(ending) = stage.take() {
             return Poll::Ready(ending);
         }
-        assert!(
-            !matches!(*stage, Stage::Taken),
-            "a ticket is polled after its answer"
-        );
-        *stage = Stage::Waits(Some(context.waker().clone()));
+        assert!(!stage.is_told, "a ticket is polled after its answer");
+        stage.waker = Some(context.waker().clone());
         Poll::Pending
-    }
-}
-
-fn take(stage: &mut Stage) -> Option<CallResult> {
-    match mem::replace(stage, Stage::Taken) {
-        Stage::Answered(ending) => Some(ending),
-        other => {
-            *stage = other;
-            None
-        }
     }
 }
 
@@ -230,7 +260,7 @@ impl<T> Ticket<T> {
     /// How the call ends, or that it has not by this instant.
     fn ending(&self, until: Option<Instant>) -> CallResult {
         loop {
-            if let Some(ending) = take(&mut self.slot.stage()) {
+            if let Some(ending) = self.slot.take() {
                 return ending; // without a look at the clock
             }
             let next = self.limit.next().into_iter().chain(until).min();

@@ -197,7 +197,7 @@ impl fmt::Debug for Operations {
 impl Request<Vec<Change>> {
     /// Operations that happen together or not at all: what each has brought, in their order, or [`ErrorKind::RolledBack`](crate::ErrorKind::RolledBack).
     pub fn transaction(operations: Operations) -> Request<Vec<Change>> {
-        let call = Call::Raw(RawCall::Transaction(operations.list));
+        let call = Call::from(RawCall::Transaction(operations.list));
         Request::new("/", call, |ending| {
             ending.map(|found| found.records().changes)
         })

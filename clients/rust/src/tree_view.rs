@@ -357,7 +357,7 @@ pub(crate) struct TreeCopy {
 
 impl TreeCopy {
     /// Reads the copy, and shows it. The caller does not hold the session's lock.
-    pub(crate) fn show(self) {
+    pub(crate) fn show(&self) {
         let begun = Instant::now();
         let (zxid, nodes) = (self.zxid, nodes_in(&self.spelled));
         let subtree = Subtree { zxid, nodes }.below(&self.chroot);

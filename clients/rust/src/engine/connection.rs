@@ -4,6 +4,7 @@ use super::{Attempt, Engine, Phase};
 use crate::connection::Outgoing;
 use crate::fault::Fault;
 use crate::machine::Machine;
+use crate::moment::Moment;
 use crate::outbox::Outbox;
 use crate::stats::{ConnectionEnd, Observation};
 use std::borrow::Cow;
@@ -48,7 +49,7 @@ impl Engine {
         let outbox = Outbox::new(outgoing);
         if !self.takes_attempt(number) {
             outbox.end();
-            self.outboxes.push(outbox);
+            self.to_write = Some(outbox);
             return Ok(());
         }
         self.note_attempt(format!(
@@ -64,9 +65,9 @@ impl Engine {
         self.step(now, Machine::opened)
     }
 
-    /// Hands in bytes of the server, after those that there was no memory for.
-    pub(crate) fn hand_in(&mut self, bytes: &[u8]) -> Result<(), Fault> {
-        let now = self.now();
+    /// Hands in bytes that came from the server by now, after those that there was no memory for.
+    pub(crate) fn hand_in(&mut self, now: Moment, bytes: &[u8]) -> Result<(), Fault> {
+        let now = self.before_due(now);
         if !bytes.is_empty() {
             self.tally.note(Observation::BytesIn(bytes.len()));
         }
@@ -80,7 +81,7 @@ impl Engine {
         let taken = actions.and_then(|actions| self.dispatcher.dispatch(actions));
         self.note_deadline();
         // Nothing is due at this moment, so the machine does not leave for a missing answer.
-        self.dispatcher.update.is_left = false;
+        self.dispatcher.lacks_no_answer();
         if taken.is_err() {
             self.inbox = came.into_owned();
         } else if let Some(recorder) = &mut self.recorder {
@@ -134,7 +135,7 @@ impl Engine {
             let end = ending.unwrap_or(ConnectionEnd::Ended);
             self.tally.note(Observation::ConnectionEnded(end));
             outbox.end();
-            self.outboxes.push(outbox);
+            self.to_write = Some(outbox);
         }
         if let Some(recorder) = &mut self.recorder {
             recorder.cut();

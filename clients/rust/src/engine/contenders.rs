@@ -276,7 +276,7 @@ mod tests {
         engine.renew().unwrap();
         engine.tick().unwrap();
         open(&mut engine);
-        engine.hand_in(&response(0, 0)).unwrap(); // it has expired, and no place of it is there
+        engine.hand_in(engine.clock.now(), &response(0, 0)).unwrap(); // it has expired, and no place of it is there
         assert_eq!(tickets.map(|ticket| engine.is_leaving(ticket)), [false; 2]);
     }
 

@@ -3,21 +3,23 @@
 use super::{Attempt, Engine, Phase};
 use crate::action::Actions;
 use crate::dispatch::SessionUpdate;
-use crate::fault::{Fault, NoReply};
+use crate::fault::Fault;
 use crate::machine::{Machine, State};
 use crate::moment::Moment;
 use crate::outbox::Outbox;
 use crate::recording::Recorder;
 use crate::stats::{ConnectionEnd, Observation};
 use crate::tree_view::FollowedTree;
-use std::mem;
 use std::sync::Arc;
 
 impl Engine {
-    /// The moment of a step whose caller has not read all that the connection has. If something is due by then, it is the last moment
-    /// before: the server's answer may be there, unread.
+    /// The moment of a step whose caller has not read all that the connection has.
     pub(super) fn now(&self) -> Moment {
-        let now = self.clock.now();
+        self.before_due(self.clock.now())
+    }
+
+    /// The same, at this moment. If something is due by then, it is the last moment before: the server's answer may be there, unread.
+    pub(super) fn before_due(&self, now: Moment) -> Moment {
         if self.outbox.is_some() {
             return now.min(self.deadline().before());
         }
@@ -40,34 +42,49 @@ impl Engine {
         if let Some(recorder) = &mut self.recorder {
             recorder.at(now);
         }
-        let mut update = mem::take(&mut self.dispatcher.update);
-        self.ending = update.end().or(self.ending);
+        let mut update = self.dispatcher.update.take();
+        let end = update.as_deref().and_then(SessionUpdate::end);
+        self.ending = end.or(self.ending);
         if let Some(fault) = taken.as_ref().err().filter(|fault| fault.is_final()) {
             self.ending = Some(ConnectionEnd::Dropped);
             self.finish(Phase::Halted(fault.clone()));
         }
+        if let Some(update) = &mut update {
+            self.take_on(now, update);
+        }
+        self.send();
+        if self.end_answered() {
+            self.ending = Some(ConnectionEnd::Unreadable);
+            self.end()?;
+        }
+        for (place, code) in update.map_or_else(Vec::new, |update| update.credentials) {
+            self.credential_answered(place, code);
+        }
+        if self.is_over() {
+            self.end_calls();
+        }
+        self.give_up_lost();
+        self.flush_record();
+        taken
+    }
+
+    /// Does what the machine has said of its session.
+    fn take_on(&mut self, now: Moment, update: &mut SessionUpdate) {
         if update.is_left {
             self.note_unanswered();
         }
         if update.hangs_up || self.is_over() {
             self.hang_up();
         }
-        self.note_followed(&mut update);
-        self.note(now, &update);
-        self.send();
-        if self.end_answered() {
-            self.ending = Some(ConnectionEnd::Unreadable);
-            self.end()?;
-        }
-        for (place, code) in update.credentials {
-            self.credential_answered(place, code);
-        }
+        self.note_followed(update);
+        self.note(now, update);
+    }
+
+    /// No call gets an answer any more.
+    fn end_calls(&mut self) {
         if let Some(reason) = self.reason_of_end() {
             self.calls.end_all(&reason);
         }
-        self.give_up_lost();
-        self.flush_record();
-        taken
     }
 
     /// Records ticket-to-node assignments first, then the updates that use them.
@@ -147,35 +164,24 @@ impl Engine {
     /// Hands out answers. Whether one does not parse, so that the connection has to end: its call may have happened.
     fn end_answered(&mut self) -> bool {
         let mut is_end = false;
-        let mut answers = mem::take(&mut self.dispatcher.answers);
-        for (ticket, outcome) in answers.drain(..) {
-            let read = self.calls.read(ticket, outcome, &self.chroot);
-            is_end |= read.is_none();
-            let outcome = read.unwrap_or(Err(NoReply::ConnectionLoss.into()));
-            self.calls.end(ticket, outcome);
+        while let Some((ticket, outcome)) = self.dispatcher.answers.pop_front() {
+            is_end |= !self.calls.read(ticket, outcome, &self.chroot);
         }
-        self.dispatcher.answers = answers;
         is_end
     }
 
-    /// Sends the frames of the machine.
+    /// Sends the frames of the machine, if there is a connection.
     fn send(&mut self) {
-        let mut frames = mem::take(&mut self.dispatcher.frames);
-        self.write(&frames);
-        frames.clear();
-        self.dispatcher.frames = frames;
-    }
-
-    /// Sends whole frames, if there is a connection.
-    pub(super) fn write(&mut self, frames: &[u8]) {
+        let frames = &mut self.dispatcher.frames;
         if let Some(outbox) = self.outbox.as_ref().filter(|_| !frames.is_empty()) {
-            outbox.put(frames);
             if let Some(recorder) = &mut self.recorder {
                 recorder.sent(frames);
             }
             self.tally.note(Observation::BytesOut(frames.len()));
-            self.outboxes.push(Arc::clone(outbox));
+            outbox.put(frames);
+            self.to_write = Some(Arc::clone(outbox));
         }
+        self.dispatcher.frames.clear();
     }
 
     /// A write to this connection has failed.

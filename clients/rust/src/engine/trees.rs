@@ -107,9 +107,11 @@ impl Engine {
 
     /// When a tree is to be copied, though nothing comes from the server.
     pub(super) fn tree_deadline(&self) -> Moment {
+        if self.trees.is_empty() || !self.may_look() {
+            return NEVER;
+        }
         let deadlines = self.trees.values().filter_map(FollowedTree::deadline);
-        let deadline = self.may_look().then(|| deadlines.min());
-        deadline.flatten().unwrap_or(NEVER)
+        deadlines.min().unwrap_or(NEVER)
     }
 
     /// Whether a tree has news since the last call of this.
