@@ -39,20 +39,26 @@ struct row {
 };
 
 /* The rows, in the order in which they are printed. */
-enum { TREE_READ, EACH_READ, CALLS_READ, TREE_CALL, TREE_PING, TREE_WRITTEN, TREE_MADE, TREE_DELETED, EACH_CALL, EACH_WRITTEN, CALLS_CALL, TREE_LOOK };
+enum {
+    TREE_READ, EACH_READ, CALLS_READ, TREE_GET, TREE_SET, TREE_PING, TREE_WRITTEN, TREE_MADE, TREE_DELETED, EACH_GET, EACH_SET, EACH_WRITTEN,
+    CALLS_GET, CALLS_SET, TREE_LOOK
+};
 enum { ROWS = TREE_LOOK + 1 };
 static struct row rows[ROWS] = {
     [TREE_READ] = {.name = "read at first, by dw_session_follow_tree"},
     [EACH_READ] = {.name = "read at first, each node followed by itself"},
     [CALLS_READ] = {.name = "read at first, by calls with watches"},
-    [TREE_CALL] = {.name = "beside the whole tree: a call elsewhere, and its reply"},
+    [TREE_GET] = {.name = "beside the whole tree: a read elsewhere, and its reply"},
+    [TREE_SET] = {.name = "beside the whole tree: a write elsewhere, and its reply"},
     [TREE_PING] = {.name = "beside the whole tree: a ping, and its answer"},
     [TREE_WRITTEN] = {.name = "the data of a node of the tree change"},
     [TREE_MADE] = {.name = "a node is created below the root of the tree"},
     [TREE_DELETED] = {.name = "a node below the root of the tree is deleted"},
-    [EACH_CALL] = {.name = "beside nodes followed by themselves: a call elsewhere, and its reply"},
+    [EACH_GET] = {.name = "beside nodes followed by themselves: a read elsewhere, and its reply"},
+    [EACH_SET] = {.name = "beside nodes followed by themselves: a write elsewhere, and its reply"},
     [EACH_WRITTEN] = {.name = "the data of one of these nodes change"},
-    [CALLS_CALL] = {.name = "beside nodes read by calls: a call elsewhere, and its reply"},
+    [CALLS_GET] = {.name = "beside nodes read by calls: a read elsewhere, and its reply"},
+    [CALLS_SET] = {.name = "beside nodes read by calls: a write elsewhere, and its reply"},
     [TREE_LOOK] = {.name = "dw_session_subtree of the whole tree"},
 };
 
@@ -139,7 +145,7 @@ static void note_shown(uint64_t ticket)
 static void note_answer(const dw_output *answer)
 {
     need(answer->outcome == DW_OUTCOME_REPLIED, dw_outcome_words(answer->outcome));
-    need(answer->reply == DW_REPLY_DATA || answer->reply == DW_REPLY_NAMES, "a read is refused");
+    need(answer->reply == DW_REPLY_DATA || answer->reply == DW_REPLY_NAMES || answer->reply == DW_REPLY_STAT, "a call is refused");
     told.answers++;
 }
 
@@ -377,14 +383,19 @@ static void read_by_calls(void)
     look_at_tree(nodes);
 }
 
-/* A call to a node of which nothing is followed. */
-static void call_elsewhere(int number)
+/* A read and a write of a node of which nothing is followed. */
+static void call_elsewhere(int read, int write)
 {
     static uint64_t ticket = (uint64_t)1 << 61;
-    begin_row(number);
+    static const uint8_t data[DATA];
+    begin_row(read);
     begin_calls();
     end_step(dw_session_get_data(&session, now_ms, ticket++, UINT64_MAX, ELSEWHERE, strlen(ELSEWHERE), false));
-    finish(&told.answers, 1, "a call is not answered");
+    finish(&told.answers, 1, "a read is not answered");
+    begin_row(write);
+    begin_calls();
+    end_step(dw_session_set_data(&session, now_ms, ticket++, UINT64_MAX, ELSEWHERE, strlen(ELSEWHERE), data, sizeof data, false, -1));
+    finish(&told.answers, 1, "a write is not answered");
 }
 
 static void ping(void)
@@ -433,7 +444,7 @@ static void measure_tree(void)
     connect_session();
     follow_tree();
     for (size_t time = 0; time < TIMES; time++) {
-        call_elsewhere(TREE_CALL);
+        call_elsewhere(TREE_GET, TREE_SET);
         ping();
         change_tree(time);
         begin_row(TREE_LOOK);
@@ -448,7 +459,7 @@ static void measure_each(void)
     connect_session();
     follow_each();
     for (size_t time = 0; time < TIMES; time++) {
-        call_elsewhere(EACH_CALL);
+        call_elsewhere(EACH_GET, EACH_SET);
         change_each(time);
     }
     leave();
@@ -459,7 +470,7 @@ static void measure_calls(void)
     connect_session();
     read_by_calls();
     for (size_t time = 0; time < TIMES; time++) {
-        call_elsewhere(CALLS_CALL);
+        call_elsewhere(CALLS_GET, CALLS_SET);
     }
     leave();
 }
