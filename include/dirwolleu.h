@@ -33,7 +33,10 @@
  *   - each call is answered once or times out once, and each subject that is followed is kept good, or is being read, or its
  *     turn has not come (960 others are being read, or 1,024 calls are on their way; no call is sent while it could be read), or its read was
  *     refused and is made again, or no server has accepted the connection;
+ *   - a contender that holds, by dw_session_held, does so by a listing that its session was answered, if the tickets are as that function says;
  *   - each function returns, whatever bytes a server sends.
+ * If memory runs out within a step, that an answer is good, that nothing is kept after an end, and that functions return still hold. The rest is proved of
+ * what came before that step alone.
  * The first of these rests on servers that hold beginnings of one history, fire watches before replies and admit no client that is
  * ahead of them; all of them on what the caller promises above, on the Rattle toolchain and on the C compiler.
  *
