@@ -5,6 +5,7 @@ pub mod Counting
 pub mod Deadlines
 mod Grown
 pub mod Handing
+pub mod Idling
 pub mod Keeping
 pub mod Leaving
 pub mod Lines

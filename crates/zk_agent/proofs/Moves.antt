@@ -131,7 +131,7 @@ same_by : {A : Type 0} (b : Bool) (x y : Dialler A) (phase : Phase) → x.phase 
 same_by true x y phase e f = e
 same_by false x y phase e f = f
 
-noted_phase : {A : Type 0} (timeout now : ℕ) (state : State) (ends_row : Bool) (dialler : Dialler A)
+pub noted_phase : {A : Type 0} (timeout now : ℕ) (state : State) (ends_row : Bool) (dialler : Dialler A)
     → (noted timeout now state (row_after ends_row dialler)).phase ≡ dialler.phase
 noted_phase timeout now state ends_row dialler =
     let row : (row_after ends_row dialler).phase ≡ dialler.phase = same_by ends_row _ dialler dialler.phase refl refl in

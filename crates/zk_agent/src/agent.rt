@@ -300,6 +300,10 @@ impl<A: Allocator + Copy> Agent<A> {
             (papers_of self.new.credentials ≡ all_written (is_open self.new.dialler.phase) (papers_in input self.old)) }
         ensures broke { OnErr result (IsBroken self.old self.new) }
     {
+        if self.rests_at(now, &input) {
+            drop(input);
+            return self.pass(now);
+        }
         let mut trees = std::mem::replace(&mut self.trees, Trees::new(self.alloc));
         let mut credentials = std::mem::replace(
             &mut self.credentials,
@@ -369,7 +373,7 @@ impl<A: Allocator + Copy> Agent<A> {
             AgentInput::Failed | AgentInput::Cut => self.end(now, actions),
             AgentInput::Bytes(bytes) => self.bytes(now, bytes, actions),
             AgentInput::Moment | AgentInput::FollowTree { .. } | AgentInput::UnfollowTree { .. } =>
-                { self.step_client(now, zk_client::Input::Now(now), actions) }
+                { self.hear_moment(now, actions) }
             AgentInput::Addresses {
                 kept,
                 added,
@@ -484,7 +488,7 @@ impl<A: Allocator + Copy> Agent<A> {
         ensures broke { OnErr result (IsBroken self.old self.new) }
     {
         self.asker.ask(ticket, call, until)?;
-        self.step_client(now, zk_client::Input::Now(now), actions)
+        self.hear_moment(now, actions)
     }
 
     /// A subject is followed.

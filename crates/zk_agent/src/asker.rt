@@ -31,19 +31,21 @@ pub(crate) struct Asker<A: Allocator + Copy = Global> {
 
 impl<A: Allocator + Copy> Asker<A> {
     ghost use Rattle.std.specs.Prelude.{◌≡◌, ◌++◌, ◌∷◌, ◌<ℤ◌, ℕ, List, pos, map, true, false, [], None, IfOk, OnErr, OnOk, OnSome, All};
-    ghost use Rattle.zk_turns.specs.Turns.{Forgets, Item, Start};
+    ghost use Rattle.zk_turns.specs.Turns.{Forgets, Item, Now, Start};
+    ghost use Rattle.zk_turns.specs.Taken.{NothingIsDue};
     ghost use Rattle.zk_turns.specs.View.{view_at};
     ghost use Rattle.zk_turns.specs.Rule.{forgotten, Stands};
     ghost use Rattle.zk_client.specs.Clients.{renewed_start, view_of};
     ghost use Rattle.zk_client.specs.Views.{input_view};
-    ghost use Rattle.zk_follow.specs.Following.{due_again, fresh, unfollowed, BreaksOff, AreFollowed};
+    ghost use Rattle.zk_follow.specs.Following.{due_again, fresh, ticked, unfollowed, AreFollowed, AreQuiet, BreaksOff};
     ghost use Rattle.zk_trees.specs.Tending.{footing_in, shifted_by, trees_told, Tends};
     ghost use Rattle.zk_agent.specs.Trees.{Alters};
-    ghost use Rattle.zk_calls.specs.Lines.{ended, left};
+    ghost use Rattle.zk_calls.specs.Lines.{ended, left, next_call};
     ghost use Rattle.zk_agent.specs.inner.Agents.{HandsOver};
     ghost use Rattle.zk_agent.specs.Agents.{TakesSo};
     ghost use Rattle.zk_agent.specs.Calls.{closings, endings};
-    ghost use Rattle.zk_agent.specs.Telling.{told_by};
+    ghost use Rattle.zk_agent.specs.Replies.{heard_in};
+    ghost use Rattle.zk_agent.specs.Telling.{told_by, Told};
 
     /// A client that is asked nothing.
     pub(crate) fn new(alloc: A, client: Client<A>) -> Asker<A>
@@ -83,6 +85,27 @@ impl<A: Allocator + Copy> Asker<A> {
             actions,
         ) {
             Ok(heard) => Ok(heard),
+            Err(stop) => {
+                self.line.clear();
+                Err(stop)
+            }
+        }
+    }
+
+    /// Hands the client a moment at which nothing is due of it and of the subjects, of whom there is nothing to tell either.
+    pub(crate) fn pass(&mut self, now: u64) -> Result<(), FollowerStop>
+        requires due { NothingIsDue (view_of self.old.follower.client) now }
+        requires quiet { AreQuiet (view_of self.old.follower.client) self.old.follower.subjects.items }
+        ensures takes { OnOk result ((told : List Told) → TakesSo now (Now now)
+            (view_of self.old.follower.client) self.old.follower.subjects.items self.old.line.entries.items told
+            (view_of self.new.follower.client) self.new.follower.subjects.items self.new.line.entries.items told (heard_in [])) }
+        ensures followed { OnOk result (AreFollowed now (view_of self.new.follower.client) self.new.follower.subjects.items) }
+        ensures line { OnOk result (self.new.line ≡ self.old.line) }
+        ensures view { OnOk result (view_of self.new.follower.client ≡ ticked now (view_of self.old.follower.client)) }
+        ensures broke { OnErr result (BreaksOff (view_of self.old.follower.client) (view_of self.new.follower.client)) }
+    {
+        match self.follower.pass(now, &mut self.room) {
+            Ok(()) => Ok(()),
             Err(stop) => {
                 self.line.clear();
                 Err(stop)
@@ -216,6 +239,16 @@ impl<A: Allocator + Copy> Asker<A> {
         ensures { result ≡ true → ended (Ending.Late now) self.now.line.entries.items ≡ [] }
     {
         !has_come(now, self.line.deadline())
+    }
+
+    /// Whether it is known that nothing is due at this moment, of the client, the subjects and the calls, of which none waits for its turn.
+    pub(crate) fn rests_at(&self, now: u64) -> bool
+        ensures due { result ≡ true → NothingIsDue (view_of self.now.follower.client) now }
+        ensures quiet { result ≡ true → AreQuiet (view_of self.now.follower.client) self.now.follower.subjects.items }
+        ensures next { result ≡ true → next_call self.now.line.entries.items ≡ None }
+        ensures limits { result ≡ true → ended (Ending.Late now) self.now.line.entries.items ≡ [] }
+    {
+        self.line.rests() && self.is_in_time(now) && self.follower.is_quiet_at(now)
     }
 
     /// The calls wait no more whose limit has come.

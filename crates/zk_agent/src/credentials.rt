@@ -1,6 +1,6 @@
 //! The credentials of an agent.
 
-ghost use Rattle.std.specs.Prelude.{◌≡◌, ◌++◌, ◌∷◌, [], false, true, drop, map, nat_lt, OnOk};
+ghost use Rattle.std.specs.Prelude.{◌≡◌, ◌++◌, ◌∷◌, [], false, true, drop, length, map, nat_lt, OnOk};
 ghost use Rattle.zk_agent.specs.Credentials.{all_written, judged_by, judged_in, judging_where, no_papers, papers_of, unwritten};
 ghost use Rattle.zk_agent.specs.inner.Credentials.{verdicts_of};
 ghost use Rattle.zk_agent.specs.Telling.{told_by, Introduces, judged_told};
@@ -54,6 +54,13 @@ impl<A: Allocator> Credentials<A> {
         ensures { result ≡ nat_lt self.now.answered self.now.written }
     {
         self.answered < self.written
+    }
+
+    /// Whether each was written on the connection.
+    pub(crate) fn are_written(&self) -> bool
+        ensures { result ≡ true → (papers_of self.now).written ≡ length (papers_of self.now).frames }
+    {
+        self.written == self.all.len()
     }
 
     /// One more is kept.

@@ -6,7 +6,7 @@ ghost use Rattle.zk_agent.specs.Waits.{heard_input, waited_of};
 
 use crate::action::{Action, push};
 use crate::agent::Agent;
-use crate::moments::is_connected;
+use crate::idle::note_state;
 use crate::replies::Heard;
 use crate::waits::Waits;
 use std::alloc::{AllocError, Allocator};
@@ -102,9 +102,8 @@ impl<A: Allocator + Copy> Agent<A> {
         ensures waits { self.new.waits ≡ self.old.waits }
     {
         let timeout_ms = self.timeout_ms();
-        if is_connected(self.state()) {
-            self.dialler.connected(timeout_ms, now);
-        }
+        let state = self.state();
+        note_state(&mut self.dialler, state, timeout_ms, now);
     }
 
     /// Does what the client's outputs ask for: notes what ends a row of failures, lets a connection go that is over, and notes what waits

@@ -1,6 +1,6 @@
 //! What goes into an agent.
 
-ghost use Rattle.std.specs.Prelude.{◌≡◌};
+ghost use Rattle.std.specs.Prelude.{◌≡◌, true};
 ghost use Rattle.zk_agent.specs.Agents.{heard_after};
 
 use crate::credential::Credential;
@@ -81,4 +81,11 @@ pub(crate) fn heard_moment<A: Allocator + Copy>(
         AgentInput::Bytes(_) if is_open => Some(now),
         _ => was,
     }
+}
+
+/// Whether nothing happens but the moment.
+pub(crate) fn is_moment<A: Allocator + Copy>(input: &AgentInput<A>) -> bool
+    ensures { result ≡ true → input.now ≡ AgentInput.Moment }
+{
+    matches!(input, AgentInput::Moment)
 }

@@ -31,6 +31,7 @@ mod credentials;
 mod frames;
 mod growing;
 mod hearing;
+mod idle;
 mod input;
 mod introducing;
 mod moments;

@@ -32,7 +32,7 @@ impl<A: Allocator + Copy> Agent<A> {
     }
 
     /// Whether a call or a ping has waited for two thirds of the timeout.
-    fn is_late(&self, now: u64) -> bool
+    pub(crate) fn is_late(&self, now: u64) -> bool
         ensures { result
             ≡ has_come now (ends_at (view_of self.now.asker.follower.client).saved.session.timeout (waited_of self.now.waits)) }
     {

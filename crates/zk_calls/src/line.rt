@@ -111,6 +111,13 @@ impl<A: Allocator + Copy> Line<A> {
         self.handed = self.entries.len();
     }
 
+    /// Whether it is known that no call waits for its turn. It takes constant time after [`next`](Line::next) has found none.
+    pub fn rests(&self) -> bool
+        ensures { result ≡ true → next_call self.now.entries.items ≡ None }
+    {
+        self.place_of_next().is_none()
+    }
+
     /// The call whose turn it is: the first of those that wait for theirs, and none where none does. It counts as handed over, and a copy
     /// of it is given. An error means that memory ran out, and nothing has changed then.
     pub fn next(&mut self) -> Result<Option<(u64, Call<A>)>, AllocError>

@@ -23,3 +23,5 @@ pub mod Beside
 pub mod Taking
 pub mod Parting
 pub mod Again
+pub mod Passing
+pub mod Sized

@@ -339,9 +339,9 @@ all_visited (Err e) now outputs old middle new is seen = tt
 pub steps : {A : Type 0} (now : ℕ) (view : View) (input : Input) (outputs : List Output) (between : View) (old : List (Subject A))
     (after : View) (made given : List Output) (new : List (Subject A))
     → RuleAt now view (record { input = input; outputs = outputs }) between → Reads old between [] after made (how_many_reading new)
-    → AreVisited now outputs old new → given ≡ outputs ++ made
+    → AreVisited now outputs old new → length new ≡ length old → given ≡ outputs ++ made
     → Steps now view input old after given new
-steps now view input outputs between old after made given new rule reads visited said = record {
+steps now view input outputs between old after made given new rule reads visited count said = record {
   first = rule.first;
   second = rule.second;
   calls = reads.calls;
@@ -350,6 +350,7 @@ steps now view input outputs between old after made given new rule reads visited
   said = said ∙ ap (λ os. os ++ made) rule.outputs ∙ ap (λ os. (rule.first ++ rule.second) ++ os) reads.said;
   room = reads.room;
   visited = subst (λ os. AreVisited now os old new) rule.outputs visited;
+  count = count;
 }
 
 -- of no subjects
@@ -358,4 +359,4 @@ pub steps_alone : {A : Type 0} (now : ℕ) (view : View) (input : Input) (output
 steps_alone {A} now view input outputs after none size rule =
     subst (λ (ss : List (Subject A)). Steps now view input ss after outputs ss) (sym (nil_from_length none size))
     (steps now view input outputs after [] after [] outputs [] rule (no_reads [] after [] 0)
-    (λ k d within. absurd (omega (arith, within))) (sym (append-nil outputs)))
+    (λ k d within. absurd (omega (arith, within))) refl (sym (append-nil outputs)))

@@ -17,8 +17,9 @@ use Rattle.zk_session.specs.declared.states.State.TheVariants.{Connected}
 use Rattle.zk_turns.specs.Turns.{Outcome, Replied, TooManyWatches as Too_many_watches, TooLarge as Too_large}
 use Rattle.zk_turns.specs.Turns.{SessionClosed as Session_closed, Output, Enters, Input, Now, Turn}
 use Rattle.zk_turns.specs.Turns as turns
+use Rattle.zk_turns.specs.Past.{Ticked}
 use Rattle.zk_turns.specs.View.{View, Cache}
-use Rattle.zk_turns.specs.Rule.{Rule, HaltsAs}
+use Rattle.zk_turns.specs.Rule.{next, Rule, HaltsAs}
 use Rattle.zk_limits.specs.declared.limits.TheConstants.{MOST_PENDING}
 use Rattle.zk_follow.specs.declared.progress.Progress.{Progress}
 use Rattle.zk_follow.specs.declared.progress.Progress.TheVariants.{Due, Reading, Refused}
@@ -258,6 +259,7 @@ pub record Steps {A : Type 0} (now : ℕ) (view : View) (input : Input) (old : L
   pub said : given ≡ (first ++ second) ++ outputs_in calls
   pub room : (calls ≡ []) ⊎ LeavesRoom new
   pub visited : AreVisited now (first ++ second) old new
+  pub count : length new ≡ length old
 
 -- ---- where memory runs out
 
@@ -374,6 +376,14 @@ is_among number numbers = list_any (λ its. number == its) numbers
 abbrev pub AreQuietBut : {A : Type 0} → View → (count : ℕ) → List (Subject A) → (awake : List ℕ) → Type 0
 AreQuietBut {A} view count subjects awake =
     (k : ℕ) (d : Subject A) → k < count → is_among k awake ≡ false → is_quiet view (slice_index_or subjects k d) ≡ true
+
+-- Each is quiet.
+abbrev pub AreQuiet : {A : Type 0} → View → List (Subject A) → Type 0
+AreQuiet view subjects = All (λ subject. is_quiet view subject ≡ true) subjects
+
+-- a client that was told a moment at which nothing is due
+abbrev pub ticked : (now : ℕ) → View → View
+ticked now view = next view (Ticked now)
 
 -- each was told of
 abbrev pub told_of : {A : Type 0} → View → Subject A → Subject A

@@ -4,14 +4,15 @@ ghost use Rattle.std.specs.Prelude.{◌≡◌, ◌++◌, ◌∷◌, ◌<ℤ◌, 
 ghost use Rattle.std.specs.Prelude.{◌≤◌, ◌<◌, All, IfSome, slice_index_or};
 ghost use Rattle.std.specs.List.{flat_map, remove};
 ghost use Rattle.std.proofs.Props.{props};
-ghost use Rattle.zk_turns.specs.Turns.{Forgets, Item, Start};
+ghost use Rattle.zk_turns.specs.Turns.{Forgets, Item, Now, Start};
+ghost use Rattle.zk_turns.specs.Taken.{NothingIsDue};
 ghost use Rattle.zk_turns.specs.View.{View, view_at};
 ghost use Rattle.zk_turns.specs.Rule.{forgotten, Stands};
 ghost use Rattle.zk_client.specs.Clients.{renewed_start, view_of};
 ghost use Rattle.zk_client.specs.Views.{input_view, said};
 ghost use Rattle.zk_follow.specs.Following.{due_again, first_again, first_of, again_at, fresh, heard_all, news_in, told_of, unfollowed};
-ghost use Rattle.zk_follow.specs.Following.{how_many_reading, taken, unfollowed_all};
-ghost use Rattle.zk_follow.specs.Following.{AreFollowed, AreQuietBut, AreVisited, BreaksOff, IsAhead, IsCounted, Steps};
+ghost use Rattle.zk_follow.specs.Following.{how_many_reading, taken, ticked, unfollowed_all};
+ghost use Rattle.zk_follow.specs.Following.{AreFollowed, AreQuiet, AreQuietBut, AreVisited, BreaksOff, IsAhead, IsCounted, Steps};
 ghost use Rattle.zk_follow.specs.inner.Following.{AreSeen, Asks, Reads};
 ghost use Rattle.zk_follow.specs.Owning.{AreOwn};
 ghost use Rattle.zk_follow.specs.inner.Owning.{asks_to_watch};
@@ -322,6 +323,16 @@ fn first_again<A: Allocator>(subjects: &[Subject<A>]) -> Option<u64>
     first
 }
 
+/// Whether nothing is due of a client at this moment.
+fn is_idle<A: Allocator + Copy>(client: &Client<A>, now: u64) -> bool
+    ensures { result ≡ true → NothingIsDue (view_of client.now) now }
+{
+    match client.deadline() {
+        Some(first) => now < first,
+        None => true,
+    }
+}
+
 /// The client is one of another session, which keeps the last seen zxid.
 fn begin_client<A: Allocator + Copy>(
     alloc: A,
@@ -395,6 +406,46 @@ impl<A: Allocator + Copy> Follower<A> {
         ensures { view_of result.now ≡ view_of self.now.client }
     {
         &self.client
+    }
+
+    /// Whether it is known without a look at each that all subjects are quiet: what is kept of them is good, and that was told.
+    fn are_quiet(&self) -> bool
+        ensures { result ≡ true → AreQuiet (view_of self.now.client) self.now.subjects.items }
+    {
+        self.awake.is_empty() && self.index.count() == self.subjects.len()
+    }
+
+    /// Whether it is known that nothing is due at this moment, neither of the client nor of a subject, and that there is nothing to tell of
+    /// any.
+    pub fn is_quiet_at(&self, now: u64) -> bool
+        ensures due { result ≡ true → NothingIsDue (view_of self.now.client) now }
+        ensures quiet { result ≡ true → AreQuiet (view_of self.now.client) self.now.subjects.items }
+    {
+        self.are_quiet() && is_idle(&self.client, now)
+    }
+
+    /// Takes a moment at which it is [quiet](Follower::is_quiet_at), and does what [`step`](Follower::step) does of [`Input::Now`], without
+    /// a look at any subject: the client says nothing, and there is nothing to tell. An error is that of a step.
+    pub fn pass(&mut self, now: u64, room: &mut Vec<Output<A>, A>) -> Result<(), FollowerStop>
+        requires due { NothingIsDue (view_of self.old.client) now }
+        requires quiet { AreQuiet (view_of self.old.client) self.old.subjects.items }
+        ensures steps { OnOk result (Steps now (view_of self.old.client) (Now now) self.old.subjects.items
+            (view_of self.new.client) [] self.old.subjects.items) }
+        ensures followed { OnOk result (AreFollowed now (view_of self.new.client) self.old.subjects.items) }
+        ensures told { OnOk result (map (told_of (view_of self.new.client)) self.old.subjects.items ≡ self.old.subjects.items) }
+        ensures news { OnOk result (flat_map (news_in (view_of self.new.client) []) self.old.subjects.items ≡ []) }
+        ensures subjects { OnOk result (self.new.subjects.items ≡ self.old.subjects.items) }
+        ensures view { OnOk result (view_of self.new.client ≡ ticked now (view_of self.old.client)) }
+        ensures err { OnErr result (self.new.subjects.items ≡ []) }
+        ensures broke { OnErr result (BreaksOff (view_of self.old.client) (view_of self.new.client)) }
+    {
+        let Ok(()) = self.client.tick_into(now, room) else {
+            self.index = Index::new(self.alloc);
+            self.is_foreign = true;
+            self.subjects.clear();
+            return Err(FollowerStop::Halted);
+        };
+        Ok(())
     }
 
     /// Hands the client an input that is noticed at this moment, and reads each subject that is to be read. The outputs are in order; those

@@ -333,7 +333,8 @@ pub(crate) fn fit_all<A: Allocator + Copy>(
     index: &mut Index<A>,
     awake: &mut Vec<usize, A>,
 ) -> Result<(), AllocError>
-    requires { AreFound index.old subjects.now }
+    requires some { 0 < length subjects.now }
+    requires found { AreFound index.old subjects.now }
     ensures sized { OnOk result (0 < length index.new.keys.buckets.items) }
     ensures count { OnOk result (index.new.count ≡ length subjects.now) }
     ensures found { OnOk result (AreFound index.new subjects.now) }
@@ -341,6 +342,9 @@ pub(crate) fn fit_all<A: Allocator + Copy>(
         → AreQuietBut view index.new.count subjects.now awake.new.items) }
 {
     let known = index.count();
+    if known == subjects.len() {
+        return Ok(());
+    }
     index.fit(alloc, subjects)?;
     for place in known..subjects.len() {
         awake.push(place)?;

@@ -123,13 +123,13 @@ fn is_reported_where<A: Allocator + Copy>(
     has_report: bool,
     reported: &Reported<A>,
     path: &Path<A>,
-    _outputs: &[Output<A>],
+    outputs: &[Output<A>],
 ) -> bool
-    requires has_report { has_report ≡ list_any is_report (said _outputs.now) }
-    requires reported { AreReported reported.now (said _outputs.now) }
-    ensures { result ≡ is_reported path.now (said _outputs.now) }
+    requires has_report { has_report ≡ list_any is_report (said outputs.now) }
+    requires reported { reported.now.is_few ≡ false → AreReported reported.now (said outputs.now) }
+    ensures { result ≡ is_reported path.now (said outputs.now) }
 {
-    has_report && reported.has(path)
+    has_report && reported.is_there(path, outputs)
 }
 
 /// Adds what there is to tell, if there is something, with the ticket of the subject.
@@ -157,7 +157,7 @@ impl<A: Allocator + Copy> Subject<A> {
         all: &mut Vec<(u64, News), A>,
     ) -> Result<(), AllocError>
         requires has_report { has_report ≡ list_any is_report (said outputs.now) }
-        requires reported { AreReported reported.now (said outputs.now) }
+        requires reported { reported.now.is_few ≡ false → AreReported reported.now (said outputs.now) }
         ensures news { OnOk result (all.new.items ≡ all.old.items ++ news_in (view_of client.now) (said outputs.now) self.old) }
         ensures told { self.new ≡ told_of (view_of client.now) self.old }
     {

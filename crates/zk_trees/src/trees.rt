@@ -130,8 +130,8 @@ impl<A: Allocator + Copy> Trees<A> {
     ghost use Rattle.zk_trees.specs.inner.Tending.{footing_of};
     ghost use Rattle.zk_trees.specs.Tending.{Plants, Tends, TendsEach, Uproots, UprootsSo, shifted_by, trees_told};
 
-    /// Whether trees rest at this moment.
-    fn are_at_rest(&self, now: u64) -> bool
+    /// Whether trees rest at this moment: [`tend`](Trees::tend) leaves them as they are.
+    pub fn are_at_rest(&self, now: u64) -> bool
         ensures { result ≡ are_at_rest now self.now }
     {
         !self.is_behind || now < self.due

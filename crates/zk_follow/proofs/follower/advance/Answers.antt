@@ -1,6 +1,6 @@
 -- Of no subjects each clause holds, whatever the client says.
-use Rattle.std.proofs.Common.{◌≡◌, ◌∙◌, arith, length, sym}
-use Rattle.std.proofs.lemmas.Bool.Decides.{Decides-eqb}
+use Rattle.std.proofs.Common.{◌≡◌, ◌∙◌, ◌==◌, arith, false, length, sym}
+use Rattle.std.proofs.lemmas.Bool.Decides.{Decides-eqb, nat_tests}
 use Rattle.zk_client.specs.Clients.{view_of}
 use Rattle.zk_follow.proofs.Breaking.{beside, ok_always}
 use Rattle.zk_follow.proofs.follower.advance.Goals as goal
@@ -44,3 +44,8 @@ returns-in_default-clause-broke g c = beside (view_of c.args.client.now)
 
 pub advance_all-requires-clause-rest : goal.advance_all-requires-clause-rest
 advance_all-requires-clause-rest g c = c.in-Ok.ensures.rest (view_of c.args.client.now) c.requires.rest
+
+pub fit_all-requires-clause-some : goal.fit_all-requires-clause-some
+fit_all-requires-clause-some g c =
+    let some : (length c.args.subjects.now == 0) ≡ false = sym c.is_empty.ensures ∙ c.if-is_empty.false in
+    grind (arith, nat_tests)

@@ -108,6 +108,7 @@ returns-in-Ok-append-clause-steps g c =
     c.in_ok-visit_all.ensures.reads)
     (subst (λ outputs. AreVisited c.args.now (said outputs) c.args.subjects.now c.visit_all.new.subjects) c.as_slice-4.ensures.value
     c.in_ok-visit_all.ensures.visited)
+    c.visit_all.auto.subjects
     (ap said c.in-Ok-append.ensures.items ∙ map-append output_view c.step_at_into.new.outputs.items c.visit_all.new.made.items)
 
 pub returns-in-Ok-append-clause-ahead : goal.returns-in-Ok-append-clause-ahead

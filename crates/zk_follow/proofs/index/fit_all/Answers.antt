@@ -1,7 +1,9 @@
--- One more place is there, and those that were; what was quiet stays so, and what is new is awake: `quiet_more`.
-use Rattle.std.proofs.Common.{◌∙◌, ap, arith, sym, subst}
+-- One more place is there, and those that were; what was quiet stays so, and what is new is awake: `quiet_more`. Where the index is of all,
+-- it has a bucket, since some place is in it: `sized_by`.
+use Rattle.std.proofs.Common.{◌≡◌, ◌∙◌, ap, arith, length, rules, sym, subst}
 use Rattle.zk_follow.specs.Following.{is_among, AreQuietBut}
 use Rattle.zk_follow.proofs.Finding.{quiet_more, woken_more}
+use Rattle.zk_follow.proofs.Sized.{sized_by}
 use Rattle.zk_follow.proofs.Placing.{among_before}
 use Rattle.zk_follow.proofs.index.fit_all.Goals as goal
 
@@ -19,3 +21,11 @@ returns-clause-rest g c = λ view quiet.
     c.loop-place.invariant.had
     (λ at above below. c.loop-place.invariant.woken at above (omega (arith, below, c.loop-place-test.false, c.in_ok-fit.ensures.count)))
     (subst (λ n. AreQuietBut view n c.args.subjects.now c.args.awake.now.items) (sym c.count-known.ensures) quiet)
+
+pub returns-then-known-subjects-clause-sized : goal.returns-then-known-subjects-clause-sized
+returns-then-known-subjects-clause-sized g c =
+    let whole : c.args.index.now.count ≡ length c.args.subjects.now = search rules in
+    sized_by c.args.index.now c.args.subjects.now c.requires.found c.requires.some whole
+
+pub returns-then-known-subjects-clause-rest : goal.returns-then-known-subjects-clause-rest
+returns-then-known-subjects-clause-rest g c = λ view quiet. quiet

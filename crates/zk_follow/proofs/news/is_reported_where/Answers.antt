@@ -7,4 +7,4 @@ use Rattle.zk_follow.proofs.news.is_reported_where.Goals as goal
 pub returns-else-has_report : goal.returns-else-has_report
 returns-else-has_report g c =
     c.if-has_report.false
-    ∙ sym (unreported_where c.args.path.now (said c.args._outputs.now) (sym c.requires.has_report ∙ c.if-has_report.false))
+    ∙ sym (unreported_where c.args.path.now (said c.args.outputs.now) (sym c.requires.has_report ∙ c.if-has_report.false))

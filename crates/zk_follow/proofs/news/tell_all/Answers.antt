@@ -1,7 +1,7 @@
 -- Who is told of is found by the index (`told_by`), and who is not stays quiet (`quiet_told`).
-use Rattle.std.proofs.Common.{◌≡◌, ◌<◌, ◌∙◌, ◌++◌, ℕ, true, ap, map, refl, sym, subst, length}
+use Rattle.std.proofs.Common.{◌≡◌, ◌<◌, ◌∙◌, ◌++◌, ◌==◌, ℕ, true, false, ap, arith, map, refl, sym, subst, length}
 use Rattle.std.specs.List.{flat_map}
-use Rattle.std.proofs.lemmas.Bool.Decides.{Decides-eqb}
+use Rattle.std.proofs.lemmas.Bool.Decides.{Decides-eqb, nat_tests}
 use Rattle.std.proofs.lemmas.List.{append-nil, nil_from_length}
 use Rattle.std.specs.Prelude.{All}
 use Rattle.zk_client.specs.Clients.{view_of}
@@ -69,3 +69,8 @@ returns-then-is_empty-clause-told g c =
     let none : length c.args.subjects.now ≡ 0 =
     (Decides-eqb (length c.args.subjects.now) 0).0 (sym c.is_empty.ensures ∙ c.if-is_empty.true) in
     subst (λ ss. ss ≡ map (told_of (view_of c.args.client.now)) ss) (sym (nil_from_length c.args.subjects.now none)) refl
+
+pub fit_all-requires-clause-some : goal.fit_all-requires-clause-some
+fit_all-requires-clause-some g c =
+    let some : (length c.args.subjects.now == 0) ≡ false = sym c.is_empty.ensures ∙ c.if-is_empty.false in
+    grind (arith, nat_tests)

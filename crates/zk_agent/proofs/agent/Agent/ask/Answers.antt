@@ -19,8 +19,8 @@ returns-clause-comes g c =
       subjects = c.ask.new.self.follower.subjects.items;
       line = c.ask.new.self.line.entries.items;
     } in
-    ok_after c.step_client.result c.args.now (Asks c.args.ticket (call_view c.args.call) c.args.until ∷ [])
-    (Hears c.args.now (Now c.args.now) ∷ []) old between (trail_of c.step_client.new.self c.step_client.new.actions.items)
+    ok_after c.hear_moment.result c.args.now (Asks c.args.ticket (call_view c.args.call) c.args.until ∷ [])
+    (Hears c.args.now (Now c.args.now) ∷ []) old between (trail_of c.hear_moment.new.self c.hear_moment.new.actions.items)
     (gives c.args.now (Asks c.args.ticket (call_view c.args.call) c.args.until) old between refl tt (record {
       entry = entry;
       its_ticket = refl;
@@ -30,7 +30,7 @@ returns-clause-comes g c =
       last = trail_eq (record old { line = old.line ++ entry ∷ [] }) between
           (ap (λ (f : Follower g.row.A.Denot). view_of f.client) c.ask.ensures.follower)
           (ap (λ (f : Follower g.row.A.Denot). f.subjects.items) c.ask.ensures.follower) c.in_ok-ask.ensures.line refl refl refl refl;
-    })) c.step_client.ensures.comes
+    })) c.hear_moment.ensures.comes
 
 pub returns-in_err-ask-clause-broke : goal.returns-in_err-ask-clause-broke
 returns-in_err-ask-clause-broke g c =

@@ -15,7 +15,7 @@ loop-output-preserved g c =
     c.loop-output-test.true c.output-item.is c.in_ok-note.ensures c.loop-output.invariant
 
 pub returns : goal.returns
-returns g c =
+returns g c = λ few.
     let past : length c.args.outputs.now ≤ c.loop-output.output-index = omega (arith, c.loop-output-test.false) in
     subst (λ outputs. AreReported c.loop-output.reported (said outputs)) (take_all c.loop-output.output-index c.args.outputs.now past)
     c.loop-output.invariant
