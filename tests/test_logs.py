@@ -16,15 +16,16 @@ from tables import HERE
 
 FIRST, SECOND = ((HERE / "logs" / name).read_bytes() for name in ("log.1", "log.11"))
 PRINTED = (HERE / "logs/printed").read_text(encoding="utf-8").splitlines(keepends=True)
-RECORDS = {13: 975, 15: 1278, 16: 1390}
-"""The place of the record of a zxid of the first log."""
+RECORDS = {13: 975, 14: 1142, 15: 1278, 16: 1390, 20: 195, 22: 402}
+"""The place of the record of a zxid in its log."""
 END = 1478
 """The place after the last record of the first log."""
 
 
-def lines(first: int, last: int) -> str:
-    """What is printed of these zxids."""
-    return "".join(line for line in PRINTED if first <= int(line.split(" ")[0]) <= last)
+def lines(first: int, last: int, more: int = 0) -> str:
+    """What is printed of these zxids, if they are so many more."""
+    printed = [line.split(" ", 1) for line in PRINTED]
+    return "".join(f"{int(zxid) + more} {rest}" for zxid, rest in printed if first <= int(zxid) <= last)
 
 
 def put(log: bytes, place: int, part: bytes) -> bytes:
@@ -33,8 +34,77 @@ def put(log: bytes, place: int, part: bytes) -> bytes:
 
 def with_unknown(log: bytes) -> bytes:
     """The second log with a record more, of an unknown operation, with its right checksum."""
-    entry = struct.pack(">qiqqi", 0, 0, 23, 0, 77)
-    return log[:459] + struct.pack(">qi", zlib.adler32(entry), len(entry)) + entry + b"B" + log[459:]
+    return log[:459] + record(struct.pack(">qiqqi", 0, 0, 23, 0, 77)) + log[459:]
+
+
+def record(entry: bytes) -> bytes:
+    return struct.pack(">qi", zlib.adler32(entry), len(entry)) + entry + b"B"
+
+
+def entry_at(log: bytes, place: int) -> bytes:
+    (length,) = struct.unpack_from(">i", log, place + 8)
+    return log[place + 12 : place + 12 + length]
+
+
+def with_digest(log: bytes, zxid: int, version: int = 2) -> bytes:
+    """The log with another digest in the record of a zxid, and its right checksum."""
+    entry = entry_at(log, RECORDS[zxid])
+    return put(log, RECORDS[zxid], record(entry[:-12] + struct.pack(">i", version) + entry[-8:-1] + bytes([entry[-1] ^ 1])))
+
+
+def departs(name: str, place: int, zxid: int) -> str:
+    """What is told of a wrong digest, and the exit status."""
+    return f"|{name}: byte {place}: zxid {zxid} has the digest of another tree: transactions before it are missing, or were taken back\n|1"
+
+
+def without_digest(log: bytes, zxid: int) -> bytes:
+    place = RECORDS[zxid]
+    entry = entry_at(log, place)
+    return log[:place] + record(entry[:-12]) + log[place + 13 + len(entry) :]
+
+
+def with_error(log: bytes, zxid: int) -> bytes:
+    """The log with a transaction that changes nothing in place of that of a zxid, as if another one had been taken back."""
+    place = RECORDS[zxid]
+    entry = entry_at(log, place)
+    return log[:place] + record(entry[:28] + struct.pack(">ii", -1, -101)) + log[place + 13 + len(entry) :]
+
+
+CREATE = struct.pack(">i2s", 2, b"/z") + bytes(4) + struct.pack(">i", 0) + b"\0" + struct.pack(">i", 9)
+WRITE = struct.pack(">i1s", 1, b"/") + bytes(4) + struct.pack(">i", 1)
+PARTS = struct.pack(">i", 2) + b"".join(struct.pack(">ii", kind, len(part)) + part for kind, part in ((1, CREATE), (5, WRITE)))
+"""The fields of a create of a node at the root, of a write of the root, and of a multi of both."""
+
+
+def with_more(log: bytes, bodies: list[tuple[int, bytes]]) -> bytes:
+    """The first log with these operations more, each with a digest of no tree."""
+    more = [struct.pack(">qiqqi", 7, 1, 17 + i, 8, kind) + body + struct.pack(">iq", 2, 3) for i, (kind, body) in enumerate(bodies)]
+    return log[:END] + b"".join(map(record, more))
+
+
+def place_after(bodies: list[tuple[int, bytes]]) -> int:
+    """The place after these operations, which come after the first log."""
+    return END + sum(13 + 32 + len(body) + 12 for _, body in bodies)
+
+
+QUIET = [(5, WRITE), *1000 * [(-10, struct.pack(">i", 9))]]
+"""A write of the root, and as many transactions after it as are not compared."""
+QUIET_LINES = "17 8 7 set / \\e 1\n" + "".join(f"{zxid} 8 7 open 9\n" for zxid in range(18, 1018))
+MADE = [(5, WRITE), *((1, struct.pack(">i5s", 5, b"/z%03d" % i) + CREATE[6:]) for i in range(200))]
+"""A write of the root, and creates of 200 nodes: the tree has 208 then."""
+MADE_LINES = "17 8 7 set / \\e 1\n" + "".join(f"{18 + i} 8 7 create /z{i:03} \\e 0\n" for i in range(200))
+CLOSES = (217 * 64) // (208 - 64)
+"""How often all nodes may be gone over."""
+
+
+def in_next_epoch(log: bytes, before: int) -> bytes:
+    """The log with its zxids in the next epoch, from 1 on: they were one more than this number before."""
+    place, moved = 16, log[:16]
+    while entry := entry_at(log, place):
+        place += 13 + len(entry)
+        (zxid,) = struct.unpack_from(">q", entry, 12)
+        moved += record(put(entry, 12, struct.pack(">q", zxid - before + 2**32)))
+    return moved + log[place:]
 
 
 Files = dict[str, bytes]
@@ -64,7 +134,7 @@ ROWS: list[tuple[str, Files, str, str]] = [
         "--log a b --path /e1",
         "20 1795889146666 72058148326866945 create /e1 78 72058148326866945\n22 1795889146684 72058148326866945 delete /e1\n||0",
     ),
-    ("logs that do not begin with the first transaction", {"b": SECOND}, "--log b --path /a", "unknown /a\n||0"),
+    ("logs that do not begin with the first transaction", {"b": SECOND}, "--log b --path /a", "unknown /a\nunchecked b 16\n||0"),
     ("a path of them at a zxid", {"b": SECOND}, "--log b --path /a --at 20", "unknown /a\n||0"),
     ("a path that servers begin with", {"a": FIRST}, "--log a --path /zookeeper --at 16", "unknown /zookeeper\n||0"),
     (
@@ -74,6 +144,66 @@ ROWS: list[tuple[str, Files, str, str]] = [
         "4 1795889114434 72058146216280065 create /a 78 0\n6 1795889114460 72058146216280065 set /a 79 1\ngap 15 16\n||0",
     ),
     ("a path after a gap", {"a": FIRST[: RECORDS[15]], "b": SECOND}, "--log a b --path /a --at 20", "unknown /a\n||0"),
+    ("another digest", {"a": with_digest(FIRST, 13)}, "--log a", f"{lines(1, 12)}digest a 975\n{lines(13, 16)}{departs('a', 975, 13)}"),
+    (
+        "the first of two",
+        {"a": with_digest(with_digest(FIRST, 13), 16)},
+        "--log a",
+        f"{lines(1, 12)}digest a 975\n{lines(13, 16)}{departs('a', 975, 13)}",
+    ),
+    ("a digest of another version", {"a": with_digest(FIRST, 13, 3)}, "--log a", f"{lines(1, 12)}unchecked a 975\n{lines(13, 16)}||0"),
+    ("no digest", {"a": without_digest(FIRST, 13)}, "--log a", f"{lines(1, 12)}unchecked a 975\n{lines(13, 16)}||0"),
+    (
+        "a multi that writes the root, whose digest servers get wrong",
+        {"a": with_more(FIRST, [(14, PARTS)])},
+        "--log a",
+        f"{lines(1, 16)}17 8 7 create /z \\e 0\n17 8 7 set / \\e 1\n||0",
+    ),
+    (
+        "a child of the root, made while a write of the root is on its way",
+        {"a": with_more(FIRST, [(5, WRITE), (1, CREATE)])},
+        "--log a",
+        f"{lines(1, 16)}17 8 7 set / \\e 1\n18 8 7 create /z \\e 0\n||0",
+    ),
+    (
+        "the last digest that is not compared after a write of the root",
+        {"a": with_more(FIRST, QUIET)},
+        "--log a",
+        f"{lines(1, 16)}{QUIET_LINES}||0",
+    ),
+    (
+        "the next one",
+        {"a": with_more(FIRST, [*QUIET, QUIET[1]])},
+        "--log a",
+        f"{lines(1, 16)}{QUIET_LINES}digest a {place_after(QUIET)}\n1018 8 7 open 9\n{departs('a', place_after(QUIET), 1018)}",
+    ),
+    (
+        "closes that tell no paths, each of which goes over all nodes",
+        {"a": with_more(FIRST, [*MADE, *(CLOSES + 1) * [(-11, b"")]])},
+        "--log a",
+        f"{lines(1, 16)}{MADE_LINES}" + "".join(f"{218 + i} 8 7 close\n" for i in range(CLOSES))
+        + f"unchecked a {place_after([*MADE, *CLOSES * [(-11, b'')]])}\n{218 + CLOSES} 8 7 close\n||0",
+    ),
+    ("a digest in logs that begin later", {"b": with_digest(SECOND, 20)}, "--log b", f"unchecked b 16\n{lines(17, 22)}||0"),
+    (
+        "the digest after a close that tells no paths",
+        {"a": FIRST, "b": with_digest(SECOND, 22)},
+        "--log a b",
+        f"{lines(1, 21)}digest b 402\n{lines(22, 22)}{departs('b', 402, 22)}",
+    ),
+    (
+        "another transaction in place of one",
+        {"a": with_error(FIRST, 13)},
+        "--log a",
+        f"{lines(1, 12)}13 1795889114479 72058146216280065 error -101\ndigest a 1024\n{lines(14, 16)}{departs('a', 1024, 14)}",
+    ),
+    ("a path that it may have changed", {"a": with_error(FIRST, 13)}, "--log a --path /b --at 16", f"unknown /b\n{departs('a', 1024, 14)}"),
+    (
+        "the end of an epoch is missing",
+        {"a": FIRST[: RECORDS[15]], "b": in_next_epoch(SECOND, 16)},
+        "--log a b",
+        f"{lines(1, 14)}digest b 16\n{lines(17, 22, 2**32 - 16)}{departs('b', 16, 2**32 + 1)}",
+    ),
     ("no zeros", {"a": FIRST[:END]}, "--log a", f"{lines(1, 16)}||0"),
     ("a header alone", {"a": FIRST[:16]}, "--log a", "||0"),
     ("a header and zeros", {"a": FIRST[:16] + bytes(64)}, "--log a", "||0"),
@@ -129,6 +259,10 @@ class LogTest(unittest.TestCase):
     def test_objects(self) -> None:
         printed, told, status = self._end_of({"a": FIRST}, "--log a --path /a --json").split("|")
         self.assertEqual((OBJECTS, "", "0"), ([json.loads(line) for line in printed.splitlines()], told, status))
+        printed = self._end_of({"a": with_digest(FIRST, 13)}, "--log a --path /p --json").split("|")[0]
+        self.assertEqual({"digest": "a", "byte": 975}, json.loads(printed.splitlines()[0]))
+        printed = self._end_of({"b": SECOND}, "--log b --path /p --json").split("|")[0]
+        self.assertEqual([{"unknown": "/p"}, {"unchecked": "b", "byte": 16}], [json.loads(line) for line in printed.splitlines()])
 
     def test_each_cut_is_torn_or_whole(self) -> None:
         """As long as a record has zeros alone, as the first half of a checksum, it is none yet."""

@@ -107,15 +107,16 @@ pub(crate) fn gap_object<A: Allocator + Copy>(
     line_with(writer)
 }
 
-/// The object of a record that is cut off.
-pub(crate) fn torn_object<A: Allocator + Copy>(
+/// The object of a remark on the record at a place of a file, under a key.
+pub(crate) fn record_object<A: Allocator + Copy>(
     alloc: A,
+    key: &str,
     name: &str,
     place: usize,
 ) -> Result<Vec<u8, A>, AllocError> {
     let mut writer = Writer::new(Vec::new(alloc));
     writer.begin_object()?;
-    put_text(&mut writer, "torn", name)?;
+    put_text(&mut writer, key, name)?;
     writer.key("byte")?;
     writer.u64(place as u64)?;
     line_with(writer)

@@ -1,6 +1,7 @@
 //! `zk_shell history --log`: what a server's transaction logs say of each path.
 #![tactic(auto)]
 
+mod checked;
 mod fields;
 mod json_line;
 mod line;
@@ -11,5 +12,5 @@ mod usage;
 
 pub use order::LogsFault;
 pub use plan::{LogPlan, asks_log, plan_of};
-pub use tell::history_of;
+pub use tell::{LogText, history_of};
 pub use usage::{LOG_HELP, LogUsage};

@@ -82,13 +82,14 @@ pub(crate) fn gap_of<A: Allocator + Copy>(
     Ok(text)
 }
 
-/// The line of a record that is cut off.
-pub(crate) fn torn_of<A: Allocator + Copy>(
+/// The line of a remark on the record at a place of a file: a word, the file and the place.
+pub(crate) fn record_of<A: Allocator + Copy>(
     alloc: A,
+    word: &str,
     name: &str,
     place: usize,
 ) -> Result<String<A>, AllocError> {
-    let mut text = String::from_str(alloc, "torn")?;
+    let mut text = String::from_str(alloc, word)?;
     push_name(&mut text, alloc, name.as_bytes())?;
     push_word(&mut text, alloc, &place)?;
     text.push_str("\n")?;

@@ -1,19 +1,28 @@
 //! What is told of logs.
 
+use crate::checked::{CheckedTree, Shown};
 use crate::fields::{Deed, Stamp, filled, named, plain};
-use crate::json_line::{gap_object, object_of, remark_object, torn_object};
-use crate::line::{gap_of, line_of, remark_of, torn_of};
+use crate::json_line::{gap_object, object_of, record_object, remark_object};
+use crate::line::{gap_of, line_of, record_of, remark_of};
 use crate::order::{LogsFault, NumberedLog, in_order};
 use crate::plan::LogPlan;
 use std::alloc::{AllocError, Allocator};
-use zk_log::{EntryFault, LogEntry, PartTxn, Txn};
+use zk_log::{EntryFault, LogEntry, PartTxn, PlacedEntry, Txn};
 
 /// Zxids of one epoch: the lower half counts, the upper one is the epoch.
 const EPOCH: i64 = 4_294_967_296;
 
+/// What is told of logs.
+#[derive(Drop)]
+pub struct LogText<A: Allocator> {
+    pub text: Vec<u8, A>,
+    /// What is wrong with logs that can be told.
+    pub fault: Option<LogsFault>,
+}
+
 /// What was told so far.
 #[derive(Drop)]
-struct Told<A: Allocator> {
+struct Told<A: Allocator + Copy> {
     out: Vec<u8, A>,
     /// The last zxid, or 0.
     last: i64,
@@ -23,6 +32,10 @@ struct Told<A: Allocator> {
     is_told: bool,
     /// The session that owns the path's node, if the logs tell one.
     owner: i64,
+    /// The tree, as long as digests are compared.
+    checked: Option<CheckedTree<A>>,
+    /// The first digest that departs.
+    fault: Option<LogsFault>,
 }
 
 /// Whether a zxid is the first that servers give.
@@ -99,19 +112,20 @@ impl<A: Allocator + Copy> Told<A> {
         }
     }
 
-    /// Adds that a record is cut off.
-    fn add_torn(
+    /// Adds a remark on the record at a place of a file.
+    fn add_record(
         &mut self,
         alloc: A,
         json: bool,
+        word: &str,
         name: &str,
         place: usize,
     ) -> Result<(), AllocError> {
         if json {
-            let line = torn_object(alloc, name, place)?;
+            let line = record_object(alloc, word, name, place)?;
             self.add(line.as_slice())
         } else {
-            let line = torn_of(alloc, name, place)?;
+            let line = record_of(alloc, word, name, place)?;
             self.add(line.as_bytes())
         }
     }
@@ -159,14 +173,56 @@ impl<A: Allocator + Copy> Told<A> {
         let Some(from) = missing(self.last, zxid) else {
             return Ok(());
         };
+        self.forget(plan);
+        match plan.at {
+            Some(_) => Ok(()),
+            None => self.add_gap(alloc, plan.json, from, zxid.saturating_sub(1)),
+        }
+    }
+
+    /// What happened before is not all in the logs.
+    fn forget(&mut self, plan: &LogPlan<'_, A>) {
         self.is_known = false;
         self.is_told = false;
         self.owner = 0;
+        self.checked = None;
         if plan.at.is_some() {
             self.out.clear();
+        }
+    }
+
+    /// Compares the digest of a record of a file: from the first transaction on, as far as all that happened is in the logs.
+    fn check(
+        &mut self,
+        alloc: A,
+        plan: &LogPlan<'_, A>,
+        number: usize,
+        one: &PlacedEntry<'_, A>,
+    ) -> Result<(), EntryFault> {
+        let Some(checked) = &mut self.checked else {
+            return Ok(());
+        };
+        let shown = if self.is_known {
+            checked.follow(&one.entry)?
+        } else {
+            Shown::Unchecked
+        };
+        let word = match shown {
+            Shown::Nothing => return Ok(()),
+            Shown::Unchecked => "unchecked",
+            Shown::Departs => {
+                self.forget(plan);
+                self.fault = Some(LogsFault::Digest(number, one.place, one.entry.zxid));
+                "digest"
+            }
+        };
+        self.checked = None;
+        if plan.at.is_some() {
             return Ok(());
         }
-        self.add_gap(alloc, plan.json, from, zxid.saturating_sub(1))
+        let name = plan.files.get(number).copied().unwrap_or("");
+        self.add_record(alloc, plan.json, word, name, one.place)
+            .map_err(From::from)
     }
 
     /// Tells of what an operation did. A multi does what its parts do.
@@ -289,7 +345,6 @@ impl<A: Allocator + Copy> Told<A> {
         plan: &LogPlan<'_, A>,
         entry: &LogEntry<'_, A>,
     ) -> Result<(), EntryFault> {
-        self.begin(alloc, plan, entry.zxid)?;
         self.last = entry.zxid;
         let stamp = Stamp {
             zxid: entry.zxid,
@@ -306,6 +361,19 @@ impl<A: Allocator + Copy> Told<A> {
         }
     }
 
+    /// Tells of the entry of a record of a file.
+    fn tell_record(
+        &mut self,
+        alloc: A,
+        plan: &LogPlan<'_, A>,
+        number: usize,
+        one: &PlacedEntry<'_, A>,
+    ) -> Result<(), EntryFault> {
+        self.begin(alloc, plan, one.entry.zxid)?;
+        self.check(alloc, plan, number, one)?;
+        self.tell_entry(alloc, plan, &one.entry)
+    }
+
     /// Tells of a log.
     fn tell_log(
         &mut self,
@@ -320,14 +388,14 @@ impl<A: Allocator + Copy> Told<A> {
             if plan.at.is_some_and(|at| at < one.entry.zxid) {
                 return Ok(());
             }
-            if let Err(fault) = self.tell_entry(alloc, plan, &one.entry) {
+            if let Err(fault) = self.tell_record(alloc, plan, numbered.number, one) {
                 return Err(LogsFault::Part(numbered.number, one.place, fault));
             }
         }
         match numbered.log.torn {
             Some(place) if plan.at.is_none() => {
                 let name = plan.files.get(numbered.number).copied().unwrap_or("");
-                self.add_torn(alloc, plan.json, name, place)
+                self.add_record(alloc, plan.json, "torn", name, place)
                     .map_err(From::from)
             }
             _ => Ok(()),
@@ -335,7 +403,7 @@ impl<A: Allocator + Copy> Told<A> {
     }
 }
 
-/// What is told of the bytes of the plan's files, which are given in their order.
+/// What is told of the bytes of the plan's files, which are given in their order. If a digest departs, that is told too.
 ///
 /// # Errors
 ///
@@ -344,7 +412,7 @@ pub fn history_of<A: Allocator + Copy>(
     alloc: A,
     plan: &LogPlan<'_, A>,
     files: &[&[u8]],
-) -> Result<Vec<u8, A>, LogsFault> {
+) -> Result<LogText<A>, LogsFault> {
     let logs = in_order(alloc, files)?;
     let mut told = Told {
         out: Vec::new(alloc),
@@ -352,6 +420,8 @@ pub fn history_of<A: Allocator + Copy>(
         is_known: false,
         is_told: false,
         owner: 0,
+        checked: Some(CheckedTree::new(alloc)?),
+        fault: None,
     };
     for numbered in &logs {
         told.tell_log(alloc, plan, numbered)?;
@@ -366,5 +436,8 @@ pub fn history_of<A: Allocator + Copy>(
             told.add_remark(alloc, plan.json, word, path)?;
         }
     }
-    Ok(told.out)
+    Ok(LogText {
+        text: told.out,
+        fault: told.fault,
+    })
 }

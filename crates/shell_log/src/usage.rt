@@ -34,6 +34,10 @@ Logs are taken in the order of their zxids. Printed:
   unknown PATH           What it held then is not in the logs
   absent PATH            There was no such node
   torn FILE BYTE         A crash has cut off the record at this byte
+  digest FILE BYTE       The record at this byte has the digest of another
+                         tree than the logs make: transactions before it are
+                         missing, or were taken back
+  unchecked FILE BYTE    From this record on digests are not compared
 
 TIME is in milliseconds since 1970. DATA is hex, \\e for no bytes, \\0 for
 null. In a PATH each byte outside 21 to 7e, and the backslash, is \\x and two
@@ -41,8 +45,14 @@ digits. The logs begin with the first transaction if their first zxid ends in
 1 and is of epoch 0 or 1; else what was before them is unknown. Files are read
 whole.
 
-Exit status: 0 done; 1 a log has a fault, told with its byte; 2 a fault of the
-command line; 3 out of memory; 4 standard output failed; 10 a file is not read.
+Servers write digests from 3.6 on. From the first transaction they are compared
+up to a gap, a record without one, or, if the tree is large, a session's close
+that tells no paths. Servers get them wrong while a write of the root itself is
+on its way: the next 1,000 transactions are not compared.
+
+Exit status: 0 done; 1 a log has a fault or a wrong digest, told with its byte;
+2 a fault of the command line; 3 out of memory; 4 standard output failed; 10 a
+file is not read.
 ";
 
 /// Why a command line asks for nothing.

@@ -7,3 +7,7 @@ pub mod LogLaws
 pub mod LogAgain
 pub mod PartLaws
 pub mod FieldFaults
+pub mod CrcLaws
+pub mod DigestLaws
+pub mod TreeLaws
+pub mod FollowLaws

@@ -4,6 +4,10 @@ pub mod Format
 pub mod Reading
 pub mod Parts
 pub mod Checksum
+pub mod Crc
+pub mod Digests
+pub mod Trees
+pub mod Following
 pub mod Views
 pub mod FaultText
 pub mod inner

@@ -1,2 +1,4 @@
 -- What contracts of private functions say: nobody has to believe it.
 pub mod Views
+pub mod Digests
+pub mod Following

@@ -9,6 +9,10 @@
 #![tactic(auto)]
 
 mod checksum;
+mod crc;
+mod digest_follow;
+mod digest_node;
+mod digest_tree;
 mod entry;
 mod entry_fault;
 mod kind;
@@ -20,6 +24,8 @@ mod txn;
 mod txn_fields;
 
 pub use checksum::adler32;
+pub use digest_node::{DigestNode, Stamp};
+pub use digest_tree::DigestTree;
 pub use entry::{LogEntry, TreeDigest};
 pub use entry_fault::EntryFault;
 pub use kind::TxnKind;

@@ -58,7 +58,8 @@ fn tell_fault<E: Write>(errors: &mut E, names: &[&str], fault: LogsFault) -> Sta
         LogsFault::Memory => return Status::Memory,
         LogsFault::Unread(number, _)
         | LogsFault::Part(number, _, _)
-        | LogsFault::Overlaps(number) => { number }
+        | LogsFault::Overlaps(number)
+        | LogsFault::Digest(number, _, _) => { number }
     };
     let name = names
         .get(number)
@@ -71,6 +72,10 @@ fn tell_fault<E: Write>(errors: &mut E, names: &[&str], fault: LogsFault) -> Sta
         LogsFault::Part(_, place, fault) => {
             writeln!(errors, "{name}: byte {place}: a part of a multi: {fault}")
         }
+        LogsFault::Digest(_, place, zxid) => writeln!(
+            errors,
+            "{name}: byte {place}: zxid {zxid} has the digest of another tree: transactions before it are missing, or were taken back"
+        ),
         _ => writeln!(
             errors,
             "{name}: its zxids are not above those of the other logs"
@@ -105,7 +110,13 @@ fn tell_plan<O: Write, E: Write>(
     };
     match history_of(alloc, plan, files.as_slice()) {
         Err(fault) => tell_fault(errors, plan.files.as_slice(), fault),
-        Ok(text) => write_bytes(out, text.as_slice(), Status::Done),
+        Ok(told) => {
+            let status = match told.fault {
+                None => Status::Done,
+                Some(fault) => tell_fault(errors, plan.files.as_slice(), fault),
+            };
+            write_bytes(out, told.text.as_slice(), status)
+        }
     }
 }
 
