@@ -85,7 +85,8 @@ enum dw_result DW_AS_INT32 {
   DW_NOT_TEXTS = -11, /* the bytes are no texts, each after its length */
   DW_NO_SUCH_OPERATION = -12,
   DW_CREDENTIAL_TOO_LARGE = -13,
-  DW_NO_SUCH_LIMITS = -14
+  DW_NO_SUCH_LIMITS = -14,
+  DW_NOT_ACL = -15 /* the bytes spell no ACL of one entry or more */
 };
 
 /* A handle: zeros before its first use, which are {0} in C and {} in C++. Its fields are the library's own. */
@@ -435,7 +436,7 @@ enum dw_naming DW_AS_INT32 {
 /* A contender for a lock, an election or a lease joins in a directory, which is made where it is not there. It makes its place, an ephemeral sequential
  * node with these data, null where is_null; watches the last rival before it, and no other, or of leases as many as hold at once; and tells how it stands:
  *     char guid[32]; // hexadecimal digits, from the random numbers of the system
- *     dw_session_contend(&session, now(), 7, "/locks/job", 10, DW_NAMING_KAZOO, guid, 32, (const uint8_t *)"", 0, true, false);
+ *     dw_session_contend(&session, now(), 7, "/locks/job", 10, DW_NAMING_KAZOO, guid, 32, (const uint8_t *)"", 0, true, false, NULL, 0);
  *     ..
  *     while (dw_session_next(&session, &said) == DW_OK)
  *       switch (said.kind) {
@@ -448,11 +449,16 @@ enum dw_naming DW_AS_INT32 {
  * session may have made a place with it before, as after dw_session_resume: then the place is looked for first, as it is after each create whose
  * answer was lost. After DW_KIND_RENEWED it contends again, and holds by the old place no more. Where another contender has the ticket, the moment alone is
  * noticed. Contenders ask calls of tickets from 3 * 2^62 on, whose answers are not told; reports of the nodes that they watch are told too.
- * It is a step. Also DW_NO_MEMORY; DW_NOT_TEXT for the directory or the guid; DW_NOT_PATH where the directory is none, or no place in it has a path; and
- * DW_NO_SUCH_MODE where the naming is none of enum dw_naming, or that of no lease: no step was made. */
+ * What it makes, its places, and the directory and nodes above that if they are not there, has this ACL, and without bytes everybody has every right. An
+ * ACL is spelled as in zookeeper.jute, a vector of one entry or more. This one gives every right, 31, to whom the session was introduced as:
+ *     static const uint8_t acl[] = {0,0,0,1, 0,0,0,31, 0,0,0,4,'a','u','t','h', 0,0,0,0};
+ * If the servers refuse it, DW_KIND_PAUSES says so, with DW_CODE_INVALID_ACL.
+ * It is a step. Also DW_NO_MEMORY; DW_NOT_TEXT for the directory or the guid; DW_NOT_PATH where the directory is none, or no place in it has a path;
+ * DW_NO_SUCH_MODE where the naming is none of enum dw_naming, or that of no lease; and DW_NOT_ACL: no step was made. */
 enum dw_result dw_session_contend(dw_session *handle, uint64_t now_ms, uint64_t ticket, const char *directory,
                                   size_t directory_length, uint32_t naming, const char *guid, size_t guid_length,
-                                  const uint8_t *bytes, size_t length, bool is_null, bool may_be_there);
+                                  const uint8_t *bytes, size_t length, bool is_null, bool may_be_there, const uint8_t *acl,
+                                  size_t acl_length);
 
 /* The contender of this ticket is given up: its places are deleted, through any number of connections, and DW_KIND_GIVEN_UP is told once none is left. It
  * is a step. Where there is no such contender, the moment alone is noticed. */
@@ -675,6 +681,7 @@ static inline const char *dw_result_words(enum dw_result result) {
   case DW_NO_SUCH_OPERATION: return "the number is none of enum dw_operation";
   case DW_CREDENTIAL_TOO_LARGE: return "the scheme and the secret have more than 1048555 bytes";
   case DW_NO_SUCH_LIMITS: return "a limit of payloads is below that of every session, or above 1073741823 bytes";
+  case DW_NOT_ACL: return "the bytes spell no ACL of one entry or more";
   }
   return "the library answers a number that its header does not have";
 }

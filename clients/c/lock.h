@@ -46,10 +46,13 @@ enum dws_lock_why {
 };
 
 typedef struct dws_lock dws_lock;
+struct dws_acl;
 struct dws_contender;
 
 struct dws_lock {
-    enum dws_names names; /* set it before dws_lock_take */
+    enum dws_names names; /* set these three before dws_lock_take, which copies them */
+    const struct dws_acl *acls; /* of requests.h: the ACL of its place, and of those nodes at its path and above it that are made */
+    size_t acl_count;     /* with none, everybody has every right */
     bool is_held;         /* at dws_last_zxid */
     bool is_behind;       /* another one is before it, and is watched */
     int64_t token;        /* while it is held: the zxid at which its place was made. That of each later holder is greater */

@@ -21,6 +21,7 @@
 
 #include "lock.h"
 #include "paths.h"
+#include "requests.h"
 
 #ifdef __cplusplus
 extern "C" {
@@ -34,6 +35,9 @@ struct dws_semaphore {
     int32_t why;      /* why it does not get on, as of a lock; DWS_SEMAPHORE_DIFFERS; or as of a call that reads or makes the node of the path. It is
                          tried no further then, except what a lock asks again. DWS_LOCK_MIXED_NAMES: the node is of a semaphore of kazoo */
     void *context;    /* the program's own */
+    const dws_acl *acls; /* the ACL of leases, and of the node of the path if it is made: set it before dws_semaphore_take. It is the program's, and stays
+                            until the semaphore is let go. With one, the node above that path is to be there: else `why` is DW_CODE_NO_NODE */
+    size_t acl_count;    /* with none, everybody has every right */
     /* The semaphore's own. */
     void (*changed)(dws_session *session, dws_semaphore *semaphore);
     int most;
@@ -41,6 +45,7 @@ struct dws_semaphore {
     dws_lock lock;
     dws_walk walk;
     dws_call call;
+    dws_request creation;
     bool is_asked, is_left; /* the node of the path is read or made; it is let go */
 };
 

@@ -323,6 +323,9 @@ void dws_lose_kept(dws_session *s);
 void dws_look_at_trees(dws_session *s);
 uint64_t dws_first_look(dws_session *s);
 
+/* requests.c */
+void dws_put_acls(struct dws_bytes *bytes, const struct dws_acl *acls, size_t count);
+
 /* lock.c */
 bool dws_lock_contend(dws_session *s, struct dws_lock *lock, const char *path, uint32_t naming, const char *data,
                       void (*changed)(dws_session *, struct dws_lock *));

@@ -11,6 +11,7 @@ struct dws_contender {
     uint32_t naming;
     char guid[37];
     char *directory, *data; /* the path is that which the servers know */
+    struct dws_bytes acl;   /* as it is spelled: without bytes there is none */
     bool was_handed;        /* a node of it may be there */
     bool is_left, is_leaving; /* it is given up, and the library knows that */
     bool is_refused, is_gone; /* the library does not take its path; it is over */
@@ -49,6 +50,7 @@ static void dws_free_contender(struct dws_contender *one)
     }
     free(one->directory);
     free(one->data);
+    free(one->acl.at);
     free(one);
 }
 
@@ -183,8 +185,8 @@ static void dws_contend(dws_session *s, struct dws_contender *one, uint64_t now_
     one->ticket = ++s->last_ticket;
     enum dw_result result = dw_session_contend(&s->machine, dws_at(s, now_ms), one->ticket, one->directory, strlen(one->directory),
                                                one->naming, one->guid, strlen(one->guid), (const uint8_t *)one->data,
-                                               strlen(one->data), false, one->was_handed);
-    one->is_refused = result == DW_NOT_PATH || result == DW_NOT_TEXT;
+                                               strlen(one->data), false, one->was_handed, one->acl.at, one->acl.length);
+    one->is_refused = result == DW_NOT_PATH || result == DW_NOT_TEXT || result == DW_NOT_ACL;
     if (one->is_refused) {
         dws_note_lock(one, false, 0, DWS_REFUSED - (int32_t)result);
         dws_tell_locks(s);
@@ -249,7 +251,7 @@ void dws_free_contenders(dws_session *s)
 
 /* ---- What a program asks for. ---- */
 
-static struct dws_contender *dws_new_contender(dws_session *s, const char *path, uint32_t naming, const char *data)
+static struct dws_contender *dws_new_contender(dws_session *s, const dws_lock *lock, const char *path, uint32_t naming, const char *data)
 {
     struct dws_contender *one = (struct dws_contender *)calloc(1, sizeof *one);
     if (one == NULL) {
@@ -259,7 +261,10 @@ static struct dws_contender *dws_new_contender(dws_session *s, const char *path,
     one->naming = naming;
     one->directory = dws_outer(s, path);
     one->data = dws_copy_of(data);
-    if (one->directory == NULL || one->data == NULL) {
+    if (lock->acl_count > 0) {
+        dws_put_acls(&one->acl, lock->acls, lock->acl_count);
+    }
+    if (one->directory == NULL || one->data == NULL || one->acl.is_short) {
         dws_free_contender(one);
         return NULL;
     }
@@ -271,7 +276,7 @@ static struct dws_contender *dws_new_contender(dws_session *s, const char *path,
 bool dws_lock_contend(dws_session *s, dws_lock *lock, const char *path, uint32_t naming, const char *data, void (*changed)(dws_session *, dws_lock *))
 {
     char *copy = lock->contender == NULL ? dws_copy_of(path) : NULL;
-    struct dws_contender *one = copy != NULL ? dws_new_contender(s, path, naming, data) : NULL;
+    struct dws_contender *one = copy != NULL ? dws_new_contender(s, lock, path, naming, data) : NULL;
     if (one == NULL) {
         free(copy);
         return false;

@@ -16,7 +16,7 @@ enum {
 /* ---- How a record is spelled. ---- */
 
 /* What follows the path of a node that is to be made, or whose ACL is to be set. */
-static void dws_put_acls(struct dws_bytes *bytes, const dws_acl *acls, size_t count)
+void dws_put_acls(struct dws_bytes *bytes, const dws_acl *acls, size_t count)
 {
     dws_put_int(bytes, (int32_t)count);
     for (size_t i = 0; i < count; i++) {

@@ -3,13 +3,18 @@
 
 #include "../semaphore.h"
 
-static dws_call *dws_semaphore_call(dws_semaphore *one, void (*then)(dws_session *, dws_call *))
+static void dws_semaphore_prepare(dws_semaphore *one, dws_call *call, void (*then)(dws_session *, dws_call *))
 {
     one->is_asked = true;
-    one->call.then = then;
-    one->call.context = one;
-    one->call.limit_ms = -1; /* it waits for a connection for as long as that takes */
-    one->call.tries = INT_MAX;
+    call->then = then;
+    call->context = one;
+    call->limit_ms = -1; /* it waits for a connection for as long as that takes */
+    call->tries = INT_MAX;
+}
+
+static dws_call *dws_semaphore_call(dws_semaphore *one, void (*then)(dws_session *, dws_call *))
+{
+    dws_semaphore_prepare(one, &one->call, then);
     return &one->call;
 }
 
@@ -49,20 +54,32 @@ static void dws_semaphore_go_on(dws_session *s, dws_semaphore *one, int32_t why)
 /* The node of the path is made, with the number; or another one was faster, or the node above it is lacking. */
 static void dws_semaphore_numbered(dws_session *s, dws_call *call)
 {
-    dws_semaphore_go_on(s, (dws_semaphore *)call->context, call->why == DW_CODE_NODE_EXISTS || call->why == DW_CODE_NO_NODE ? 0 : call->why);
+    dws_semaphore *one = (dws_semaphore *)call->context;
+    bool is_gone = call->why == DW_CODE_NO_NODE && one->acl_count == 0; /* the node above it is made again */
+    dws_semaphore_go_on(s, one, call->why == DW_CODE_NODE_EXISTS || is_gone ? 0 : call->why);
+}
+
+static void dws_semaphore_number(dws_session *s, dws_semaphore *one)
+{
+    char number[16];
+    snprintf(number, sizeof number, "-%d", one->most);
+    if (one->acl_count == 0) {
+        dws_create(s, dws_semaphore_call(one, dws_semaphore_numbered), one->path, number, strlen(number), DW_MODE_PERSISTENT);
+        return;
+    }
+    dws_semaphore_prepare(one, &one->creation.call, dws_semaphore_numbered);
+    dws_create_with_acl(s, &one->creation, one->path, number, strlen(number), DW_MODE_PERSISTENT, one->acls, one->acl_count);
 }
 
 /* The node above the path is there. */
 static void dws_semaphore_walked(dws_session *s, dws_walk *walk)
 {
     dws_semaphore *one = (dws_semaphore *)walk->context;
-    char number[16];
     if (walk->why != 0 || one->is_left) {
         dws_semaphore_go_on(s, one, walk->why);
-        return;
+    } else {
+        dws_semaphore_number(s, one);
     }
-    snprintf(number, sizeof number, "-%d", one->most);
-    dws_create(s, dws_semaphore_call(one, dws_semaphore_numbered), one->path, number, strlen(number), DW_MODE_PERSISTENT);
 }
 
 static void dws_semaphore_make_node(dws_session *s, dws_semaphore *one)
@@ -83,6 +100,8 @@ static void dws_semaphore_contend(dws_session *s, dws_semaphore *one)
 {
     one->is_asked = false;
     one->lock.context = one;
+    one->lock.acls = one->acls;
+    one->lock.acl_count = one->acl_count;
     if (!dws_lock_contend(s, &one->lock, one->path, DW_NAMING_LEASES + (uint32_t)one->most, one->data, dws_semaphore_told)) {
         dws_semaphore_tell(s, one, DWS_REFUSED - (int32_t)DW_NO_MEMORY);
     }
@@ -95,7 +114,9 @@ static void dws_semaphore_read(dws_session *s, dws_call *call)
     char *end = NULL;
     long number = call->why == 0 ? strtol(call->text, &end, 10) : 0;
     bool is_number = call->why == 0 && call->length > 0 && *end == 0;
-    if (call->why == DW_CODE_NO_NODE && !one->is_left) {
+    if (call->why == DW_CODE_NO_NODE && !one->is_left && one->acl_count > 0) {
+        dws_semaphore_number(s, one);
+    } else if (call->why == DW_CODE_NO_NODE && !one->is_left) {
         dws_semaphore_make_node(s, one);
     } else if (call->why != 0 || one->is_left) {
         dws_semaphore_go_on(s, one, call->why);
@@ -158,5 +179,6 @@ void dws_semaphore_release(dws_semaphore *one)
     dws_lock_release(&one->lock);
     dws_walk_release(&one->walk);
     dws_release(&one->call);
+    dws_request_release(&one->creation);
     memset(one, 0, sizeof *one);
 }

@@ -24,6 +24,7 @@ static const char *dws_advice_of_result(enum dw_result result)
     case DW_NO_SUCH_OPERATION: return "";
     case DW_CREDENTIAL_TOO_LARGE: return "";
     case DW_NO_SUCH_LIMITS: return "";
+    case DW_NOT_ACL: return "";
     }
     return "take both of one version";
 }

@@ -148,7 +148,7 @@ static void contend(struct side *side, uint32_t naming)
     side->told = (enum dw_kind)0;
     do_all(side);
     expect_ok(dw_session_contend(&side->session, now_ms, TICKET, DIRECTORY, strlen(DIRECTORY), naming, GUIDS[side - sides], 32,
-                                 (const uint8_t *)"", 0, true, false));
+                                 (const uint8_t *)"", 0, true, false, NULL, 0));
 }
 
 static void give_up(struct side *side)
@@ -287,16 +287,20 @@ static void refuse(void)
     size_t count = 1;
     dw_session *session = &sides[0].session;
     const uint8_t *nothing = (const uint8_t *)"";
-    EXPECT_NUMBER(DW_CLOSED, dw_session_contend(&none, now_ms, TICKET, "/l", 2, 0, "a", 1, nothing, 0, true, false));
+    EXPECT_NUMBER(DW_CLOSED, dw_session_contend(&none, now_ms, TICKET, "/l", 2, 0, "a", 1, nothing, 0, true, false, NULL, 0));
     EXPECT_NUMBER(DW_CLOSED, dw_session_give_up(&none, now_ms, TICKET));
     EXPECT_NUMBER(DW_CLOSED, dw_session_held(&none, TICKET, &token));
     EXPECT(token == 0);
     EXPECT_NUMBER(DW_CLOSED, dw_session_place(&none, TICKET, (char *)room, sizeof room, &count));
     EXPECT(count == 0);
-    EXPECT_NUMBER(DW_NO_SUCH_MODE, dw_session_contend(session, now_ms, TICKET, "/l", 2, 6, "a", 1, nothing, 0, true, false));
-    EXPECT_NUMBER(DW_NOT_TEXT, dw_session_contend(session, now_ms, TICKET, "/l", 2, 0, "\xff", 1, nothing, 0, true, false));
-    EXPECT_NUMBER(DW_NOT_PATH, dw_session_contend(session, now_ms, TICKET, "l", 1, 0, "a", 1, nothing, 0, true, false));
-    EXPECT_NUMBER(DW_NOT_PATH, dw_session_contend(session, now_ms, TICKET, "/l", 2, 0, "a/b", 3, nothing, 0, true, false));
+    EXPECT_NUMBER(DW_NO_SUCH_MODE, dw_session_contend(session, now_ms, TICKET, "/l", 2, 6, "a", 1, nothing, 0, true, false, NULL, 0));
+    EXPECT_NUMBER(DW_NOT_TEXT, dw_session_contend(session, now_ms, TICKET, "/l", 2, 0, "\xff", 1, nothing, 0, true, false, NULL, 0));
+    EXPECT_NUMBER(DW_NOT_PATH, dw_session_contend(session, now_ms, TICKET, "l", 1, 0, "a", 1, nothing, 0, true, false, NULL, 0));
+    EXPECT_NUMBER(DW_NOT_PATH, dw_session_contend(session, now_ms, TICKET, "/l", 2, 0, "a/b", 3, nothing, 0, true, false, NULL, 0));
+    static const uint8_t acl[] = {0, 0, 0, 1, 0, 0, 0, 31, 0, 0, 0, 4, 'a', 'u', 't', 'h', 0, 0, 0, 0, 0}; /* and a byte too many */
+    EXPECT_NUMBER(DW_NOT_ACL, dw_session_contend(session, now_ms, TICKET, "/l", 2, 0, "a", 1, nothing, 0, true, false, acl, sizeof acl));
+    EXPECT_NUMBER(DW_NOT_ACL, dw_session_contend(session, now_ms, TICKET, "/l", 2, 0, "a", 1, nothing, 0, true, false, acl, sizeof acl - 2));
+    EXPECT_NUMBER(DW_NOT_ACL, dw_session_contend(session, now_ms, TICKET, "/l", 2, 0, "a", 1, nothing, 0, true, false, (const uint8_t *)"\0\0\0\0", 4));
     EXPECT_NUMBER(DW_NONE, dw_session_held(session, TICKET, &token));
     EXPECT_NUMBER(DW_NONE, dw_session_place(session, TICKET, (char *)room, sizeof room, &count));
 }

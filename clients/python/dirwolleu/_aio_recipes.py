@@ -14,6 +14,7 @@ from dirwolleu._calls import shown
 from dirwolleu._counters import BaseCounter, Number
 from dirwolleu._leases import BaseSemaphore
 from dirwolleu._locks import READING, WRITING, BaseHeld, BaseLock, BaseTaker, Taken
+from dirwolleu._plans import Acls
 from dirwolleu._queues import BaseQueue
 from dirwolleu._registrations import BaseRegistration
 from dirwolleu._steps import Result, Steps
@@ -133,11 +134,12 @@ class Election:
         identifier: str = "",
         *,
         names: str = locks.KAZOO,
+        acl: Acls = None,
         on_lost: Optional[Callable[[Held], object]] = None,
         keeps_while_suspended: bool = False,
     ) -> None:
         self._lock = Lock(
-            client, path, identifier, names=names, on_lost=on_lost, keeps_while_suspended=keeps_while_suspended
+            client, path, identifier, names=names, acl=acl, on_lost=on_lost, keeps_while_suspended=keeps_while_suspended
         )
 
     async def run(self, lead: Callable[[Held], Awaitable[Returned]]) -> Returned:

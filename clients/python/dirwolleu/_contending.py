@@ -8,9 +8,11 @@ from __future__ import annotations
 
 from typing import Any, Callable, Optional
 
+from dirwolleu import _jute as jute
 from dirwolleu import _library as library
 from dirwolleu._connection import Connection
 from dirwolleu._library import Send
+from dirwolleu._plans import Acls
 from dirwolleu._retry import is_lived_through
 from dirwolleu._session import Contends, Session
 from dirwolleu._views import error_of_refusal
@@ -23,8 +25,16 @@ class Contender:
     It is held once at most: when it holds no more, it is given up. `on_lost` is called then.
     """
 
-    def __init__(self, directory: str, naming: int, guid: str, data: bytes, on_lost: Callable[[Any], object] = lambda _: None) -> None:
-        self.words = directory, naming, guid, data
+    def __init__(
+        self,
+        directory: str,
+        naming: int,
+        guid: str,
+        data: bytes,
+        acl: Acls = None,
+        on_lost: Callable[[Any], object] = lambda _: None,
+    ) -> None:
+        self.words = directory, naming, guid, data, b"" if acl is None else jute.acls(acl)
         self.directory, self.guid, self.on_lost = directory, guid, on_lost
         self.ticket = self.told = 0
         """`told` is what the core told of it last, one of `CONTENDER_WAITS` to `CONTENDER_GIVEN_UP`."""

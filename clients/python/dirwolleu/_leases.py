@@ -13,7 +13,8 @@ from dirwolleu import _plans as plans
 from dirwolleu import _requests as requests
 from dirwolleu._contending import Contender
 from dirwolleu._locks import BETWEEN_TRIES, LEASES, AnyClient, AnyHeld, BaseTaker, Taken, identifiers
-from dirwolleu._plans import Plan
+from dirwolleu._plans import Acls, Plan
+from dirwolleu._records import Mode
 from dirwolleu._retry import is_lived_through
 from dirwolleu._steps import Steps, Wait, bounded, run
 from dirwolleu.exceptions import MixedNamesError, NodeExistsError, NoNodeError, ZookeeperError
@@ -40,16 +41,17 @@ class BaseSemaphore(BaseTaker[AnyClient, AnyHeld]):
         identifier: str = "",
         max_leases: int = 1,
         *,
+        acl: Acls = None,
         on_lost: Optional[Callable[[AnyHeld], object]] = None,
         keeps_while_suspended: bool = False,
     ) -> None:
-        super().__init__(client, path, identifier, on_lost=on_lost, keeps_while_suspended=keeps_while_suspended)
+        super().__init__(client, path, identifier, acl=acl, on_lost=on_lost, keeps_while_suspended=keeps_while_suspended)
         if max_leases < 1:
             raise ValueError("a semaphore has one lease at least")
         self._most = max_leases
 
     def _contender(self, on_lost: Callable[[Any], object]) -> Contender:
-        return Contender(self._path, library.LEASES + self._most, plans.new_tag().hex, self._data, on_lost)
+        return Contender(self._path, library.LEASES + self._most, plans.new_tag().hex, self._data, self._acl, on_lost)
 
     def _take(self, on_lost: Callable[[Any], object], until: Optional[float]) -> Steps[Taken]:
         yield from self._agree(until)
@@ -88,9 +90,9 @@ class BaseSemaphore(BaseTaker[AnyClient, AnyHeld]):
             raise ValueError(f"{self._path} has {-(number or 0)} leases at most, and not {self._most}")
 
     def _make_path(self) -> Plan[None]:
-        yield from plans.ensure_path(plans.parent_of(self._path), None)
+        yield from plans.ensure_path(plans.parent_of(self._path), self._acl)
         try:
-            yield requests.create(self._path, b"-%d" % self._most, False, False)
+            yield plans.create_request(self._path, b"-%d" % self._most, self._acl, Mode())
         except NodeExistsError:
             pass
 

@@ -37,6 +37,7 @@ NOT_TEXTS = -11
 NO_SUCH_OPERATION = -12
 CREDENTIAL_TOO_LARGE = -13
 NO_SUCH_LIMITS = -14
+NOT_ACL = -15
 
 SEND = 1
 ANSWER = 2
@@ -262,7 +263,7 @@ _FUNCTIONS: dict[str, tuple[Any, tuple[Any, ...]]] = {
     "dw_session_unfollow_tree": (c_int32, (_HANDLE, c_uint64, c_uint64)),
     "dw_session_contend": (
         c_int32,
-        (_HANDLE, c_uint64, c_uint64, c_void_p, c_size_t, c_uint32, c_void_p, c_size_t, c_void_p, c_size_t, c_bool, c_bool),
+        (_HANDLE, c_uint64, c_uint64, c_void_p, c_size_t, c_uint32, c_void_p, c_size_t, c_void_p, c_size_t, c_bool, c_bool, c_void_p, c_size_t),
     ),
     "dw_session_give_up": (c_int32, (_HANDLE, c_uint64, c_uint64)),
     "dw_session_next": (c_int32, (_HANDLE, POINTER(_Output))),
@@ -316,6 +317,7 @@ _RESULT_WORDS = {
     NO_SUCH_OPERATION: "no operation that a caller may spell has the number",
     CREDENTIAL_TOO_LARGE: "the scheme and the secret have more than 1048555 bytes",
     NO_SUCH_LIMITS: "a limit of payloads is below that of every session, or above 1073741823 bytes",
+    NOT_ACL: "the bytes spell no ACL of one entry or more",
 }
 # end of what is made
 

@@ -19,7 +19,7 @@ from dirwolleu._checks import checked_path, checked_text
 from dirwolleu._clock import moment
 from dirwolleu._contending import Contender
 from dirwolleu._engine import Engine
-from dirwolleu._plans import Plan
+from dirwolleu._plans import Acls, Plan
 from dirwolleu._retry import is_lived_through
 from dirwolleu._steps import SHORTEST_ASK, Ask, GetNews, Result, Steps, TimeIsOver, Wait, left_of, run, until_of
 from dirwolleu.exceptions import (
@@ -73,11 +73,11 @@ class Kind(NamedTuple):
     kazoos: int
     curators: int
 
-    def contender(self, path: str, names: str, data: bytes, on_lost: Callable[[Any], object]) -> Contender:
+    def contender(self, path: str, names: str, data: bytes, acl: Acls, on_lost: Callable[[Any], object]) -> Contender:
         """One for the lock of this path."""
         tag = plans.new_tag()
         naming, guid = (self.curators, str(tag)) if names == CURATOR else (self.kazoos, tag.hex)
-        return Contender(path, naming, guid, data, on_lost)
+        return Contender(path, naming, guid, data, acl, on_lost)
 
 
 EXCLUSIVE = Kind(library.KAZOO, library.CURATOR_LOCK)
@@ -303,10 +303,11 @@ class BaseTaker(Generic[AnyClient, AnyHeld]):
         path: str,
         identifier: str = "",
         *,
+        acl: Acls = None,
         on_lost: Optional[Callable[[AnyHeld], object]] = None,
         keeps_while_suspended: bool = False,
     ) -> None:
-        self._client, self._path, self._data = client, checked_path(path), identified(identifier)
+        self._client, self._path, self._data, self._acl = client, checked_path(path), identified(identifier), acl
         self._on_lost, self._keeps = on_lost, keeps_while_suspended
         self._entered: dict[object, list[AnyHeld]] = {}
 
@@ -377,14 +378,15 @@ class BaseLock(BaseTaker[AnyClient, AnyHeld]):
         identifier: str = "",
         *,
         names: str = KAZOO,
+        acl: Acls = None,
         on_lost: Optional[Callable[[AnyHeld], object]] = None,
         keeps_while_suspended: bool = False,
     ) -> None:
-        super().__init__(client, path, identifier, on_lost=on_lost, keeps_while_suspended=keeps_while_suspended)
+        super().__init__(client, path, identifier, acl=acl, on_lost=on_lost, keeps_while_suspended=keeps_while_suspended)
         self._names = checked_names(names)
 
     def _contender(self, on_lost: Callable[[Any], object]) -> Contender:
-        return self._kind.contender(self._path, self._names, self._data, on_lost)
+        return self._kind.contender(self._path, self._names, self._data, self._acl, on_lost)
 
     def _take(self, on_lost: Callable[[Any], object], until: Optional[float]) -> Steps[Taken]:
         try:

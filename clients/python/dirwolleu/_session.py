@@ -303,12 +303,14 @@ class Session(LookUps):
         return self._outputs(self._calls.unfollow_tree(self._handle, now, ticket))
 
     def contend(
-        self, now: int, ticket: int, directory: str, naming: int, guid: str, data: bytes, may_be_there: bool
+        self, now: int, ticket: int, directory: str, naming: int, guid: str, data: bytes, acl: bytes, may_be_there: bool
     ) -> list[Action]:
-        """Has a contender join for the lock of a directory. `may_be_there` says that this session may have made a place by this guid before."""
+        """Has a contender join for the lock of a directory. What it makes has the ACL that these bytes spell: without any it is open to all.
+        `may_be_there` says that this session may have made a place by this guid before.
+        """
         spelled, tag = self._root.spell(directory), guid.encode()
         place, name, content = (spelled, len(spelled)), (naming, tag, len(tag)), (data, len(data), False)
-        code = self._calls.contend(self._handle, now, ticket, *place, *name, *content, may_be_there)
+        code = self._calls.contend(self._handle, now, ticket, *place, *name, *content, may_be_there, acl, len(acl))
         return self._outputs(code, directory)
 
     def give_up(self, now: int, ticket: int) -> list[Action]:

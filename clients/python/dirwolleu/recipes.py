@@ -16,6 +16,7 @@ from dirwolleu._calls import shown
 from dirwolleu._counters import BaseCounter, Number
 from dirwolleu._leases import BaseSemaphore
 from dirwolleu._locks import READING, WRITING, BaseHeld, BaseLock, BaseTaker, Taken
+from dirwolleu._plans import Acls
 from dirwolleu._queues import BaseQueue
 from dirwolleu._registrations import BaseRegistration
 from dirwolleu._steps import Result, Steps
@@ -109,6 +110,9 @@ class Lock(_Taker, BaseLock[Client, Held]):
     `names="curator"` Curator's `InterProcessMutex` is. kazoo and Curator do not see each other's contenders: `acquire`
     raises `MixedNamesError` if the core finds one of other names before this one holds.
 
+    The node, and those at the path and above it that are made, have this `acl`, a list of `security.ACL`; without one they are open
+    to all.
+
     A program that was paused, or whose packets are late, can still believe that it holds when another one does. So work
     in small steps, `check` before each, and hand the `token` on. `on_lost` is called once, in the thread of the
     callbacks, when the lock is lost: with the connection, the session or the node. With `keeps_while_suspended` a lost
@@ -162,7 +166,7 @@ class Semaphore(_Taker, BaseSemaphore[Client, Held]):
     which count other nodes, have one above it: `acquire` raises `MixedNamesError` there, and at the nodes of Curator's
     `InterProcessSemaphoreV2`; and kazoo's raises `ValueError` here. That number is read and compared here, and is not proved.
 
-    What is said of `acquire`, `check`, `on_lost` and `keeps_while_suspended` at `Lock` holds here too; `acquire` raises
+    What is said of `acquire`, `check`, `acl`, `on_lost` and `keeps_while_suspended` at `Lock` holds here too; `acquire` raises
     `ValueError` if the node says that there are more leases or fewer. The token of a lease is the zxid at which it was made; it is
     of no use to fence, since others hold beside it.
 
@@ -192,11 +196,12 @@ class Election:
         identifier: str = "",
         *,
         names: str = locks.KAZOO,
+        acl: Acls = None,
         on_lost: Optional[Callable[[Held], object]] = None,
         keeps_while_suspended: bool = False,
     ) -> None:
         self._lock = Lock(
-            client, path, identifier, names=names, on_lost=on_lost, keeps_while_suspended=keeps_while_suspended
+            client, path, identifier, names=names, acl=acl, on_lost=on_lost, keeps_while_suspended=keeps_while_suspended
         )
 
     def run(self, lead: Callable[[Held], Returned]) -> Returned:

@@ -40,7 +40,7 @@ class ContendingTest(unittest.TestCase):
         self.xid = 0
 
     def join(self, now: int, guid: str = "own", directory: str = "/l") -> Contender:
-        contender = Contender(directory, library.KAZOO, guid, b"", self.lost)
+        contender = Contender(directory, library.KAZOO, guid, b"", on_lost=self.lost)
         self.engine.contend(contender)
         self.engine.take_handed(now)
         return contender

@@ -21,11 +21,13 @@ import support
 from support import buffer, framed, texts
 
 from dirwolleu import _handle as handle
+from dirwolleu import _jute as jute
 from dirwolleu import _library as library
 from dirwolleu import _session as of_session
 from dirwolleu._library import Answer, Drop, Report, Send, StateChange
 from dirwolleu._root import Root
 from dirwolleu._session import NO_LIMIT, Contends, Dial, PlainAction, Session
+from dirwolleu.security import ACL, ANYONE_ID_UNSAFE, Id, Permissions
 from dirwolleu.types import DataStat, Stat
 
 HEADER = support.CLIENTS.parent / "include" / "dirwolleu.h"
@@ -312,7 +314,7 @@ class MachineTest(unittest.TestCase):
 
     def test_a_contender_below_a_root_joins_and_is_given_up(self) -> None:
         session, own = connected(Root("/app")), b"/app/l/ab__lock__0000000003"
-        create = sent(session.contend(200, 7, "/l", library.KAZOO, "ab", b"me", False))
+        create = sent(session.contend(200, 7, "/l", library.KAZOO, "ab", b"me", b"", False))
         self.assertIn(buffer(own[:-10]) + buffer(b"me"), create)
         self.assertIsNone(session.place(7) or session.held(7))
         session.received(300, reply(1, 90, 0, buffer(own)))
@@ -325,17 +327,34 @@ class MachineTest(unittest.TestCase):
         self.assertEqual(session.give_up(700, 7), [])
         for directory, guid in (("l", "ab"), ("/l", "a/b"), ("/l", "a" * 1_048_576)):
             with self.assertRaises(ValueError):
-                session.contend(800, 9, directory, library.KAZOO, guid, b"", False)
+                session.contend(800, 9, directory, library.KAZOO, guid, b"", b"", False)
 
     def test_a_contender_that_may_be_there_is_looked_for(self) -> None:
         session = connected()
-        fence = sent(session.contend(200, 7, "/l", library.CURATOR_LOCK, "ab", b"", True))
+        fence = sent(session.contend(200, 7, "/l", library.CURATOR_LOCK, "ab", b"", b"", True))
         self.assertIn(buffer(b"/l"), fence)
         listing = sent(session.received(300, reply(1, 90, -110)))
         self.assertIn(buffer(b"/l"), listing)
         name = b"_c_ab-lock-0000000003"
         session.received(400, reply(2, 90, 0, struct.pack(">i", 1) + buffer(name) + STAT_BYTES))
         self.assertEqual(session.place(7), f"/l/{name.decode()}")
+
+    def test_what_a_contender_makes_has_its_acl(self) -> None:
+        session, own = connected(), b"/l/ab__lock__0000000003"
+        acl = jute.acls([ACL(Permissions.ALL, Id("auth", "")), ACL(Permissions.READ, ANYONE_ID_UNSAFE)])
+        made = struct.pack(">i", library.CREATE2) + buffer(own[:-10]) + buffer(b"me") + acl + struct.pack(">i", 3)
+        below = struct.pack(">i", library.CREATE2) + buffer(b"/l") + struct.pack(">i", -1) + acl + struct.pack(">i", 0)
+        create = sent(session.contend(200, 7, "/l", library.KAZOO, "ab", b"me", acl, False))
+        self.assertEqual(create[8:], made)
+        self.assertEqual(sent(session.received(300, reply(1, 90, -101)))[8:], below)
+        self.assertEqual(sent(session.received(400, reply(2, 91, 0, buffer(b"/l") + STAT_BYTES)))[8:], made)
+        listing = sent(session.received(500, reply(3, 92, 0, buffer(own) + STAT_BYTES)))
+        self.assertIn(buffer(b"/l"), listing)
+        session.received(600, reply(4, 92, 0, struct.pack(">i", 1) + buffer(own[3:]) + STAT_BYTES))
+        self.assertEqual(session.place(7), own.decode())
+        for bad in (b"\0\0\0\0", acl[:-1], acl + b"\0"):
+            with self.assertRaisesRegex(ValueError, "^the bytes spell no ACL of one entry or more$"):
+                session.contend(700, 9, "/l", library.KAZOO, "cd", b"", bad, False)
 
     def test_a_bad_frame_ends_the_connection(self) -> None:
         session = connected()

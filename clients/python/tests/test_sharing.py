@@ -394,7 +394,7 @@ class Contest:
         self.session, self._xid = connected(), 0
         begin = f"_c_{guid}" if names == "curator" else guid
         self.name = f"{begin}{marker_of(kind, names)}{number}"
-        made = self.session.contend(200, 1, "/l", getattr(kind, f"{names}s"), guid, b"", False)
+        made = self.session.contend(200, 1, "/l", getattr(kind, f"{names}s"), guid, b"", b"", False)
         self.expect(made, f"/l/{self.name[:-10]}")
         read = self.answer(88, buffer(f"/l/{self.name}".encode()))
         self.expect(read, f"/l/{self.name}")

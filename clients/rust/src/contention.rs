@@ -1,5 +1,6 @@
 //! How a contender for a lock or an election joins.
 
+use crate::acl::Acl;
 use crate::numbers::naming;
 use std::num::NonZeroU32;
 
@@ -79,19 +80,22 @@ pub struct Contention<'a> {
     pub guid: &'a str,
     /// The data of its place: none are null data.
     pub data: Option<&'a [u8]>,
+    /// The ACL of its place, and of those nodes at the directory and above it that are made. Without an entry everybody has every right.
+    pub acls: &'a [Acl],
     /// Whether this session may have made a place with this guid before, as after [`Machine::resume`](crate::Machine::resume): then the place is
     /// looked for first.
     pub may_be_there: bool,
 }
 
 impl<'a> Contention<'a> {
-    /// One for a lock by kazoo's names, whose place has no data, and was not made before.
+    /// One for a lock by kazoo's names, whose place has no data, is open to everybody, and was not made before.
     pub fn new(directory: &'a str, guid: &'a str) -> Contention<'a> {
         Contention {
             directory,
             naming: Naming::default(),
             guid,
             data: Some(&[]),
+            acls: &[],
             may_be_there: false,
         }
     }

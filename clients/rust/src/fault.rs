@@ -92,6 +92,8 @@ pub enum Fault {
     CredentialTooLarge,
     /// A limit of payloads is below that of every session, or above 1,073,741,823 bytes.
     NoSuchLimits,
+    /// The ACL of a contender has no entry.
+    NotAcl,
     /// A node with a time to live cannot go with its session: it is persistent, or persistent and sequential.
     EphemeralWithTtl,
     /// The library that is linked is of another version than this crate.
@@ -138,6 +140,7 @@ impl Fault {
             Fault::TooManyNodes => result::TOO_MANY,
             Fault::CredentialTooLarge => result::CREDENTIAL_TOO_LARGE,
             Fault::NoSuchLimits => result::NO_SUCH_LIMITS,
+            Fault::NotAcl => result::NOT_ACL,
             Fault::OtherVersion { .. }
             | Fault::UnknownNumber(_)
             | Fault::Panicked
@@ -228,6 +231,7 @@ pub(crate) fn done_at(path: &str, code: i32) -> Result<(), Fault> {
         result::TOO_MANY => Err(Fault::TooManyNodes),
         result::CREDENTIAL_TOO_LARGE => Err(Fault::CredentialTooLarge),
         result::NO_SUCH_LIMITS => Err(Fault::NoSuchLimits),
+        result::NOT_ACL => Err(Fault::NotAcl),
         _ => Err(UnknownNumber::of("result", code).into()),
     }
 }
@@ -312,6 +316,7 @@ mod tests {
             (-10, Fault::TooManyNodes),
             (-13, Fault::CredentialTooLarge),
             (-14, Fault::NoSuchLimits),
+            (-15, Fault::NotAcl),
         ] {
             assert_eq!(fault.number(), Some(number));
             assert_eq!(done_at("/a", number), Err(fault));

@@ -4,6 +4,7 @@
 
 use crate::contention::Contention;
 use crate::fault::{done, done_at, Fault};
+use crate::jute::Writer;
 use crate::moment::Moment;
 use crate::node::{DataStat, Mode, Side, Stat, Watch};
 use crate::numbers::{result, VERSION};
@@ -93,7 +94,7 @@ extern "C" {
     fn dw_session_unfollow(handle: *mut Raw, now_ms: u64, ticket: u64) -> i32;
     fn dw_session_follow_tree(handle: *mut Raw, now_ms: u64, ticket: u64, path: *const u8, path_length: usize, most: usize) -> i32;
     fn dw_session_unfollow_tree(handle: *mut Raw, now_ms: u64, ticket: u64) -> i32;
-    fn dw_session_contend(handle: *mut Raw, now_ms: u64, ticket: u64, directory: *const u8, directory_length: usize, naming: u32, guid: *const u8, guid_length: usize, bytes: *const u8, length: usize, is_null: bool, may_be_there: bool) -> i32;
+    fn dw_session_contend(handle: *mut Raw, now_ms: u64, ticket: u64, directory: *const u8, directory_length: usize, naming: u32, guid: *const u8, guid_length: usize, bytes: *const u8, length: usize, is_null: bool, may_be_there: bool, acl: *const u8, acl_length: usize) -> i32;
     fn dw_session_give_up(handle: *mut Raw, now_ms: u64, ticket: u64) -> i32;
     fn dw_session_next(handle: *mut Raw, out: *mut Output) -> i32;
     fn dw_session_copy(handle: *mut Raw, from: usize, out: *mut u8, room: usize) -> usize;
@@ -614,6 +615,7 @@ impl Handle {
             contention.data.unwrap_or_default(),
             contention.data.is_none(),
         );
+        let acl = Writer::acl(contention.acls);
         // SAFETY: as `Handle` says.
         let code = unsafe {
             dw_session_contend(
@@ -629,6 +631,8 @@ impl Handle {
                 bytes.len(),
                 is_null,
                 contention.may_be_there,
+                acl.as_ptr(),
+                acl.len(),
             )
         };
         done_at(directory, code)

@@ -18,6 +18,15 @@ impl Writer {
         self.bytes
     }
 
+    /// The ACL of what is made, by itself. Without an entry it has no bytes.
+    pub(crate) fn acl(acls: &[Acl]) -> Vec<u8> {
+        let mut writer = Writer::default();
+        if !acls.is_empty() {
+            writer.acls(acls);
+        }
+        writer.into_bytes()
+    }
+
     pub(crate) fn int(&mut self, number: i32) -> &mut Writer {
         self.bytes.extend(number.to_be_bytes());
         self

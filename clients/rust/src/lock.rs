@@ -1,5 +1,6 @@
 //! Locks and elections: contenders of the session's machine, which decides all about them. What is here hands over, and waits.
 
+use crate::acl::Acl;
 use crate::contention::Naming;
 use crate::engine::contenders::{Entry, Hold};
 use crate::error::{Error, ErrorKind};
@@ -119,6 +120,7 @@ pub struct LockOptions<'d> {
     names: LockNames,
     sharing: Sharing,
     data: &'d [u8],
+    acls: &'d [Acl],
     limit: Option<Duration>,
 }
 
@@ -135,6 +137,7 @@ impl<'d> LockOptions<'d> {
             names: LockNames::Kazoo,
             sharing: Sharing::Exclusive,
             data: &[],
+            acls: &[],
             limit: None,
         }
     }
@@ -152,13 +155,15 @@ impl<'d> LockOptions<'d> {
     }
 
     /// What its place says of the one that contends.
-    pub const fn data(self, data: &[u8]) -> LockOptions<'_> {
-        LockOptions {
-            names: self.names,
-            sharing: self.sharing,
-            data,
-            limit: self.limit,
-        }
+    pub const fn data(mut self, data: &'d [u8]) -> Self {
+        self.data = data;
+        self
+    }
+
+    /// The ACL of its place, and of those nodes at its path and above it that are made. Without an entry everybody has every right.
+    pub const fn acls(mut self, acls: &'d [Acl]) -> Self {
+        self.acls = acls;
+        self
     }
 
     /// For how long it is waited for at most.
@@ -228,7 +233,7 @@ impl<'d> LockOptions<'d> {
     /// That the path is none, that memory ran out, and why the session is over.
     pub fn contend<'s>(self, session: &'s Session, path: &str) -> Result<Contending<'s>, Error> {
         let naming = self.names.naming(self.sharing);
-        Contending::by(naming, session, path, self.data)
+        Contending::by(naming, session, path, self.data, self.acls)
     }
 }
 
@@ -278,6 +283,7 @@ impl<'s> Contending<'s> {
         session: &'s Session,
         path: &str,
         data: &[u8],
+        acls: &[Acl],
     ) -> Result<Contending<'s>, Error> {
         let joined = session.change(|engine| {
             let entry = Entry {
@@ -285,6 +291,7 @@ impl<'s> Contending<'s> {
                 naming,
                 guid: new_guid(naming),
                 data: data.to_vec(),
+                acls: acls.to_vec(),
             };
             engine.contend(&entry)
         });
@@ -513,6 +520,7 @@ pub struct Election<'a> {
     session: &'a Session,
     path: String,
     names: LockNames,
+    acls: Vec<Acl>,
 }
 
 /// The markers of candidates.
@@ -532,6 +540,7 @@ impl<'a> Election<'a> {
             session,
             path: String::from(path),
             names: LockNames::Kazoo,
+            acls: Vec::new(),
         }
     }
 
@@ -539,6 +548,13 @@ impl<'a> Election<'a> {
     #[must_use]
     pub fn names(mut self, names: LockNames) -> Election<'a> {
         self.names = names;
+        self
+    }
+
+    /// The same with this ACL for the places, and for those nodes at the path and above it that are made. Without an entry everybody has every right.
+    #[must_use]
+    pub fn acls(mut self, acls: &[Acl]) -> Election<'a> {
+        self.acls = acls.to_vec();
         self
     }
 
@@ -558,7 +574,7 @@ impl<'a> Election<'a> {
     /// As [`LockOptions::contend`].
     pub fn contend(&self, data: &[u8]) -> Result<Contending<'a>, Error> {
         let options = LockOptions::new().names(self.names).data(data);
-        options.contend(self.session, &self.path)
+        options.acls(&self.acls).contend(self.session, &self.path)
     }
 
     /// What the candidates have said of themselves, the one that leads first.

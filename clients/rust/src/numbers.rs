@@ -24,6 +24,7 @@ pub(crate) mod result {
     pub(crate) const NO_SUCH_OPERATION: i32 = -12;
     pub(crate) const CREDENTIAL_TOO_LARGE: i32 = -13;
     pub(crate) const NO_SUCH_LIMITS: i32 = -14;
+    pub(crate) const NOT_ACL: i32 = -15;
 }
 
 pub(crate) mod kind {
@@ -363,6 +364,7 @@ pub(crate) mod words {
             -12 => "no operation that a caller may spell has the number",
             -13 => "the scheme and the secret have more than 1048555 bytes",
             -14 => "a limit of payloads is below that of every session, or above 1073741823 bytes",
+            -15 => "the bytes spell no ACL of one entry or more",
             _ => return None,
         })
     }

@@ -1,8 +1,9 @@
 //! Nodes with all that are above them, or below.
 
+use crate::acl::Acl;
 use crate::error::Error;
 use crate::fault::{Code, NoReply};
-use crate::node::{Mode, ANY_VERSION};
+use crate::node::ANY_VERSION;
 use crate::request::Request;
 use crate::session_methods::Caller;
 
@@ -35,8 +36,8 @@ pub(crate) fn parent_of(path: &str) -> Option<&str> {
     }
 }
 
-/// Makes a node without data, and those above it, as far as they are not there.
-pub(crate) fn ensure(session: &mut impl Caller, path: &str) -> Result<(), Error> {
+/// Makes a node without data, and those above it, as far as they are not there, with this ACL: without an entry everybody has every right.
+pub(crate) fn ensure(session: &mut impl Caller, path: &str, acls: &[Acl]) -> Result<(), Error> {
     let mut missing = Vec::new();
     let mut next = Some(path);
     while let Some(path) = next {
@@ -47,7 +48,7 @@ pub(crate) fn ensure(session: &mut impl Caller, path: &str) -> Result<(), Error>
         next = parent_of(path);
     }
     while let Some(path) = missing.pop() {
-        match surely(session, &Request::create(path, b"", Mode::Persistent)) {
+        match surely(session, &Request::persistent(path, b"", acls)) {
             Ok(_) => {}
             Err(error) if error.code() == Some(Code::NODE_EXISTS) => {}
             Err(error) if error.code() == Some(Code::NO_NODE) => {

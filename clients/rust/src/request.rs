@@ -276,6 +276,14 @@ impl Request<String> {
         Request::created(path, data, acls, Lifetime::Mode(mode))
     }
 
+    /// A node that stays. Without an entry of an ACL it goes by `create`, which each server has.
+    pub(crate) fn persistent(path: &str, data: &[u8], acls: &[Acl]) -> Request<String> {
+        if acls.is_empty() {
+            return Request::create(path, data, Mode::Persistent);
+        }
+        Request::create_with_acls(path, data, Mode::Persistent, acls)
+    }
+
     /// Makes a container: a node that the servers delete once it had children and has none any more (ZooKeeper Programmer's Guide, *Container
     /// Nodes*).
     pub fn create_container(path: &str, data: &[u8], acls: &[Acl]) -> Request<String> {

@@ -1,10 +1,10 @@
 //! A lock that several hold at a time: contenders of the session's machine, once the node of the path says how many. That number is read here.
 
+use crate::acl::Acl;
 use crate::contention::Naming;
 use crate::error::{Error, ErrorKind};
 use crate::fault::Code;
 use crate::lock::{Contending, Lock};
-use crate::node::Mode;
 use crate::paths::{child_of, parent_of};
 use crate::request::Request;
 use crate::session::Session;
@@ -40,6 +40,7 @@ pub struct Semaphore<'a> {
     session: &'a Session,
     path: String,
     most: NonZeroU32,
+    acls: Vec<Acl>,
 }
 
 /// What is held of a [`Semaphore`]: a [`Lock`] beside others. Its token is of no use to fence, since theirs may be greater.
@@ -53,7 +54,15 @@ impl<'a> Semaphore<'a> {
             session,
             path: String::from(path),
             most: NonZeroU32::new(most).unwrap_or(NonZeroU32::MIN),
+            acls: Vec::new(),
         }
+    }
+
+    /// The same with this ACL for the leases, and for those nodes at the path and above it that are made. Without an entry everybody has every right.
+    #[must_use]
+    pub fn acls(mut self, acls: &[Acl]) -> Semaphore<'a> {
+        self.acls = acls.to_vec();
+        self
     }
 
     /// Waits for a lease, whose node has these data.
@@ -88,7 +97,7 @@ impl<'a> Semaphore<'a> {
     fn begin(&self, data: &[u8], until: Option<Instant>) -> Result<Contending<'a>, Error> {
         self.agree(until)?;
         let naming = Naming::Leases { most: self.most };
-        Contending::by(naming, self.session, &self.path, data)
+        Contending::by(naming, self.session, &self.path, data, &self.acls)
     }
 
     fn take(&self, data: &[u8], until: Option<Instant>) -> Result<Lease<'a>, Error> {
@@ -141,10 +150,10 @@ impl<'a> Semaphore<'a> {
 
     fn make_node(&self, until: Option<Instant>) -> Result<(), Error> {
         if let Some(above) = parent_of(&self.path) {
-            self.session.ensure_path(above)?;
+            self.session.ensure_path_with_acls(above, &self.acls)?;
         }
         let number = format!("-{}", self.most);
-        let create = Request::create(&self.path, number.as_bytes(), Mode::Persistent);
+        let create = Request::persistent(&self.path, number.as_bytes(), &self.acls);
         match self.session.call(create.until(until)) {
             Err(error) if error.code() == Some(Code::NODE_EXISTS) => Ok(()),
             made => made.map(drop),

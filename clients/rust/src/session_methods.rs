@@ -241,7 +241,20 @@ macro_rules! calls {
         ///
         /// As [`call`](Self::call): those that were made before that stay.
         pub fn ensure_path($($receiver)+, path: &str) -> Result<(), Error> {
-            paths::ensure($asks, path)
+            paths::ensure($asks, path, &[])
+        }
+
+        /// The same with this ACL for the nodes that are made. As [`ensure_path`](Self::ensure_path) otherwise.
+        ///
+        /// # Errors
+        ///
+        /// As [`ensure_path`](Self::ensure_path), and [`Code::INVALID_ACL`](crate::Code::INVALID_ACL).
+        pub fn ensure_path_with_acls(
+            $($receiver)+,
+            path: &str,
+            acls: &[Acl],
+        ) -> Result<(), Error> {
+            paths::ensure($asks, path, acls)
         }
 
         /// Deletes a node and all that are below it, from below: how many. There may be none. Others may make nodes there meanwhile; they are

@@ -51,7 +51,7 @@ impl<'a> Lock<'a> {
             alloc,
             name,
             hold_ms,
-            contender: LockContender::new(alloc, directory, naming, name, None, false)?,
+            contender: LockContender::new(alloc, directory, naming, name, None, None, false)?,
             leave_at: u64::MAX,
             ticket: 0,
             is_leaving: false,

@@ -163,7 +163,7 @@ asked_as ticket moment n (whats.Follows its side path) = refl
 asked_as ticket moment n (whats.Unfollows its) = refl
 asked_as ticket moment n (whats.FollowsTree its root most) = refl
 asked_as ticket moment n (whats.UnfollowsTree its) = refl
-asked_as ticket moment n (whats.Contends its directory naming guid bytes may_be_there) = refl
+asked_as ticket moment n (whats.Contends its directory naming guid bytes acl may_be_there) = refl
 asked_as ticket moment n (whats.GivesUp its) = refl
 
 -- where nobody has contended, nobody had before

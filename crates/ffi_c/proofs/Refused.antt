@@ -4,7 +4,7 @@ use Rattle.ffi_device.specs.Codes.{refusal_code}
 use Rattle.ffi_device.specs.declared.refusal.DeviceRefusal.{DeviceRefusal}
 use Rattle.ffi_device.specs.declared.refusal.DeviceRefusal.TheVariants.{Halted, Memory, NotText, NotPath, BadTimeout, NoSuchMode, NotSaved}
 use Rattle.ffi_device.specs.declared.refusal.DeviceRefusal.TheVariants.{NotWhole, TooMany, NotTexts, NoSuchOperation, CredentialTooLarge}
-use Rattle.ffi_device.specs.declared.refusal.DeviceRefusal.TheVariants.{NoSuchLimits}
+use Rattle.ffi_device.specs.declared.refusal.DeviceRefusal.TheVariants.{NoSuchLimits, NotAcl}
 use Rattle.ffi_c.specs.Kept.{FindsText}
 
 at_number : (Refuses : ℤ → Type 0) (Writes : List ℕ → List ℕ → ℕ → Type 0) (room written : List ℕ) (refusal : DeviceRefusal)
@@ -22,6 +22,7 @@ at_number Refuses Writes room written NotTexts is same = (is, same, refl)
 at_number Refuses Writes room written NoSuchOperation is same = (is, same, refl)
 at_number Refuses Writes room written CredentialTooLarge is same = (is, same, refl)
 at_number Refuses Writes room written NoSuchLimits is same = (is, same, refl)
+at_number Refuses Writes room written NotAcl is same = (is, same, refl)
 
 pub told_refused : (Refuses : ℤ → Type 0) (Writes : List ℕ → List ℕ → ℕ → Type 0) (room written : List ℕ)
     (refusal : DeviceRefusal) (code : ℤ) → code ≡ refusal_code refusal → Refuses (refusal_code refusal) → written ≡ room

@@ -249,7 +249,7 @@ left_like true (Some was) new changed =
 
 joins_like : (what : Happening) (old joined : Contenders Global) → JoinsBy what old joined
     → ((ticket : ℕ) → BecomesLike (one_of old ticket) (one_of joined ticket)) × KeepsCalls old joined
-joins_like (whats.Contends ticket directory naming guid bytes may_be_there) old joined joins = (
+joins_like (whats.Contends ticket directory naming guid bytes acl may_be_there) old joined joins = (
   joined_like ticket joins.contender old joined joins.is.fresh.asked
       (λ listed has. begins_has may_be_there listed (subst (λ (p : Place Global). HasListing p listed) joins.is.fresh.place has))
       (one_of old ticket) refl joins.joins,
@@ -425,7 +425,7 @@ none_there true (Some was) new none changed = absurd (let e : Some was ≡ None 
 
 nobody_joins : (what : Happening) (old joined : Contenders Global) → is_contend what ≡ false → JoinsBy what old joined
     → ((ticket : ℕ) → one_of old ticket ≡ None) → (ticket : ℕ) → one_of joined ticket ≡ None
-nobody_joins (whats.Contends its directory naming guid bytes may_be_there) old new apart joins none ticket = absurd (true≢false apart)
+nobody_joins (whats.Contends its directory naming guid bytes acl may_be_there) old new apart joins none ticket = absurd (true≢false apart)
 nobody_joins (whats.GivesUp its) old new apart leaves none ticket =
     none_there (nat_eq its ticket) (one_of old ticket) (one_of new ticket) (none ticket) (leaves.gives ticket)
 nobody_joins _ old new apart same none ticket = ap (λ (c : Contenders Global). one_of c ticket) same ∙ none ticket

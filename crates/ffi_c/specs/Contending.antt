@@ -1,10 +1,14 @@
--- What is told of a contender, by the number that is answered.
-use Rattle.std.specs.Prelude.{◌≡◌, ◌++◌, List, drop, length, take, ℕ, zero, suc, ℤ, pos, Option, Some, None}
+-- What is handed over of a contender, and what is told of it, by the number that is answered.
+use Rattle.std.specs.Prelude.{◌≡◌, ◌++◌, ◌==◌, List, drop, if◌then◌else◌, length, take, ℕ, zero, suc, ℤ, pos, Option, Some, None}
 use Rattle.std.specs.declared.alloc.Global.{Global}
 use Rattle.zk_nodes.specs.Path.{Text}
 use Rattle.zk_turns.specs.View.{View}
 use Rattle.zk_contend.specs.Collections.{ShowsOne}
 use Rattle.zk_contend.specs.declared.contender.LockContender.{LockContender}
+
+-- the ACL that bytes spell: without any there is none
+abbrev pub acl_in : List ℕ → Option (List ℕ)
+acl_in bytes = if length bytes == 0 then None else Some bytes
 
 -- 0 where the session holds by the contender, by the token; and 1 where that is not shown.
 abbrev pub FindsHeld : View → Option (LockContender Global) → (code token : ℤ) → Type 0

@@ -54,7 +54,7 @@ RefusesHappening (happens.Calls ticket asked until) = RefusesCall asked
 RefusesHappening (happens.Introduces frame) = λ code. (scheme secret : List ℕ) × RefusesCredential scheme secret code
 RefusesHappening (happens.Follows ticket side path) = RefusesPath path
 RefusesHappening (happens.FollowsTree ticket root most) = RefusesPath root
-RefusesHappening (happens.Contends ticket directory naming guid bytes may_be_there) = RefusesContender directory naming guid
+RefusesHappening (happens.Contends ticket directory naming guid bytes acl may_be_there) = RefusesContender directory naming guid acl
 RefusesHappening _ = RefusesNothing
 
 -- A closed handle stays closed, which is told; of one that holds a session this is so.

@@ -1,12 +1,12 @@
 //! Contenders of a session for locks and elections.
 
-ghost use Rattle.std.specs.Prelude.{◌≡◌, Some, None, negsuc, pos, if◌then◌else◌};
+ghost use Rattle.std.specs.Prelude.{◌≡◌, Some, None, negsuc, option_map, pos, if◌then◌else◌};
 ghost use Rattle.zk_contend.specs.Collections.{one_of, own_at};
 ghost use Rattle.ffi_device.specs.Contending.{view_in};
 ghost use Rattle.ffi_device.specs.declared.device.Device.{Device};
 ghost use Rattle.ffi_device.specs.Refused.{RefusesContender, RefusesNothing};
 ghost use Rattle.ffi_device.specs.Steps.{Contends, GivesUp, Steps};
-ghost use Rattle.ffi_c.specs.Contending.{FindsHeld, FindsPlace};
+ghost use Rattle.ffi_c.specs.Contending.{acl_in, FindsHeld, FindsPlace};
 ghost use Rattle.ffi_c.specs.Held.{Holds, IsClosed, LeavesRoom};
 
 use crate::calls::data_of;
@@ -16,8 +16,16 @@ use ffi_device::{code_of, copy_into};
 use ffi_handles::{Handle, take_value};
 use std::alloc::Global;
 
+/// The ACL that bytes spell, and none if there are no bytes.
+fn acl_of(acl: &[u8]) -> Option<&[u8]>
+    ensures { option_map (λ s. s.now) result ≡ acl_in acl.now }
+{
+    if acl.len() == 0 { None } else { Some(acl) }
+}
+
 /// A contender joins in a directory under this ticket, by names of this number, unless another one has the ticket. The guid is a text that
-/// no other contender has, and `may_be_there` says that this session may have made a place with it before.
+/// no other contender has, and `may_be_there` says that this session may have made a place with it before. What it makes has the ACL that
+/// the last bytes spell, and without any it is open to everybody.
 #[unsafe(no_mangle)]
 pub extern "C" fn dw_session_contend(
     alloc: Global,
@@ -30,16 +38,19 @@ pub extern "C" fn dw_session_contend(
     bytes: &[u8],
     is_null: bool,
     may_be_there: bool,
+    acl: &[u8],
 ) -> i32
     ensures closed { handle.old.slot.held ≡ None → IsClosed result handle.new.slot.held }
     ensures steps { (d : Device) → handle.old.slot.held ≡ Some d → Holds handle.new.slot.held
-        (Steps (RefusesContender directory.now naming guid.now) now_ms
-        (Contends ticket directory.now naming guid.now (if is_null then None else Some bytes.now) may_be_there) d result) }
+        (Steps (RefusesContender directory.now naming guid.now (acl_in acl.now)) now_ms
+        (Contends ticket directory.now naming guid.now (if is_null then None else Some bytes.now) (acl_in acl.now) may_be_there) d
+        result) }
 {
     let Some(mut session) = take_value(alloc, handle) else {
         return CLOSED;
     };
     let data = data_of(bytes, is_null);
+    let list = acl_of(acl);
     let done = session.contend_at(
         alloc,
         now_ms,
@@ -48,6 +59,7 @@ pub extern "C" fn dw_session_contend(
         naming,
         guid,
         data,
+        list,
         may_be_there,
     );
     *handle = DwSession::of(session);

@@ -7,7 +7,7 @@ use Rattle.ffi_device.specs.declared.device.Device.{Device}
 use Rattle.ffi_device.specs.declared.refusal.DeviceRefusal.{DeviceRefusal}
 use Rattle.ffi_device.specs.declared.refusal.DeviceRefusal.TheVariants.{Halted, Memory, NotText, NotPath, BadTimeout, NoSuchMode, NotSaved}
 use Rattle.ffi_device.specs.declared.refusal.DeviceRefusal.TheVariants.{NotWhole, TooMany, NotTexts, NoSuchOperation, CredentialTooLarge}
-use Rattle.ffi_device.specs.declared.refusal.DeviceRefusal.TheVariants.{NoSuchLimits}
+use Rattle.ffi_device.specs.declared.refusal.DeviceRefusal.TheVariants.{NoSuchLimits, NotAcl}
 use Rattle.ffi_device.specs.Codes.{refusal_code, refusal_of}
 use Rattle.ffi_device.specs.Refused.{RefusesPath, RefusesCreate, RefusesNodes}
 use Rattle.zk_nodes.specs.PathFault.{IsPath}
@@ -35,6 +35,7 @@ refuses Refuses now what device NotTexts is goes_on = (is, refl)
 refuses Refuses now what device NoSuchOperation is goes_on = (is, refl)
 refuses Refuses now what device CredentialTooLarge is goes_on = (is, refl)
 refuses Refuses now what device NoSuchLimits is goes_on = (is, refl)
+refuses Refuses now what device NotAcl is goes_on = (is, refl)
 
 pub refuses_create : (path : List ℕ) (mode : ℕ) (refusal : DeviceRefusal) → RefusesPath path (refusal_code refusal)
     → RefusesCreate path mode (refusal_code refusal)
@@ -51,6 +52,7 @@ refuses_create path mode NotTexts is = is
 refuses_create path mode NoSuchOperation is = is
 refuses_create path mode CredentialTooLarge is = is
 refuses_create path mode NoSuchLimits is = is
+refuses_create path mode NotAcl is = is
 
 -- the same of a path for all nodes at and below it
 pub refuses_path : (lacking many : Type 0) (path : List ℕ) (refusal : DeviceRefusal) → RefusesPath path (refusal_code refusal)
@@ -68,6 +70,7 @@ refuses_path lacking many path NotTexts is = is
 refuses_path lacking many path NoSuchOperation is = is
 refuses_path lacking many path CredentialTooLarge is = is
 refuses_path lacking many path NoSuchLimits is = is
+refuses_path lacking many path NotAcl is = is
 
 -- what a refusal of them says, by its number
 pub refuses_nodes : (lacking many : Type 0) (path : List ℕ) (why : NoSubtree)
@@ -100,6 +103,7 @@ refuses_markers directory name names markers NotTexts is = inr (λ own against a
 refuses_markers directory name names markers NoSuchOperation is = absurd is
 refuses_markers directory name names markers CredentialTooLarge is = absurd is
 refuses_markers directory name names markers NoSuchLimits is = absurd is
+refuses_markers directory name names markers NotAcl is = absurd is
 
 -- what spells no nodes of a snapshot
 pub refuses_first : (cache : Cache) (nodes parents : List ℕ) (refusal : DeviceRefusal) → RefusesPaths nodes (refusal_code refusal)
@@ -117,6 +121,7 @@ refuses_first cache nodes parents NotTexts is = inl is
 refuses_first cache nodes parents NoSuchOperation is = absurd is
 refuses_first cache nodes parents CredentialTooLarge is = absurd is
 refuses_first cache nodes parents NoSuchLimits is = absurd is
+refuses_first cache nodes parents NotAcl is = absurd is
 
 -- what spells no parents
 pub refuses_second : (cache : Cache) (nodes parents : List ℕ) (refusal : DeviceRefusal) → RefusesPaths parents (refusal_code refusal)
@@ -134,6 +139,7 @@ refuses_second cache nodes parents NotTexts is = inr is
 refuses_second cache nodes parents NoSuchOperation is = absurd is
 refuses_second cache nodes parents CredentialTooLarge is = absurd is
 refuses_second cache nodes parents NoSuchLimits is = absurd is
+refuses_second cache nodes parents NotAcl is = absurd is
 
 -- what is so of a refusal is so of what is handed on
 pub on_refused : {T : Type 0} (r : Result T DeviceRefusal) (refusal : DeviceRefusal) (P : DeviceRefusal → Type 0)

@@ -3,11 +3,11 @@ use Rattle.std.specs.Prelude.{⊤, ℤ, pos, negsuc, Result, Ok, Err}
 use Rattle.ffi_device.specs.declared.refusal.DeviceRefusal.{DeviceRefusal}
 use Rattle.ffi_device.specs.declared.refusal.DeviceRefusal.TheVariants.{Halted, Memory, NotText, NotPath, BadTimeout, NoSuchMode, NotSaved}
 use Rattle.ffi_device.specs.declared.refusal.DeviceRefusal.TheVariants.{NotWhole, TooMany, NotTexts, NoSuchOperation, CredentialTooLarge}
-use Rattle.ffi_device.specs.declared.refusal.DeviceRefusal.TheVariants.{NoSuchLimits}
+use Rattle.ffi_device.specs.declared.refusal.DeviceRefusal.TheVariants.{NoSuchLimits, NotAcl}
 use Rattle.zk_conclusions.specs.declared.no_subtree.NoSubtree.{NoSubtree}
 use Rattle.zk_conclusions.specs.declared.no_subtree.NoSubtree.TheVariants as why
 
--- the number of a refusal: -1, -2, and -4 to -14
+-- the number of a refusal: -1, -2, and -4 to -15
 abbrev pub refusal_code : DeviceRefusal → ℤ
 refusal_code Halted = negsuc 0
 refusal_code Memory = negsuc 1
@@ -22,6 +22,7 @@ refusal_code NotTexts = negsuc 10
 refusal_code NoSuchOperation = negsuc 11
 refusal_code CredentialTooLarge = negsuc 12
 refusal_code NoSuchLimits = negsuc 13
+refusal_code NotAcl = negsuc 14
 
 -- why there is no subtree, as a refusal
 abbrev pub refusal_of : NoSubtree → DeviceRefusal

@@ -1,6 +1,6 @@
 -- The contenders of a device: what they hear of what its agent says, and the calls that they ask.
 use Rattle.std.specs.Prelude.{◌≡◌, ◌≤◌, ◌&&◌, ◌+◌, ◌++◌, ℕ, Bool, true, false, not, nat_lt, string_bytes, List, [], drop, length, take}
-use Rattle.std.specs.Prelude.{Option, Some, None, is_some, option_map, if◌then◌else◌}
+use Rattle.std.specs.Prelude.{Option, Some, None, IfSome, is_some, option_map, if◌then◌else◌}
 use Rattle.std.specs.List.{FoldsTo}
 use Rattle.std.specs.declared.alloc.Global.{Global}
 use Rattle.zk_nodes.specs.Path.{Text}
@@ -9,9 +9,11 @@ use Rattle.zk_conversation.specs.Calls.{Call}
 use Rattle.zk_turns.specs.View.{View}
 use Rattle.zk_client.specs.Clients.{view_of}
 use Rattle.zk_client.specs.Views.{outcome_view}
+use Rattle.zk_contend.specs.Acls.{IsAcl}
 use Rattle.zk_contend.specs.Collections.{first_until, hall_of, one_of, AreAtRest, AreSame, Asks, Changes, ChangesEach, ForgetsCalls, Hears}
 use Rattle.zk_contend.specs.Collections.{Joins, KeepsCalls, StaysAwake, StirsAbout, StirsAll, StirsIf, TellsAt}
 use Rattle.zk_contend.specs.Contenders.{closed, given_up, noted, renewed, IsFresh}
+use Rattle.zk_contend.specs.Dues.{acl_of}
 use Rattle.zk_contend.specs.Places.{is_ready}
 use Rattle.zk_contend.specs.declared.collection.Contenders.{Contenders}
 use Rattle.zk_contend.specs.declared.contender.LockContender.{LockContender}
@@ -43,19 +45,21 @@ naming_number CuratorWriter = 4
 naming_number CuratorReader = 5
 naming_number (Lease most) = 6 + most
 
--- A contender at its beginning, of a naming by its number.
-pub record IsContender (directory : Text) (number : ℕ) (guid : Text) (bytes : Option (List ℕ)) (may_be_there : Bool)
+-- A contender at its beginning, of a naming by its number. What it makes has this ACL, if there is one.
+pub record IsContender (directory : Text) (number : ℕ) (guid : Text) (bytes acl : Option (List ℕ)) (may_be_there : Bool)
     (contender : LockContender Global) : Type 0 where
   pub naming : Naming
   pub number_is : naming_number naming ≡ number
   pub fresh : IsFresh directory naming guid may_be_there contender
   pub bytes_are : option_map (λ v. v.items) contender.data ≡ bytes
+  pub acl_is : acl_of contender ≡ acl
+  pub is_acl : IfSome acl IsAcl
 
 -- It joins, unless another one has the ticket.
-pub record JoinsOne (ticket : ℕ) (directory : Text) (number : ℕ) (guid : Text) (bytes : Option (List ℕ)) (may_be_there : Bool)
+pub record JoinsOne (ticket : ℕ) (directory : Text) (number : ℕ) (guid : Text) (bytes acl : Option (List ℕ)) (may_be_there : Bool)
     (before joined : Contenders Global) : Type 0 where
   pub contender : LockContender Global
-  pub is : IsContender directory number guid bytes may_be_there contender
+  pub is : IsContender directory number guid bytes acl may_be_there contender
   pub joins : Joins ticket contender (not (is_some (one_of before ticket))) before joined
   pub stirs : StirsIf (not (is_some (one_of before ticket))) ticket before joined
   pub calls : KeepsCalls before joined
@@ -68,8 +72,8 @@ pub record LeavesOne (ticket : ℕ) (before left : Contenders Global) : Type 0 w
 
 -- What becomes of the contenders by what a caller hands in.
 abbrev pub JoinsBy : Happening → (before joined : Contenders Global) → Type 0
-JoinsBy (Contends ticket directory number guid bytes may_be_there) before joined =
-    JoinsOne ticket directory number guid bytes may_be_there before joined
+JoinsBy (Contends ticket directory number guid bytes acl may_be_there) before joined =
+    JoinsOne ticket directory number guid bytes acl may_be_there before joined
 JoinsBy (GivesUp ticket) before joined = LeavesOne ticket before joined
 JoinsBy what before joined = joined ≡ before
 

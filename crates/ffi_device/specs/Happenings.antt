@@ -18,7 +18,7 @@ pub data Happening : Type 0 where
   Unfollows : (ticket : ℕ) → Happening
   FollowsTree : (ticket : ℕ) → Text → (most : ℕ) → Happening
   UnfollowsTree : (ticket : ℕ) → Happening
-  Contends : (ticket : ℕ) → (directory : Text) → (naming : ℕ) → (guid : Text) → (bytes : Option (List ℕ)) → (may_be_there : Bool)
+  Contends : (ticket : ℕ) → (directory : Text) → (naming : ℕ) → (guid : Text) → (bytes acl : Option (List ℕ)) → (may_be_there : Bool)
       → Happening
   GivesUp : (ticket : ℕ) → Happening
 
@@ -38,13 +38,13 @@ happening (input.UnfollowTree ticket) = UnfollowsTree ticket
 
 -- what the agent is given of it
 abbrev pub given_of : Happening → Happening
-given_of (Contends ticket directory naming guid bytes may_be_there) = Moment
+given_of (Contends ticket directory naming guid bytes acl may_be_there) = Moment
 given_of (GivesUp ticket) = Moment
 given_of what = what
 
 -- whether a contender joins
 abbrev pub is_contend : Happening → Bool
-is_contend (Contends ticket directory naming guid bytes may_be_there) = true
+is_contend (Contends ticket directory naming guid bytes acl may_be_there) = true
 is_contend _ = false
 
 -- whether bytes came

@@ -1,7 +1,8 @@
 -- When a number is told that is neither 0 nor that of a halt.
-use Rattle.std.specs.Prelude.{⊤, ◌≡◌, ◌⊎◌, ◌≤ℤ◌, ◌<ℤ◌, ◌<◌, List, ℕ, zero, suc, ℤ, pos, negsuc, IsSome}
+use Rattle.std.specs.Prelude.{⊤, ◌≡◌, ◌⊎◌, ◌≤ℤ◌, ◌<ℤ◌, ◌<◌, List, ℕ, zero, suc, ℤ, pos, negsuc, Option, Some, None, IsSome}
 use Rattle.std.specs.Str.{IsUtf8}
 use Rattle.zk_nodes.specs.PathFault.{IsPath, fault_of}
+use Rattle.zk_contend.specs.Acls.{IsAcl}
 use Rattle.zk_contend.specs.Contenders.{contender_fault}
 use Rattle.zk_contend.specs.declared.naming.Naming.{Naming}
 use Rattle.ffi_device.specs.Contending.{naming_number}
@@ -38,15 +39,22 @@ abbrev pub HasNoPlace : (directory : List ℕ) (naming : ℕ) (guid : List ℕ) 
 HasNoPlace directory naming guid =
     (named : Naming) × (naming_number named ≡ naming) × IsSome (contender_fault directory named guid)
 
+-- bytes are handed in for an ACL, and are none
+abbrev pub IsNoAcl : Option (List ℕ) → Type 0
+IsNoAcl None = ⊥
+IsNoAcl (Some bytes) = ¬ (IsAcl bytes)
+
 -- A contender: -4 where its directory or its guid is no UTF-8; -5 where the directory is no path, or no place in it has one; -7 where the
--- number is none of a naming; and -2.
-abbrev pub RefusesContender : (directory : List ℕ) (naming : ℕ) (guid : List ℕ) → ℤ → Type 0
-RefusesContender directory naming guid (negsuc (suc zero)) = ⊤
-RefusesContender directory naming guid (negsuc (suc (suc (suc zero)))) = ¬ (IsUtf8 directory) ⊎ ¬ (IsUtf8 guid)
-RefusesContender directory naming guid (negsuc (suc (suc (suc (suc zero))))) =
+-- number is none of a naming; -15 where the bytes for its ACL are none; and -2.
+abbrev pub RefusesContender : (directory : List ℕ) (naming : ℕ) (guid : List ℕ) (acl : Option (List ℕ)) → ℤ → Type 0
+RefusesContender directory naming guid acl (negsuc (suc zero)) = ⊤
+RefusesContender directory naming guid acl (negsuc (suc (suc (suc zero)))) = ¬ (IsUtf8 directory) ⊎ ¬ (IsUtf8 guid)
+RefusesContender directory naming guid acl (negsuc (suc (suc (suc (suc zero))))) =
     IsSome (fault_of directory) ⊎ HasNoPlace directory naming guid
-RefusesContender directory naming guid (negsuc (suc (suc (suc (suc (suc (suc zero))))))) = naming ≡ 6
-RefusesContender directory naming guid code = ⊥
+RefusesContender directory naming guid acl (negsuc (suc (suc (suc (suc (suc (suc zero))))))) = naming ≡ 6
+RefusesContender dir naming guid acl (negsuc (suc (suc (suc (suc (suc (suc (suc (suc (suc (suc (suc (suc (suc (suc zero))))))))))))))) =
+    IsNoAcl acl
+RefusesContender directory naming guid acl code = ⊥
 
 -- All nodes at and below a path: those of the path, and -9 and -10 where these two are so.
 abbrev pub RefusesNodes : (lacking many : Type 0) (path : List ℕ) → ℤ → Type 0

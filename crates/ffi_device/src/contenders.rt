@@ -1,10 +1,12 @@
 //! Contenders from bytes, and what is looked up of them.
 
-ghost use Rattle.std.specs.Prelude.{◌≡◌, IfErr, IfOk, IfSome, None, option_map};
+ghost use Rattle.std.specs.Prelude.{◌≡◌, IfErr, IfOk, IfSome, None, OnOk, option_map};
+ghost use Rattle.zk_contend.specs.Acls.{IsAcl};
 ghost use Rattle.zk_contend.specs.Collections.{one_of, own_at, ShowsOne};
 ghost use Rattle.ffi_device.specs.Codes.{code_of, refusal_code};
 ghost use Rattle.ffi_device.specs.Contending.{naming_number, view_in, CopiesPlace, IsContender};
 ghost use Rattle.ffi_device.specs.Refused.{RefusesContender, RefusesNothing};
+ghost use Rattle.ffi_device.specs.inner.Refused.{RefusesAcl};
 ghost use Rattle.ffi_device.specs.Steps.{Contends, GivesUp, Steps};
 
 use crate::copying::copy_into;
@@ -14,7 +16,7 @@ use crate::refusal::DeviceRefusal;
 use std::alloc::Global;
 use zk_agent::AgentInput;
 use zk_client::PathFault;
-use zk_contend::{LockContender, Naming};
+use zk_contend::{AccessList, AclFault, LockContender, Naming};
 use zk_nodes::copied_data;
 
 // The naming of this number.
@@ -34,26 +36,47 @@ fn naming_of(number: u32) -> Option<Naming>
     }
 }
 
-// A contender at its beginning. A refusal is `NoSuchMode`, else `NotText`, else `NotPath`, else `Memory`.
+// The ACL that these bytes spell, if there are some. A refusal is `NotAcl` or `Memory`.
+fn acl_of(alloc: Global, bytes: Option<&[u8]>) -> Result<Option<AccessList<Global>>, DeviceRefusal>
+    ensures same { IfOk result
+        (λ acl. option_map (λ a. a.spelled.items) acl ≡ option_map (λ s. s.now) bytes.entry) }
+    ensures accepted { OnOk result (IfSome (option_map (λ s. s.now) bytes.entry) IsAcl) }
+    ensures refused { IfErr result (λ refusal. RefusesAcl (option_map (λ s. s.now) bytes.entry) (refusal_code refusal)) }
+{
+    let Some(bytes) = bytes else {
+        return Ok(None);
+    };
+    match AccessList::new(alloc, bytes) {
+        Ok(acl) => Ok(Some(acl)),
+        Err(AclFault::Memory) => Err(DeviceRefusal::Memory),
+        Err(AclFault::NotAcl) => Err(DeviceRefusal::NotAcl),
+    }
+}
+
+// A contender at its beginning. A refusal is `NoSuchMode`, else `NotText`, else `NotPath`, else `NotAcl`, else `Memory`.
 fn contender(
     alloc: Global,
     directory: &[u8],
     naming: u32,
     guid: &[u8],
     bytes: Option<&[u8]>,
+    acl: Option<&[u8]>,
     may_be_there: bool,
 ) -> Result<LockContender<Global>, DeviceRefusal>
     ensures contender { IfOk result
-        (IsContender directory.now naming guid.now (option_map (λ s. s.now) bytes.entry) may_be_there) }
-    ensures refused { IfErr result (λ refusal. RefusesContender directory.now naming guid.now (refusal_code refusal)) }
+        (IsContender directory.now naming guid.now (option_map (λ s. s.now) bytes.entry) (option_map (λ s. s.now) acl.entry)
+        may_be_there) }
+    ensures refused { IfErr result (λ refusal. RefusesContender directory.now naming guid.now (option_map (λ s. s.now) acl.entry)
+        (refusal_code refusal)) }
 {
     let Some(naming) = naming_of(naming) else {
         return Err(DeviceRefusal::NoSuchMode);
     };
     let guid = text_of(guid)?;
     let directory = path_of(alloc, directory)?;
+    let acl = acl_of(alloc, acl)?;
     let bytes = copied_data(alloc, bytes)?;
-    match LockContender::new(alloc, directory, naming, guid, bytes, may_be_there) {
+    match LockContender::new(alloc, directory, naming, guid, bytes, acl, may_be_there) {
         Ok(contender) => Ok(contender),
         Err(PathFault::Memory) => Err(DeviceRefusal::Memory),
         Err(_) => Err(DeviceRefusal::NotPath),
@@ -62,8 +85,9 @@ fn contender(
 
 impl Device {
     /// A contender joins under this ticket, by a naming of this number, unless another one has the ticket. The guid is a text that no
-    /// other contender has. `may_be_there` says that this session may have sent a create with it before. A refusal before a step is
-    /// `NoSuchMode`, else `NotText`, else `NotPath`, else `Memory`.
+    /// other contender has. What it makes has the ACL that these bytes spell, and without one is open to everybody. `may_be_there` says
+    /// that this session may have sent a create with it before. A refusal before a step is `NoSuchMode`, else `NotText`, else `NotPath`,
+    /// else `NotAcl`, else `Memory`.
     pub fn contend_at(
         &mut self,
         alloc: Global,
@@ -73,13 +97,14 @@ impl Device {
         naming: u32,
         guid: &[u8],
         bytes: Option<&[u8]>,
+        acl: Option<&[u8]>,
         may_be_there: bool,
     ) -> Result<(), DeviceRefusal>
-        ensures { Steps (RefusesContender directory.now naming guid.now) now
-            (Contends ticket directory.now naming guid.now (option_map (λ s. s.now) bytes.entry) may_be_there) self.old
-            (code_of result) self.new }
+        ensures { Steps (RefusesContender directory.now naming guid.now (option_map (λ s. s.now) acl.entry)) now
+            (Contends ticket directory.now naming guid.now (option_map (λ s. s.now) bytes.entry) (option_map (λ s. s.now) acl.entry)
+            may_be_there) self.old (code_of result) self.new }
     {
-        let contender = contender(alloc, directory, naming, guid, bytes, may_be_there)?;
+        let contender = contender(alloc, directory, naming, guid, bytes, acl, may_be_there)?;
         let Ok(_) = self.contenders.contend(ticket, contender) else {
             return Err(self.stop());
         };

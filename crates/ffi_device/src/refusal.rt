@@ -36,6 +36,8 @@ pub enum DeviceRefusal {
     CredentialTooLarge,
     /// No session may have these limits of payloads.
     NoSuchLimits,
+    /// The bytes spell no ACL of one entry or more.
+    NotAcl,
 }
 
 impl DeviceRefusal {
@@ -57,6 +59,7 @@ impl DeviceRefusal {
             DeviceRefusal::NoSuchOperation => -12,
             DeviceRefusal::CredentialTooLarge => -13,
             DeviceRefusal::NoSuchLimits => -14,
+            DeviceRefusal::NotAcl => -15,
         }
     }
 }

@@ -8,7 +8,7 @@ use Rattle.std.proofs.lemmas.Bool.Decides.{Decides-int_eq}
 use Rattle.zk_nodes.specs.Path.{Text, Name, parent_text}
 use Rattle.zk_nodes.specs.PathFault.{fault_of}
 use Rattle.zk_nodes.specs.declared.path_fault.PathFault.{PathFault}
-use Rattle.zk_conversation.specs.Results.{Result, NoNode, Refused, Made, Read, Listing, Done}
+use Rattle.zk_conversation.specs.Results.{Result, NoNode, Refused, Made, Read, Listing, Done, Brought}
 use Rattle.zk_turns.specs.Turns.{Outcome, Replied, ConnectionLoss}
 use Rattle.zk_turns.specs.Meaning.{Among}
 use Rattle.zk_laws.proofs.Basics.{text_eq-true}
@@ -71,6 +71,7 @@ exists_covers A nodes dir path false same none = none
 pub made_covers : (A : Type 0) (nodes : Nodes) (dir path : Text) (outcome : Outcome)
     → AreNone nodes → Covers {A = A} nodes (moved (Making path) (made dir path outcome))
 made_covers A nodes dir path (Replied zxid (Made at)) none = after_made_covers nodes dir (bytes_eq path dir) (Making path) none
+made_covers A nodes dir path (Replied zxid (Brought bytes)) none = after_made_covers nodes dir (bytes_eq path dir) (Making path) none
 made_covers A nodes dir path (Replied zxid NoNode) none = above_covers _ nodes path (parent_text path) none
 made_covers A nodes dir path (Replied zxid (Refused code)) none =
     exists_covers _ nodes dir path (int_eq code (ℤ.negsuc 109)) (bytes_eq path dir) none

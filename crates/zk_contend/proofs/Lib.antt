@@ -9,6 +9,7 @@ pub mod Stages
 pub mod Helds
 pub mod Wishes
 pub mod Watches
+pub mod Acls
 pub mod Listings
 pub mod Rolls
 pub mod Stirring

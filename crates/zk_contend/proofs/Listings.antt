@@ -10,7 +10,7 @@ use Rattle.zk_nodes.specs.declared.path_fault.PathFault.{PathFault}
 use Rattle.zk_nodes.specs.declared.stat.Stat.{Stat}
 use Rattle.zk_records.specs.declared.event.Event.{Event}
 use Rattle.zk_records.specs.declared.event.Event.TheVariants.{Created, Deleted, DataChanged, ChildrenChanged}
-use Rattle.zk_conversation.specs.Results.{Result, NoNode, Refused, Made, Listing}
+use Rattle.zk_conversation.specs.Results.{Result, NoNode, Refused, Made, Listing, Brought}
 use Rattle.zk_turns.specs.Meaning.{Among}
 use Rattle.zk_turns.specs.Turns.{Outcome, Replied, ConnectionLoss}
 use Rattle.zk_turns.specs.View.{View}
@@ -67,6 +67,7 @@ bare_above A (Some parent) = refl
 
 bare_made : (A : Type 0) (dir path : Text) (outcome : Outcome) → is_bare {A = A} (made dir path outcome) ≡ true
 bare_made A dir path (Replied zxid (Made at)) = bare_after A dir (bytes_eq path dir)
+bare_made A dir path (Replied zxid (Brought bytes)) = bare_after A dir (bytes_eq path dir)
 bare_made A dir path (Replied zxid NoNode) = bare_above A (parent_text path)
 bare_made A dir path (Replied zxid (Refused code)) = bare_exists A dir (int_eq code (ℤ.negsuc 109)) (bytes_eq path dir)
 bare_made A dir path (Replied zxid _) = refl

@@ -4,9 +4,10 @@ use Rattle.std.specs.Ordering.{int_eq}
 use Rattle.std.proofs.lemmas.Bool.Decides.{Decides-int_eq}
 use Rattle.zk_turns.specs.View.{View}
 use Rattle.zk_contend.specs.declared.contender.LockContender.{LockContender}
+use Rattle.zk_contend.specs.declared.refused.Obstacle.{Obstacle}
 use Rattle.zk_contend.specs.declared.status.LockStatus.{LockStatus}
 use Rattle.zk_contend.specs.declared.status.LockStatus.TheVariants.{Contends, Waits, Holds, Refused, GivenUp}
-use Rattle.zk_contend.specs.Standings.{TellsHeld, news_of, told_after, is_same_refusal}
+use Rattle.zk_contend.specs.Standings.{TellsHeld, news_of, told_after, is_same_refusal, without_refusal}
 
 -- the same or the new
 either_told : {A : Type 0} (view : View) (contender : LockContender A) (told stands : LockStatus) (same : Bool)
@@ -45,3 +46,11 @@ told_held view contender Contends (Holds other) h = h
 told_held view contender Waits (Holds other) h = h
 told_held view contender (Refused why) (Holds other) h = h
 told_held view contender GivenUp (Holds other) h = h
+
+-- a refusal is told, once one that was told is forgotten
+pub told_again : (told : LockStatus) (why : Obstacle) → news_of (without_refusal told) (Refused why) ≡ Some (Refused why)
+told_again Contends why = refl
+told_again Waits why = refl
+told_again (Holds token) why = refl
+told_again (Refused other) why = refl
+told_again GivenUp why = refl

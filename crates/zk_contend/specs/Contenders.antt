@@ -27,7 +27,7 @@ use Rattle.zk_contend.specs.Hearing.{entering, refused_after, refused_for}
 use Rattle.zk_contend.specs.Namings.{before_guid, behind_guid}
 use Rattle.zk_contend.specs.Places.{shows_node, shows_own}
 use Rattle.zk_contend.specs.Settling.{Hears, lost, unlisted}
-use Rattle.zk_contend.specs.Standings.{is_left, IsObstacle}
+use Rattle.zk_contend.specs.Standings.{is_left, without_refusal, IsObstacle}
 
 -- where a contender begins: looking for its place, if a create may have made one
 abbrev pub beginning : {A : Type 0} → (may_be_there : Bool) → Place A
@@ -135,9 +135,14 @@ leaves asked Entering = if is_entering asked then Entering else Left
 leaves asked (At own listing) = Leaving own
 leaves asked place = place
 
--- It pauses no more: its place goes at once.
+-- It pauses no more: its place goes at once. If its delete is refused too, that is told, also for what was told last.
 abbrev pub given_up : {A : Type 0} → LockContender A → LockContender A
-given_up contender = record contender { place = leaves contender.asked contender.place; refused = None; is_given_up = true }
+given_up contender = record contender {
+  place = leaves contender.asked contender.place;
+  refused = None;
+  is_given_up = true;
+  told = without_refusal contender.told;
+}
 
 -- Another session: no node of it is there, nothing is under way.
 abbrev pub renewed : {A : Type 0} → LockContender A → LockContender A

@@ -5,6 +5,7 @@ use Rattle.zk_nodes.specs.Path.{Text}
 use Rattle.zk_conversation.specs.Calls.{Call}
 use Rattle.zk_conversation.specs.Calls as call
 use Rattle.zk_turns.specs.View.{View}
+use Rattle.zk_contend.specs.Acls.{create_with}
 use Rattle.zk_contend.specs.declared.contender.LockContender.{LockContender}
 use Rattle.zk_contend.specs.declared.listed.Listed.{Listed}
 use Rattle.zk_contend.specs.declared.place.Ask.{Ask}
@@ -108,18 +109,23 @@ path_asked dir (At own listing) (ReadBehind place) = behind_or dir listing place
 path_asked dir (Leaving own) Leave = own
 path_asked dir _ _ = dir
 
--- The call that asks it. A listing leaves no watch.
-abbrev pub call_about : (entry : Text) → (bytes : Option (List ℕ)) → (path : Text) → Ask → Call
-call_about entry bytes path Make = call.Create path None 0
-call_about entry bytes path Enter = call.Create entry bytes 3
-call_about entry bytes path Fence = call.Create path None 0
-call_about entry bytes path Look = call.GetChildren path false
-call_about entry bytes path Clear = call.Delete path (ℤ.negsuc 0)
-call_about entry bytes path ReadOwn = call.GetData path true
-call_about entry bytes path Lists = call.GetChildren path false
-call_about entry bytes path (ReadBehind place) = call.GetData path true
-call_about entry bytes path Leave = call.Delete path (ℤ.negsuc 0)
+-- The call that asks it. Whatever it makes has its ACL, if it has one. A listing leaves no watch.
+abbrev pub call_about : (acl : Option (List ℕ)) → (entry : Text) → (bytes : Option (List ℕ)) → (path : Text) → Ask → Call
+call_about acl entry bytes path Make = create_with acl path None 0
+call_about acl entry bytes path Enter = create_with acl entry bytes 3
+call_about acl entry bytes path Fence = create_with acl path None 0
+call_about acl entry bytes path Look = call.GetChildren path false
+call_about acl entry bytes path Clear = call.Delete path (ℤ.negsuc 0)
+call_about acl entry bytes path ReadOwn = call.GetData path true
+call_about acl entry bytes path Lists = call.GetChildren path false
+call_about acl entry bytes path (ReadBehind place) = call.GetData path true
+call_about acl entry bytes path Leave = call.Delete path (ℤ.negsuc 0)
+
+-- the ACL of what it makes, as it is spelled
+abbrev pub acl_of : {A : Type 0} → LockContender A → Option (List ℕ)
+acl_of contender = option_map (λ acl. acl.spelled.items) contender.acl
 
 abbrev pub call_asked : {A : Type 0} → LockContender A → Ask → Call
 call_asked contender ask =
-    call_about contender.entry (option_map (λ v. v.items) contender.data) (path_asked contender.directory contender.place ask) ask
+    call_about (acl_of contender) contender.entry (option_map (λ v. v.items) contender.data)
+    (path_asked contender.directory contender.place ask) ask

@@ -5,14 +5,14 @@ use Rattle.std.specs.Ordering.{int_eq}
 use Rattle.zk_nodes.specs.Path.{Text, Name, NodePath, path_eq, path_of, parent_text}
 use Rattle.zk_nodes.specs.PathFault.{fault_of}
 use Rattle.zk_nodes.specs.declared.path_fault.PathFault.{PathFault}
-use Rattle.zk_conversation.specs.Results.{Result, NoNode, Refused as Refused_by, Made}
+use Rattle.zk_conversation.specs.Results.{Result, NoNode, Refused as Refused_by, Made, Brought}
 use Rattle.zk_turns.specs.Turns.{Outcome, Replied, ConnectionLoss}
 use Rattle.zk_turns.specs.Turns as turns
 use Rattle.zk_conclusions.specs.Tags.{has_tag}
 use Rattle.zk_contend.specs.declared.place.Ask.{Ask}
 use Rattle.zk_contend.specs.declared.place.Ask.TheVariants.{Make, Fence}
 use Rattle.zk_contend.specs.declared.place.Place.{Place}
-use Rattle.zk_contend.specs.declared.place.Place.TheVariants.{Making, Entering, Unsure, At, Leaving, Left}
+use Rattle.zk_contend.specs.declared.place.Place.TheVariants.{Making, Entering, Unsure, Looking, At, Leaving, Left}
 use Rattle.zk_contend.specs.declared.refused.Refused.{Refused}
 use Rattle.zk_contend.specs.declared.refused.Obstacle.{Obstacle}
 use Rattle.zk_contend.specs.declared.refused.Obstacle.TheVariants.{Code, TooManyWatches, TooLarge, SessionClosed}
@@ -63,6 +63,7 @@ above path = option_map Making (parent_text path)
 
 abbrev pub made_by : {A : Type 0} → (dir path : Text) → Result → Option (Place A)
 made_by dir path (Made at) = Some (after_made dir path)
+made_by dir path (Brought bytes) = Some (after_made dir path)
 made_by dir path NoNode = above path
 made_by dir path (Refused_by code) = if int_eq code (negsuc 109) then Some (after_made dir path) else None
 made_by dir path _ = None
@@ -119,8 +120,9 @@ entered_by dir front is_given_up NoNode = unentered dir is_given_up NoNode
 entered_by dir front is_given_up (Refused_by code) = unentered dir is_given_up (Refused_by code)
 entered_by dir front is_given_up _ = Some Unsure
 
--- A create whose answer is lost may have made a place.
+-- A create whose answer is lost may have made a place. What answers a create2 is not read: its place is looked for, without a barrier.
 abbrev pub entered : {A : Type 0} → (dir : Text) → (front : Name) → (is_given_up : Bool) → Outcome → Option (Place A)
+entered dir front is_given_up (Replied zxid (Brought bytes)) = Some (Looking zxid)
 entered dir front is_given_up (Replied zxid result) = entered_by dir front is_given_up result
 entered dir front is_given_up ConnectionLoss = Some Unsure
 entered dir front is_given_up _ = unsent is_given_up

@@ -2,6 +2,7 @@
 pub mod Namings
 pub mod Leases
 pub mod Places
+pub mod Acls
 pub mod Dues
 pub mod Hearing
 pub mod Settling

@@ -5,7 +5,7 @@ use Rattle.std.specs.List.{FoldsTo}
 use Rattle.zk_nodes.specs.Path.{Text, Name}
 use Rattle.zk_records.specs.declared.event.Event.{Event}
 use Rattle.zk_records.specs.declared.event.Event.TheVariants.{Deleted}
-use Rattle.zk_conversation.specs.Results.{NoNode, Made, Read, Listing, Done}
+use Rattle.zk_conversation.specs.Results.{NoNode, Made, Read, Listing, Done, Brought}
 use Rattle.zk_turns.specs.Turns.{Outcome, Replied, ConnectionLoss}
 use Rattle.zk_turns.specs.Meaning.{Among}
 use Rattle.zk_turns.specs.View.{View}
@@ -49,9 +49,11 @@ pub record IsNamed (dir : Text) (front : Name) (names : List Name) (path : Text)
   pub tagged : has_tag front name ≡ true
   pub is : path_in dir name ≡ Some path
 
--- A create of a place makes one, if it is answered with its path. If the connection is lost, it may have made one.
+-- A create of a place makes one, if it is answered with its path. A create2 that is answered with bytes may have made one, and so may each
+-- create if the connection is lost.
 abbrev pub Creates : Outcome → (old new : Nodes) → Type 0
 Creates (Replied zxid (Made path)) old new = AreFewerBut path old new
+Creates (Replied zxid (Brought bytes)) old new = (path : Text) × AreFewerBut path old new
 Creates ConnectionLoss old new = (path : Text) × AreFewerBut path old new
 Creates _ old new = AreFewer old new
 

@@ -65,6 +65,11 @@ abbrev pub told_after : (told : LockStatus) → Option LockStatus → LockStatus
 told_after told None = told
 told_after told (Some news) = news
 
+-- what was told last, if a refusal that was told is forgotten
+abbrev pub without_refusal : LockStatus → LockStatus
+without_refusal (Refused why) = Contends
+without_refusal told = told
+
 -- By what the client shows, the session holds by the contender's place, with this token.
 abbrev pub HoldsIn : {A : Type 0} → View → LockContender A → Place A → (token : ℤ) → Type 0
 HoldsIn view contender (At own (Some listed)) token = StandsAt view contender own listed token

@@ -2,15 +2,16 @@
 
 ghost use Rattle.std.specs.Prelude.{◌≡◌, IfOk};
 ghost use Rattle.std.specs.Option.{option_map};
-ghost use Rattle.zk_conversation.specs.Views.{call_view};
-ghost use Rattle.zk_contend.specs.Dues.{behind_or, call_about, call_asked, path_asked};
+ghost use Rattle.zk_conversation.specs.Views.{call_view, mode_number};
+ghost use Rattle.zk_contend.specs.Acls.{create_body, create_with};
+ghost use Rattle.zk_contend.specs.Dues.{acl_of, behind_or, call_about, call_asked, path_asked};
 
 use crate::contender::LockContender;
 use crate::listed::Listed;
 use crate::made::copied;
 use crate::place::{Ask, Place};
 use std::alloc::{AllocError, Allocator};
-use zk_client::{Call, CreateMode, Path};
+use zk_client::{Call, CreateMode, Path, RawOperation};
 use zk_nodes::copied_data;
 
 /// The path of one that it waits for, at this place of theirs, and the directory if there is none.
@@ -60,34 +61,52 @@ fn lent<A: Allocator>(bytes: &Option<Vec<u8, A>>) -> Option<&[u8]>
 }
 
 impl<A: Allocator + Copy> LockContender<A> {
-    /// The call that makes the place.
-    fn entry_call(&self) -> Result<Call<A>, AllocError>
-        ensures { IfOk result (λ call. call_view call ≡ call_asked self.now Ask.Enter) }
+    /// The call that makes a node of this path, with its ACL, if it has one.
+    fn create(
+        &self,
+        path: &Path<A>,
+        bytes: Option<&[u8]>,
+        mode: CreateMode,
+    ) -> Result<Call<A>, AllocError>
+        ensures { IfOk result (λ call. call_view call ≡ create_with (acl_of self.now) path.now (option_map (λ b. b.now) bytes.entry)
+            (mode_number mode)) }
     {
-        Ok(Call::Create {
-            path: copied(self.alloc, &self.entry)?,
-            bytes: copied_data(self.alloc, lent(&self.data))?,
-            mode: CreateMode::EphemeralSequential,
-        })
+        match &self.acl {
+            Some(acl) => Ok(Call::Raw {
+                operation: RawOperation::Create2,
+                body: acl.create_body(self.alloc, path, bytes, mode)?,
+            }),
+            None => Ok(Call::Create {
+                path: copied(self.alloc, path)?,
+                bytes: copied_data(self.alloc, bytes)?,
+                mode,
+            }),
+        }
     }
 
     /// The call that asks this.
     pub(crate) fn call(&self, ask: Ask) -> Result<Call<A>, AllocError>
         ensures { IfOk result (λ call. call_view call ≡ call_asked self.now ask) }
     {
-        if let Ask::Enter = ask {
-            return self.entry_call();
+        let path = path_asked(&self.directory, &self.place, ask);
+        match ask {
+            Ask::Enter => {
+                let data = lent(&self.data);
+                self.create(&self.entry, data, CreateMode::EphemeralSequential)
+            }
+            Ask::Make | Ask::Fence => self.create(path, None, CreateMode::Persistent),
+            Ask::Look | Ask::List => {
+                let path = copied(self.alloc, path)?;
+                Ok(Call::GetChildren { path, watch: false })
+            }
+            Ask::ReadOwn | Ask::ReadBehind { .. } => {
+                let path = copied(self.alloc, path)?;
+                Ok(Call::GetData { path, watch: true })
+            }
+            Ask::Clear | Ask::Leave => {
+                let path = copied(self.alloc, path)?;
+                Ok(Call::Delete { path, version: -1 })
+            }
         }
-        let path = copied(self.alloc, path_asked(&self.directory, &self.place, ask))?;
-        Ok(match ask {
-            Ask::Look | Ask::List => Call::GetChildren { path, watch: false },
-            Ask::ReadOwn | Ask::ReadBehind { .. } => Call::GetData { path, watch: true },
-            Ask::Clear | Ask::Leave => Call::Delete { path, version: -1 },
-            _ => Call::Create {
-                path,
-                bytes: None,
-                mode: CreateMode::Persistent,
-            },
-        })
     }
 }

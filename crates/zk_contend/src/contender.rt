@@ -10,6 +10,7 @@ ghost use Rattle.zk_contend.specs.Contenders.{entry_fault, is_entering, is_listi
 ghost use Rattle.zk_contend.specs.Places.{shows_node};
 ghost use Rattle.zk_contend.specs.Standings.{waiting, waits_for};
 
+use crate::acl::AccessList;
 use crate::kept::{session_of, shows_node, shows_own};
 use crate::lease::token_by;
 use crate::listed::Listed;
@@ -18,7 +19,7 @@ use crate::mixed::is_mixed;
 use crate::naming::Naming;
 use crate::place::{Ask, Place};
 use crate::refused::{Obstacle, Refused, later, refused_after};
-use crate::status::{LockStatus, news_of};
+use crate::status::{LockStatus, news_of, without_refusal};
 use std::alloc::{AllocError, Allocator, Global};
 use std::mem;
 use zk_client::{Call, Client, Event, Outcome, Path, PathFault};
@@ -40,6 +41,8 @@ pub struct LockContender<A: Allocator + Copy = Global> {
     // The path of a create of its place.
     pub(crate) entry: Path<A>,
     pub(crate) data: Option<Vec<u8, A>>,
+    // That of its place, and of the directories that it makes. Without one they are open to everybody.
+    pub(crate) acl: Option<AccessList<A>>,
     pub(crate) place: Place<A>,
     pub(crate) asked: Option<Ask>,
     pub(crate) refused: Option<Refused>,
@@ -66,7 +69,8 @@ impl<A: Allocator + Copy> LockContender<A> {
     ghost use Rattle.zk_contend.specs.Contenders.{IsAsked, IsFresh, IsHeard, IsHeardOf, IsRefusal};
 
     /// A contender in this directory, which is made if it is not there. The guid is to be a text that no other contender has: 32
-    /// hexadecimal digits for kazoo's names, a UUID for Curator's. `may_be_there` says that this session may have sent a create with it
+    /// hexadecimal digits for kazoo's names, a UUID for Curator's. What it makes, its places and the directories that were not there, has
+    /// this ACL, and without one is open to everybody. `may_be_there` says that this session may have sent a create with it
     /// before, as after a restart: then the place is looked for first. An error says why no place in this directory has a path (`refused`,
     /// `accepted`), or that memory ran out.
     pub fn new(
@@ -75,10 +79,12 @@ impl<A: Allocator + Copy> LockContender<A> {
         naming: Naming,
         guid: &str,
         bytes: Option<Vec<u8, A>>,
+        acl: Option<AccessList<A>>,
         may_be_there: bool,
     ) -> Result<LockContender<A>, PathFault>
         ensures fresh { IfOk result (λ contender. IsFresh directory naming guid.now may_be_there contender) }
         ensures bytes { IfOk result (λ contender. contender.data ≡ bytes) }
+        ensures acl { IfOk result (λ contender. contender.acl ≡ acl) }
         ensures fits { IfOk result (λ contender. length contender.entry + 10 ≤ LONGEST_PATH) }
         ensures accepted { OnOk result (contender_fault directory naming guid.now ≡ None) }
         ensures refused { IfErr result (λ fault. fault ≢ Memory → contender_fault directory naming guid.now ≡ Some fault) }
@@ -97,6 +103,7 @@ impl<A: Allocator + Copy> LockContender<A> {
             front,
             entry,
             data: bytes,
+            acl,
             place,
             asked: None,
             refused: None,
@@ -443,14 +450,17 @@ impl<A: Allocator + Copy> LockContender<A> {
     }
 
     /// The contender is given up, and pauses no more. Its place is deleted, however often the connection is lost; a create that may be
-    /// under way is awaited, or its place is looked for. It asks until no node of it is there (`nothing_left` of [`laws`](crate::laws)).
+    /// under way is awaited, or its place is looked for. It asks until no node of it is there (`nothing_left` of [`laws`](crate::laws)). A
+    /// refusal from then on is told, also for what was told before.
     pub fn give_up(&mut self)
-        ensures { self.new ≡ given_up self.old }
+        ensures gives { self.new ≡ given_up self.old }
+        ensures tells { (why : Obstacle) → news_of self.new.told (LockStatus.Refused why) ≡ Some (LockStatus.Refused why) }
     {
         let place = mem::replace(&mut self.place, Place::Left);
         self.place = leaves(self.asked, place);
         self.refused = None;
         self.is_given_up = true;
+        self.told = without_refusal(self.told);
     }
 
     /// Whether it is given up, no node of it is there, and no call of it is under way.

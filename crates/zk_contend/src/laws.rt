@@ -1,5 +1,6 @@
 //! What follows of contenders, over definitions alone. The functions do nothing: their contracts are the laws.
 
+ghost use Rattle.zk_contend.specs.Acls.{SpellsCreates};
 ghost use Rattle.zk_contend.specs.Collections.{NothingBefore};
 ghost use Rattle.zk_contend.specs.Contenders.{WatchesOne};
 ghost use Rattle.zk_contend.specs.Leases.{AmongStays, LeaseIsTrue, OneIsFirst};
@@ -49,4 +50,9 @@ pub fn nothing_left<A: Allocator>()
 /// If no call of those that are looked at is due now, none is before the deadline, as long as the client shows the same.
 pub fn nothing_before<A: Allocator>()
     ensures { NothingBefore A }
+{}
+
+/// What stands after the header of a create2 is the spelling of `CreateRequest` with the entries of the ACL that was handed in.
+pub fn creates_are_spelled()
+    ensures { SpellsCreates }
 {}

@@ -10,9 +10,10 @@
 //!
 //! [`Contenders`] are those of one session, each under a ticket of its program. The session of C drives them.
 //!
-//! One contender has one place. Places with an ACL of their own are not there yet.
+//! One contender has one place. What it makes is open to everybody, or has the [`AccessList`] that it is given.
 #![tactic(auto)]
 
+mod acl;
 mod answers;
 mod call;
 mod calls;
@@ -33,6 +34,7 @@ mod settled;
 mod status;
 mod stirred;
 
+pub use acl::{AccessList, AclFault};
 pub use calls::is_contenders;
 pub use collection::Contenders;
 pub use contender::LockContender;

@@ -82,7 +82,7 @@ pub(crate) fn made<A: Allocator + Copy>(
 {
     match outcome {
         Outcome::Replied {
-            result: CallResult::Created(_),
+            result: CallResult::Created(_) | CallResult::Raw(_),
             ..
         } => Ok(Some(after_made(alloc, directory, path)?)),
         Outcome::Replied {
@@ -227,6 +227,10 @@ pub(crate) fn entered<A: Allocator + Copy>(
             result: CallResult::Code(code),
             ..
         } => unentered(alloc, directory, is_given_up, *code),
+        Outcome::Replied {
+            zxid,
+            result: CallResult::Raw(_),
+        } => Ok(Some(Place::Looking { answered: *zxid })),
         Outcome::Replied { .. } | Outcome::ConnectionLoss => Ok(Some(Place::Unsure)),
         _ => Ok(unsent(is_given_up)),
     }

@@ -13,7 +13,7 @@ pub(crate) enum Place<A: Allocator> {
     },
     /// The place is to be made. None is there.
     Entering,
-    /// A create may have made one. A create of the directory goes after it, in the session's order: the barrier.
+    /// A create whose answer was lost may have made one. A create of the directory goes after it, in the session's order: the barrier.
     Unsure,
     /// The names that are there are to be listed, by a server that has seen this zxid.
     Looking {

@@ -1,7 +1,7 @@
 //! How a contender stands, and what there is to tell of it.
 
 ghost use Rattle.std.specs.Prelude.{◌≡◌};
-ghost use Rattle.zk_contend.specs.Standings.{is_holding, is_same, is_same_refusal, news_of};
+ghost use Rattle.zk_contend.specs.Standings.{is_holding, is_same, is_same_refusal, news_of, without_refusal};
 
 use crate::refused::Obstacle;
 
@@ -65,4 +65,14 @@ pub(crate) fn news_of(told: LockStatus, stands: LockStatus) -> Option<LockStatus
         return None;
     }
     Some(stands)
+}
+
+/// What was told last, if a refusal that was told is forgotten.
+pub(crate) fn without_refusal(told: LockStatus) -> LockStatus
+    ensures { result ≡ without_refusal told }
+{
+    match told {
+        LockStatus::Refused { .. } => LockStatus::Contends,
+        told => told,
+    }
 }

@@ -1,6 +1,7 @@
 //! The contenders of a session, which its machine has. It decides all about them: here is noted what it tells.
 
 use super::Engine;
+use crate::acl::Acl;
 use crate::contention::{Contention, Naming};
 use crate::dispatch::ContenderUpdate;
 use crate::error::ErrorKind;
@@ -17,6 +18,7 @@ pub(crate) struct Entry {
     pub(crate) naming: Naming,
     pub(crate) guid: String,
     pub(crate) data: Vec<u8>,
+    pub(crate) acls: Vec<Acl>,
 }
 
 impl Entry {
@@ -26,6 +28,7 @@ impl Entry {
             naming: self.naming,
             guid: &self.guid,
             data: Some(&self.data),
+            acls: &self.acls,
             may_be_there,
         }
     }
@@ -257,6 +260,7 @@ mod tests {
             naming: Naming::Kazoo,
             guid: String::from("00112233445566778899aabbccddeeff"),
             data: Vec::new(),
+            acls: Vec::new(),
         };
         let tickets = [5, 6].map(|token| {
             let ticket = engine.contend(&entry).unwrap();

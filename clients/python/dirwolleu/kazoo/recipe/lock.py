@@ -16,6 +16,7 @@ from dirwolleu import exceptions as own
 from dirwolleu._contending import Contender
 from dirwolleu._locks import KAZOO, Taken, TurnIsNotYet, contend, in_line, mixed_names
 from dirwolleu._steps import SHORTEST_ASK, Result, Step, Steps, Wait
+from dirwolleu.kazoo._checks import own_acls
 from dirwolleu.kazoo.exceptions import (
     CancelledError,
     ConfigurationError,
@@ -135,7 +136,7 @@ class Lock:
         session = self.client._session
         if session is None:
             raise ConnectionClosedError("Connection has been closed")
-        contender = Contender(own_path(self.path), self._naming, uuid.uuid4().hex, self.data)
+        contender = Contender(own_path(self.path), self._naming, uuid.uuid4().hex, self.data, own_acls(self.client.default_acl))
         limit, patience = (until, SHORTEST_ASK) if blocking else (time.monotonic(), session.session_timeout)
         try:
             taken = self._drive(contend(session, contender, limit, least=patience), self.wake_event)

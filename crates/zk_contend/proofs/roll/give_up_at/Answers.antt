@@ -11,4 +11,4 @@ returns-in-Some g c =
     (get nat_eq (c.get_mut.follows.lender c.give_up.new.self)) c.in-Some.contender.now c.give_up.new.self
     (sym c.in-Some.ensures.value)
     ((c.get_mut.follows.holds c.give_up.new.self).3 (subst IsSome c.in-Some.ensures.value refl)).0
-    c.give_up.ensures
+    c.give_up.ensures.gives

@@ -10,8 +10,9 @@ use Rattle.ffi_device.proofs.device.Device.contend_at.Goals as goal
 pub returns-in_default : goal.returns-in_default
 returns-in_default c =
     let stops = c.stop.ensures in
-    halted_steps (RefusesContender c.args.directory.now c.args.naming c.args.guid.now)
-    (Contends c.args.ticket c.args.directory.now c.args.naming c.args.guid.now (option_map (λ s. s.now) c.args.bytes) c.args.may_be_there)
+    halted_steps (RefusesContender c.args.directory.now c.args.naming c.args.guid.now (option_map (λ s. s.now) c.args.acl))
+    (Contends c.args.ticket c.args.directory.now c.args.naming c.args.guid.now (option_map (λ s. s.now) c.args.bytes)
+    (option_map (λ s. s.now) c.args.acl) c.args.may_be_there)
     c.args.now c.args.self.now c.stop.new.self c.stop.result
     stops.halted stops.over stops.said stops.news stops.number stops.agent
 
@@ -20,8 +21,9 @@ returns c =
     let before = c.args.self.now in
     let contender = c.in_ok-contender.contender in
     let its = c.in-Ok.ensures in
-    joined_steps (RefusesContender c.args.directory.now c.args.naming c.args.guid.now)
-    (Contends c.args.ticket c.args.directory.now c.args.naming c.args.guid.now (option_map (λ s. s.now) c.args.bytes) c.args.may_be_there)
+    joined_steps (RefusesContender c.args.directory.now c.args.naming c.args.guid.now (option_map (λ s. s.now) c.args.acl))
+    (Contends c.args.ticket c.args.directory.now c.args.naming c.args.guid.now (option_map (λ s. s.now) c.args.bytes)
+    (option_map (λ s. s.now) c.args.acl) c.args.may_be_there)
     c.args.now before c.step_at.new.self c.contend.new.self true c.step_at.result refl refl
     (record {
       contender = contender;
