@@ -31,7 +31,7 @@ use Rattle.zk_contend.specs.declared.place.Ask.TheVariants.{List as ListsAgain}
 use Rattle.zk_contend.specs.declared.place.Place.{Place}
 use Rattle.zk_contend.specs.declared.place.Place.TheVariants.{At, Making}
 use Rattle.ffi_device.specs.Chains.{first_own}
-use Rattle.ffi_c.specs.Pasts.{AllWatchBelow, Chapter}
+use Rattle.ffi_c.specs.Pasts.{Chapter}
 use Rattle.ffi_c.proofs.Heard.{each_weaker, AsksSo, ItemAsks}
 use Rattle.zk_contend.proofs.Listings.{heard_has, noted_has, HasListing, IsAnswer}
 use Rattle.ffi_c.proofs.Tickets.{begins, EntryAsks}
@@ -121,29 +121,27 @@ noted_like path event contender = record {
 
 -- ---- what is asked
 
--- Without a watch a path is listed so that this is so of the ticket.
+-- A path is listed so that this is so of the ticket.
 abbrev pub AsksList : (MayList : ℕ → Text → Type 0) → ℕ → Question → Type 0
-AsksList MayList ticket (GetChildren path false) = MayList ticket path
+AsksList MayList ticket (GetChildren path watch) = MayList ticket path
 AsksList MayList ticket _ = ⊤
 
 asks_on : (May Then : ℕ → Text → Type 0) → ((ticket : ℕ) (path : Text) → May ticket path → Then ticket path) → (ticket : ℕ)
     (question : Question) → AsksList May ticket question → AsksList Then ticket question
-asks_on May Then on ticket (GetChildren path false) asks = on ticket path asks
-asks_on May Then on ticket (GetChildren path true) asks = tt
+asks_on May Then on ticket (GetChildren path watch) asks = on ticket path asks
 asks_on May Then on ticket _ asks = tt
 
 pub asks_where : (May : ℕ → Text → Type 0) (ticket : ℕ) (question : Question)
-    → ((path : Text) → question ≡ GetChildren path false → May ticket path) → AsksList May ticket question
-asks_where May ticket (GetChildren path false) may = may path refl
-asks_where May ticket (GetChildren path true) may = tt
+    → ((path : Text) (watch : Bool) → question ≡ GetChildren path watch → May ticket path) → AsksList May ticket question
+asks_where May ticket (GetChildren path watch) may = may path watch refl
 asks_where May ticket _ may = tt
 
-pub reads_list : (May : ℕ → Text → Type 0) (ticket : ℕ) (side : Side) (is_missing : Bool) (path : Text)
-    → AsksList May ticket (read_of side is_missing path)
-reads_list May ticket Data false path = tt
-reads_list May ticket Child false path = tt
-reads_list May ticket Data true path = tt
-reads_list May ticket Child true path = tt
+pub reads_list : (May : ℕ → Text → Type 0) (ticket : ℕ) → ((path : Text) → May ticket path) → (side : Side) (is_missing : Bool)
+    (path : Text) → AsksList May ticket (read_of side is_missing path)
+reads_list May ticket may Data false path = tt
+reads_list May ticket may Child false path = may path
+reads_list May ticket may Data true path = tt
+reads_list May ticket may Child true path = tt
 
 item_on : (May Then : ℕ → Question → Type 0) → ((ticket : ℕ) (question : Question) → May ticket question → Then ticket question)
     → (item : Item) → ItemAsks May item → ItemAsks Then item
@@ -168,9 +166,8 @@ module _ (one : ℕ → Option Contender) (asker : ℕ → Option ℕ) where
 abbrev pub AreListed : (Is : Text → Listed Global → Type 0) → (one : ℕ → Option Contender) → Type 0
 AreListed Is one = (ticket : ℕ) → HasListed Is (one ticket)
 
--- if no listing with a watch has a ticket of contenders' calls
 abbrev pub IsListedIn : Chapter → Text → Listed Global → Type 0
-IsListedIn chapter directory listed = AllWatchBelow chapter.items → HasHeard chapter.start chapter.items directory listed
+IsListedIn chapter directory listed = HasHeard chapter.start chapter.items directory listed
 
 abbrev pub Asking : (one : ℕ → Option Contender) (asker : ℕ → Option ℕ) (next : ℕ) → ℕ → Question → Type 0
 Asking one asker next = AsksList (MayList one asker next)
@@ -355,10 +352,10 @@ lists_directory directory _ = refl
 -- what becomes of the one that asks
 record HasNow (call : Asked_call) (new : Option Contender) : Type 0 where
   asked : HasAsked new
-  lists : (path : Text) → question_of call ≡ GetChildren path false → ListsPath path new
+  lists : (path : Text) (watch : Bool) → question_of call ≡ GetChildren path watch → ListsPath path new
 
-path_same : (path other : Text) → GetChildren path false ≡ GetChildren other false → path ≡ other
-path_same path other e = cc
+path_same : (path other : Text) (watch its : Bool) → GetChildren path watch ≡ GetChildren other its → path ≡ other
+path_same path other watch its e = cc
 
 ask_same : (ask other : Ask) → Some ask ≡ Some other → ask ≡ other
 ask_same ask other e = cc
@@ -367,10 +364,10 @@ module _ (view : View) (now : ℕ) (call : Asked_call) where
   asks_now : (was is : Contender) → IsAsked view now was call is → HasNow call (Some is)
   asks_now was is (ask, due, calls, same) = record {
     asked = ap is_some asked;
-    lists = λ path question again.
+    lists = λ path watch question again.
         let listing : ask ≡ ListsAgain = ask_same ask ListsAgain (sym asked ∙ again) in
         let about : call ≡ call_asked was ListsAgain = calls ∙ ap (call_asked was) listing in
-        path_same path (path_asked was.directory was.place ListsAgain) (sym question ∙ ap question_of about)
+        path_same path (path_asked was.directory was.place ListsAgain) watch false (sym question ∙ ap question_of about)
         ∙ lists_directory was.directory was.place ∙ sym (ap (λ (c : Contender). c.directory) same);
   }
     where
@@ -447,15 +444,15 @@ module _ (view : View) (now number : ℕ) (call : Asked_call) (old new : Contend
       by its (inl both) = absurd (earlier_apart ticket (may own).0 both.0)
       by its (inr both) = subst (ListsPath path) (sym (still_there ticket its both.1)) ((may own).1 its both.1)
 
-  may_now : (path : Text) → question_of call ≡ GetChildren path false
+  may_now : (path : Text) (watch : Bool) → question_of call ≡ GetChildren path watch
       → MayList (one_of new) (asker_of new) new.calls.next number path
-  may_now path question own = (below, (λ its is. by its (waits_for number its is)))
+  may_now path watch question own = (below, (λ its is. by its (waits_for number its is)))
     where
       below : number < new.calls.next
       below = let is = asks.is_next in let then = asks.next in omega (arith, is, then)
 
       by : (its : ℕ) → WaitsFor number its → ListsPath path (one_of new its)
-      by its (inl both) = subst (λ t. ListsPath path (one_of new t)) both.1 (its_own.0.lists path question)
+      by its (inl both) = subst (λ t. ListsPath path (one_of new t)) both.1 (its_own.0.lists path watch question)
       by its (inr both) = absurd (true≢false (sym (eq-eqb number number refl) ∙ both.0))
 
   listings_stay : (Is : Text → Listed Global → Type 0) → AreListed Is (one_of old) → AreListed Is (one_of new)

@@ -1,7 +1,8 @@
 -- What an agent has come through, move by move: each move as turns of its client, by what its steps ensure; and what was told meanwhile.
 use Rattle.std.proofs.Common.{◌≡◌, ◌++◌, ℕ, ℤ, Bool, true, false, cond, List, [], ◌∷◌, Option, Some, None, map, max, refl, sym, ap}
+use Rattle.std.proofs.lemmas.List.{append-nil}
 use Rattle.std.proofs.Common.{append_assoc, subst, ◌∙◌, true≢false}
-use Rattle.std.specs.Prelude.{⊤, fold}
+use Rattle.std.specs.Prelude.{⊤, ◌<◌, fold}
 use Rattle.std.specs.List.{filter, flat_map, list_any, AllByRecursion, FoldsTo}
 use Rattle.std.specs.declared.alloc.Global.{Global}
 use Rattle.zk_conversation.specs.Calls.{Call}
@@ -19,7 +20,8 @@ use Rattle.zk_dialler.specs.declared.dialler.DialDue.{DialDue}
 use Rattle.zk_dialler.specs.declared.dialler.DialDue.TheVariants.{Dial, GiveUp}
 use Rattle.zk_dialler.specs.declared.dialler.Phase.{Phase}
 use Rattle.zk_dialler.specs.declared.dialler.Phase.TheVariants.{Dialling}
-use Rattle.zk_follow.specs.Following.{news_in, outputs_in}
+use Rattle.zk_follow.specs.Following.{due_again, fresh as fresh_subject, news_in, outputs_in}
+use Rattle.zk_follow.specs.declared.subject.Subject.{Subject}
 use Rattle.zk_calls.specs.declared.entry.Entry.{Entry}
 use Rattle.zk_calls.specs.declared.entry.Ended.{Ended}
 use Rattle.zk_calls.specs.declared.entry.Ending.{Ending}
@@ -37,14 +39,16 @@ use Rattle.zk_agent.specs.Credentials.{unwritten}
 use Rattle.zk_agent.specs.Calls as calls
 use Rattle.zk_agent.specs.Replies.{is_lost}
 use Rattle.zk_agent.specs.Telling.{Told, Says, HangsUp, Begins, Introduces, TellsTree, closed_told, due_told, ended_told, judged_told}
-use Rattle.zk_agent.specs.Telling.{news_told}
+use Rattle.zk_agent.specs.Telling.{news_told, told_by}
+use Rattle.zk_trees.specs.Tending.{shifted, LetsGo, TakesOn, TreeTold}
 use Rattle.zk_dialler.specs.Dialling.{is_open}
+use Rattle.ffi_device.specs.Chains.{first_own}
 use Rattle.ffi_device.specs.Taking.{AgentTook}
-use Rattle.ffi_c.specs.Pasts.{AreLeft, Chapter, with_turns, Moves, Takes, reported}
+use Rattle.ffi_c.specs.Pasts.{AreLeft, Chapter, TellsBelow, with_turns, Moves, Takes, reported}
 use Rattle.ffi_c.proofs.Heard.{each_both, AsksSo}
 use Rattle.ffi_c.proofs.Lives.{fresh}
 use Rattle.ffi_c.proofs.Tickets.{begins, closings_said, due_said, endings_said, hears_kept, left_asks, next_asks, no_reply}
-use Rattle.ffi_c.proofs.Tickets.{renewed_kept, stays_kept, AreSaid, EntryAsks, IsKept, IsSaid, Keeps}
+use Rattle.ffi_c.proofs.Tickets.{mapped_low, renewed_kept, stays_kept, unfollowed_low, AreSaid, EntryAsks, IsKept, IsLow, IsSaid, Keeps}
 use Rattle.ffi_c.proofs.Turned.{add_turns, back, fold_more, heard_are, heard_said, heard_turns, reports_added, with_more}
 
 -- ---- what is told
@@ -109,10 +113,19 @@ told_more base old more none = fold_more reported base old more ∙ none (fold r
 
 -- ---- moves
 
+shifted_low : {A : Type 0} (one : TreeTold) (subjects : List (Subject A)) → TellsBelow (TellsTree one) → AllByRecursion IsLow subjects
+    → AllByRecursion IsLow (shifted one subjects)
+shifted_low (TakesOn tree ticket side path) subjects low all =
+    each_both IsLow subjects (fresh_subject ticket side path ∷ []) all (low, tt)
+shifted_low (LetsGo tree ticket) subjects low all = unfollowed_low ticket subjects all
+shifted_low _ subjects low all = all
+
 -- What a move from outside asks, it asks so.
 abbrev MoveAsks : (IsAsked : ℕ → Question → Type 0) → Move → Type 0
 MoveAsks IsAsked (Hears now input) = AsksSo IsAsked input
 MoveAsks IsAsked (Asks ticket asked until) = IsAsked ticket (question_of asked)
+MoveAsks IsAsked (Follows ticket side path) = ticket < first_own
+MoveAsks IsAsked (Tends one) = TellsBelow (TellsTree one)
 MoveAsks IsAsked move = ⊤
 
 -- An agent sits in a chapter: its client stands where the chapter has led, later sessions ask for this timeout, the reports that were told
@@ -166,20 +179,29 @@ module _ {A : Type 0} (timeout : ℤ) (base : List Output) (IsAsked : ℕ → Qu
   }
 
   -- with the line and what was told as they were, and with something more that is told
-  still : (old like : Trail A) → like.line ≡ old.line → like.told ≡ old.told → (chapter : Chapter) → SitsIn old chapter
-      → KeepsIn like chapter
-  still old like line told chapter sits below = record {
+  still : (old like : Trail A) → like.line ≡ old.line → like.subjects ≡ old.subjects → like.told ≡ old.told → (chapter : Chapter)
+      → SitsIn old chapter → KeepsIn like chapter
+  still old like line subjects told chapter sits below = record {
+    subjects = subst (AllByRecursion IsLow) (sym subjects) (sits.keeps below).subjects;
     turns = (sits.keeps below).turns;
     line = subst (AllByRecursion (EntryAsks IsAsked)) (sym line) (sits.keeps below).line;
     told = subst (AreSaid (outputs_of chapter.items)) (sym told) (sits.keeps below).told;
     lasts = λ none. (sits.keeps below).lasts (sym (ap (list_any begins) told) ∙ none);
   }
 
-  tells : (old like : Trail A) (more : List Told) → like.line ≡ old.line → like.told ≡ old.told ++ more → (chapter : Chapter)
-      → AllByRecursion (IsSaid (outputs_of chapter.items)) more → SitsIn old chapter → KeepsIn like chapter
-  tells old like more line told chapter none sits below =
+  tells : (old like : Trail A) (more : List Told) → like.line ≡ old.line → like.subjects ≡ old.subjects → like.told ≡ old.told ++ more
+      → (chapter : Chapter) → AllByRecursion (IsSaid (outputs_of chapter.items)) more → SitsIn old chapter → KeepsIn like chapter
+  tells old like more line subjects told chapter none sits below =
       stays_kept IsAsked Lasts kept old like more chapter (subst (AllByRecursion (EntryAsks IsAsked)) (sym line) (sits.keeps below).line)
-      told none (sits.keeps below)
+      (subst (AllByRecursion IsLow) (sym subjects) (sits.keeps below).subjects) told none (sits.keeps below)
+
+  -- with other subjects, whose tickets are low too
+  follows : (old like : Trail A) (more : List Told) → like.line ≡ old.line → (Below → AllByRecursion IsLow like.subjects)
+      → like.told ≡ old.told ++ more → (chapter : Chapter) → AllByRecursion (IsSaid (outputs_of chapter.items)) more → SitsIn old chapter
+      → KeepsIn like chapter
+  follows old like more line low told chapter none sits below =
+      stays_kept IsAsked Lasts kept old like more chapter (subst (AllByRecursion (EntryAsks IsAsked)) (sym line) (sits.keeps below).line)
+      (low below) told none (sits.keeps below)
 
   leaves : (is_lost : Bool) (now : ℕ) (old new : Trail A) → LeavesWhere is_lost now old new → (chapter : Chapter)
       → SitsIn old chapter → (made : List Turn) × AreLeft is_lost now made × SitsIn new (with_more made chapter)
@@ -238,7 +260,9 @@ module _ {A : Type 0} (timeout : ℤ) (base : List Output) (IsAsked : ℕ → Qu
               (fresh (renewed_start timeout old.view));
           asks = does.timeout ∙ sits.asks;
           told = ap (fold reported base) does.told ∙ fold_more reported base (old.told ++ endings ending.Expired old.line) (Begins ∷ []);
-          keeps = λ below. renewed_kept IsAsked Lasts kept new (old.told ++ endings ending.Expired old.line) next refl does.line does.told;
+          keeps = λ below. renewed_kept IsAsked Lasts kept new (old.told ++ endings ending.Expired old.line) next refl does.line
+              (subst (AllByRecursion IsLow) (sym does.subjects) (mapped_low due_again (λ subject. refl) old.subjects
+              (sits.keeps below).subjects)) does.told;
         },
       )
 
@@ -247,7 +271,7 @@ module _ {A : Type 0} (timeout : ℤ) (base : List Output) (IsAsked : ℕ → Qu
   by_tires now old new does chapter sits =
       let made : List Turn = heard_turns now turns.Cut does.between does.after does.hears in
       let hung = stays old does.between _ does.hangs refl refl (told_more base old.told (HangsUp ∷ []) (λ before. refl)) chapter
-      (tells old _ (HangsUp ∷ []) refl refl chapter (tt, tt) sits) sits in
+      (tells old _ (HangsUp ∷ []) refl refl refl chapter (tt, tt) sits) sits in
       let heard = hears now turns.Cut does.between does.after does.hears (with_more [] chapter) (λ below. tt) hung in (
         with_more made chapter,
         (made, heard_are now turns.Cut does.between does.after does.hears, refl),
@@ -256,7 +280,7 @@ module _ {A : Type 0} (timeout : ℤ) (base : List Output) (IsAsked : ℕ → Qu
           asks = ap (λ (t : Trail A). t.timeout) does.last ∙ heard.asks;
           told = ap (λ (t : Trail A). fold reported base t.told) does.last ∙ heard.told;
           keeps = λ below. subst (λ (t : Trail A). Keeps IsAsked Lasts t (with_more made chapter)) (sym does.last)
-              (still does.after _ refl refl (with_more made chapter) heard below);
+              (still does.after _ refl refl refl (with_more made chapter) heard below);
         },
       )
 
@@ -272,7 +296,7 @@ module _ {A : Type 0} (timeout : ℤ) (base : List Output) (IsAsked : ℕ → Qu
         with_more [] chapter,
         ([], refl, refl),
         stays old new _ does refl refl (introduced ∙ judged_too) chapter
-            (tells old _ (map judged_told judged ++ map Introduces frames) refl
+            (tells old _ (map judged_told judged ++ map Introduces frames) refl refl
             (append_assoc old.told (map judged_told judged) (map Introduces frames)) chapter both sits) sits,
       )
 
@@ -293,6 +317,7 @@ module _ {A : Type 0} (timeout : ℤ) (base : List Output) (IsAsked : ℕ → Qu
       keeps : KeepsIn (record old { line = old.line ++ does.entry ∷ [] }) chapter
       keeps below = record {
         turns = (sits.keeps below).turns;
+        subjects = (sits.keeps below).subjects;
         line = each_both (EntryAsks IsAsked) old.line (does.entry ∷ []) (sits.keeps below).line (asks below, tt);
         told = (sits.keeps below).told;
         lasts = (sits.keeps below).lasts;
@@ -305,7 +330,7 @@ module _ {A : Type 0} (timeout : ℤ) (base : List Output) (IsAsked : ℕ → Qu
     ([], refl, refl),
     stays old new _ does refl refl (told_more base old.told _ (none_endings (ending.Late now) old.line)) chapter
         (λ below. stays_kept IsAsked Lasts kept old _ (endings (ending.Late now) old.line) chapter
-        (left_asks IsAsked (ending.Late now) old.line (sits.keeps below).line) refl
+        (left_asks IsAsked (ending.Late now) old.line (sits.keeps below).line) (sits.keeps below).subjects refl
         (endings_said (outputs_of chapter.items) (ending.Late now) old.line) (sits.keeps below)) sits,
   )
 
@@ -315,7 +340,7 @@ module _ {A : Type 0} (timeout : ℤ) (base : List Output) (IsAsked : ℕ → Qu
     ([], refl, refl),
     stays old new _ does.last refl refl
         (told_more base old.told _ (none_of closed_told (λ one before. refl) (map ended_of old.line))) chapter
-        (λ below. stays_kept IsAsked Lasts kept old _ (calls.closings old.line) chapter tt refl
+        (λ below. stays_kept IsAsked Lasts kept old _ (calls.closings old.line) chapter tt (sits.keeps below).subjects refl
         (closings_said (outputs_of chapter.items) old.line) (sits.keeps below)) sits,
   )
 
@@ -332,45 +357,50 @@ module _ {A : Type 0} (timeout : ℤ) (base : List Output) (IsAsked : ℕ → Qu
   by_move (Follows ticket side path) old new does chapter asks sits = (
     with_more [] chapter,
     ([], refl, refl),
-    stays old new _ does refl refl refl chapter (still old _ refl refl chapter sits) sits,
+    stays old new _ does refl refl refl chapter
+        (follows old _ [] refl (λ below. each_both IsLow old.subjects (fresh_subject ticket side path ∷ []) (sits.keeps below).subjects
+        (asks below, tt)) (sym (append-nil old.told)) chapter tt sits) sits,
   )
   by_move (Unfollows ticket) old new does chapter asks sits = (
     with_more [] chapter,
     ([], refl, refl),
-    stays old new _ does refl refl refl chapter (still old _ refl refl chapter sits) sits,
+    stays old new _ does refl refl refl chapter
+        (follows old _ [] refl (λ below. unfollowed_low ticket old.subjects (sits.keeps below).subjects) (sym (append-nil old.told))
+        chapter tt sits) sits,
   )
   by_move (Opened now) old new does chapter asks sits = (
     with_more [] chapter,
     ([], refl, refl),
-    stays old new _ does.1 refl refl refl chapter (still old _ refl refl chapter sits) sits,
+    stays old new _ does.1 refl refl refl chapter (still old _ refl refl refl chapter sits) sits,
   )
   by_move (Ends_at now) old new does chapter asks sits = (
     with_more [] chapter,
     ([], refl, refl),
-    stays old new _ does.1 refl refl refl chapter (still old _ refl refl chapter sits) sits,
+    stays old new _ does.1 refl refl refl chapter (still old _ refl refl refl chapter sits) sits,
   )
   by_move HungUp old new does chapter asks sits = (
     with_more [] chapter,
     ([], refl, refl),
     stays old new _ does refl refl (told_more base old.told (HangsUp ∷ []) (λ before. refl)) chapter
-        (tells old _ (HangsUp ∷ []) refl refl chapter (tt, tt) sits) sits,
+        (tells old _ (HangsUp ∷ []) refl refl refl chapter (tt, tt) sits) sits,
   )
   by_move (Addressed kept_first added is_listed) old new does chapter asks sits = (
     with_more [] chapter,
     ([], refl, refl),
-    stays old new _ does.1 refl refl refl chapter (still old _ refl refl chapter sits) sits,
+    stays old new _ does.1 refl refl refl chapter (still old _ refl refl refl chapter sits) sits,
   )
   by_move (Decides now due) old new does chapter asks sits = (
     with_more [] chapter,
     ([], refl, refl),
     stays old new _ does.last refl refl (told_more base old.told (due_told due) (none_due due)) chapter
-        (tells old _ (due_told due) refl refl chapter (due_said (outputs_of chapter.items) due) sits) sits,
+        (tells old _ (due_told due) refl refl refl chapter (due_said (outputs_of chapter.items) due) sits) sits,
   )
   by_move (Tends one) old new does chapter asks sits = (
     with_more [] chapter,
     ([], refl, refl),
     stays old new _ does refl refl (told_more base old.told (TellsTree one ∷ []) (λ before. refl)) chapter
-        (tells old _ (TellsTree one ∷ []) refl refl chapter (tt, tt) sits) sits,
+        (follows old _ (TellsTree one ∷ []) refl (λ below. shifted_low one old.subjects (asks below) (sits.keeps below).subjects) refl
+        chapter (tt, tt) sits) sits,
   )
 
   through : (moves : List Move) (old new : Trail A) → FoldsTo Does old moves new → (chapter : Chapter)
@@ -382,31 +412,109 @@ module _ {A : Type 0} (timeout : ℤ) (base : List Output) (IsAsked : ℕ → Qu
       let rest = through moves does.0 new does.2 one.0 (λ below. (asks below).1) one.2 in
       (rest.0, (one.0, one.1, rest.1), rest.2)
 
+-- ---- trees
+
+abbrev TendsBelow : Move → Type 0
+TendsBelow (Tends one) = TellsBelow (TellsTree one)
+TendsBelow move = ⊤
+
+abbrev AreToldBelow : List Told → Type 0
+AreToldBelow told = AllByRecursion TellsBelow told
+
+each_first : (told more : List Told) → AreToldBelow (told ++ more) → AreToldBelow told
+each_first [] more all = tt
+each_first (one ∷ told) more all = (all.0, each_first told more all.1)
+
+each_last : (told : List Told) (one : Told) → AreToldBelow (told ++ one ∷ []) → TellsBelow one
+each_last [] one all = all.0
+each_last (other ∷ told) one all = each_last told one all.1
+
+module _ {A : Type 0} where
+  let_go_first : (is_there : Bool) (timeout now : ℕ) (old new : Dialler A) (before after : List Told)
+      → LetsGoWhere is_there timeout now old new before after → AreToldBelow after → AreToldBelow before
+  let_go_first true timeout now old new before after goes all = each_first before (HangsUp ∷ []) (subst AreToldBelow goes.1 all)
+  let_go_first false timeout now old new before after goes all = subst AreToldBelow goes.1 all
+
+  hears_first : (now : ℕ) (input : Input) (old new : Trail A) → HearsSo now input old new → AreToldBelow new.told → AreToldBelow old.told
+  hears_first now input old new does all =
+      each_first old.told (tells_all (calls.handed input old.line) does.takes.given)
+      (each_first (old.told ++ tells_all (calls.handed input old.line) does.takes.given) _
+      (subst AreToldBelow does.takes.told (let_go_first _ _ now _ new.dialler does.told new.told does.lets_go all)))
+
+  leaves_first : (is_lost : Bool) (now : ℕ) (old new : Trail A) → LeavesWhere is_lost now old new → AreToldBelow new.told
+      → AreToldBelow old.told
+  leaves_first true now old new does all = hears_first now turns.Cut old new does all
+  leaves_first false now old new same all = subst (λ (t : Trail A). AreToldBelow t.told) same all
+
+  -- what is told of a trail that is like this one
+  told_like : (new like : Trail A) → new ≡ like → AreToldBelow new.told → AreToldBelow like.told
+  told_like new like is all = subst (λ (t : Trail A). AreToldBelow t.told) is all
+
+  told_first : (move : Move) (old new : Trail A) → Does old move new → AreToldBelow new.told → AreToldBelow old.told
+  told_first (Hears now input) old new does all =
+      hears_first now input old does.between does.hears (leaves_first does.hears.heard.is_lost now does.between new does.leaves all)
+  told_first (Hands now ticket asked) old new does all = hears_first now (turns.Call ticket asked) old new does all
+  told_first Renews old new does all =
+      each_first old.told (endings ending.Expired old.line)
+      (each_first (old.told ++ endings ending.Expired old.line) (Begins ∷ []) (subst AreToldBelow does.told all))
+  told_first (Tires now) old new does all =
+      each_first old.told (HangsUp ∷ []) (told_like does.between _ does.hangs
+      (hears_first now turns.Cut does.between does.after does.hears (told_like new _ does.last all)))
+  told_first (Presents judged frames) old new does all =
+      each_first old.told (map judged_told judged)
+      (each_first (old.told ++ map judged_told judged) (map Introduces frames) (told_like new _ does all))
+  told_first (Asks ticket asked until) old new does all = told_like new _ does.last all
+  told_first (GivesUp now) old new does all = each_first old.told (endings (ending.Late now) old.line) (told_like new _ does all)
+  told_first Closes old new does all = each_first old.told (calls.closings old.line) (told_like new _ does.last all)
+  told_first (Follows ticket side path) old new does all = told_like new _ does all
+  told_first (Unfollows ticket) old new does all = told_like new _ does all
+  told_first (Opened now) old new does all = told_like new _ does.1 all
+  told_first (Ends_at now) old new does all = told_like new _ does.1 all
+  told_first HungUp old new does all = each_first old.told (HangsUp ∷ []) (told_like new _ does all)
+  told_first (Addressed kept added is_listed) old new does all = told_like new _ does.1 all
+  told_first (Decides now due) old new does all = each_first old.told (due_told due) (told_like new _ does.last all)
+  told_first (Tends one) old new does all = each_first old.told (TellsTree one ∷ []) (told_like new _ does all)
+
+  one_tends : (move : Move) (old new : Trail A) → Does old move new → AreToldBelow new.told → TendsBelow move
+  one_tends (Tends one) old new does all = each_last old.told (TellsTree one) (told_like new _ does all)
+  one_tends (Hears now input) old new does all = tt
+  one_tends _ old new does all = tt
+
+  all_tend : (moves : List Move) (old new : Trail A) → FoldsTo Does old moves new → AreToldBelow new.told
+      → AllByRecursion TendsBelow moves × AreToldBelow old.told
+  all_tend [] old new same all = (tt, told_like new old (sym same) all)
+  all_tend (move ∷ moves) old new does all =
+      let rest = all_tend moves does.0 new does.2 all in
+      ((one_tends move old does.0 does.1 rest.1, rest.0), told_first move old does.0 does.1 rest.1)
+
 -- ---- what comes from outside
 
 module _ (IsAsked : ℕ → Question → Type 0) where
   -- what an input asks, it asks so
   abbrev pub GivenAsks : {A : Type 0} → AgentInput A → Type 0
   GivenAsks (happens.Call ticket call until) = IsAsked ticket (question_of (call_view call))
+  GivenAsks (happens.Follow ticket side path) = ticket < first_own
   GivenAsks _ = ⊤
 
   abbrev AllAsk : List Move → Type 0
   AllAsk moves = AllByRecursion (MoveAsks IsAsked) moves
 
-  own_asks : (move : Move) → is_given move ≡ false → MoveAsks IsAsked move
-  own_asks (Hears now input) own = absurd (true≢false own)
-  own_asks (Asks ticket asked until) own = absurd (true≢false own)
-  own_asks _ own = tt
+  own_asks : (move : Move) → is_given move ≡ false → TendsBelow move → MoveAsks IsAsked move
+  own_asks (Hears now input) own tends = absurd (true≢false own)
+  own_asks (Asks ticket asked until) own tends = absurd (true≢false own)
+  own_asks (Follows ticket side path) own tends = absurd (true≢false own)
+  own_asks (Tends one) own tends = tends
+  own_asks _ own tends = tt
 
-  -- who asks so by what comes from outside asks so by all
-  all_ask : (moves : List Move) → AllAsk (filter is_given moves) → AllAsk moves
-  all_ask [] all = tt
-  all_ask (move ∷ moves) all = by (λ rest. all_ask moves rest) (is_given move) refl all
+  -- who asks so by what comes from outside, and by trees, asks so by all
+  all_ask : (moves : List Move) → AllByRecursion TendsBelow moves → AllAsk (filter is_given moves) → AllAsk moves
+  all_ask [] tends all = tt
+  all_ask (move ∷ moves) tends all = by (λ rest. all_ask moves tends.1 rest) (is_given move) refl all
     where
       by : (AllAsk (filter is_given moves) → AllAsk moves) → (b : Bool) → is_given move ≡ b
           → AllAsk (cond b (move ∷ filter is_given moves) (filter is_given moves)) → AllAsk (move ∷ moves)
       by on true given some = (some.0, on some.1)
-      by on false own some = (own_asks move own, on some)
+      by on false own some = (own_asks move own tends.0, on some)
 
   opened_ask : (phase : Phase) (now : ℕ) → AllAsk (opened_at phase now)
   opened_ask (Dialling began until) now = (tt, (tt, tt))
@@ -429,7 +537,7 @@ module _ (IsAsked : ℕ → Question → Type 0) where
   given_ask dialler now (happens.Addresses kept added is_listed) asks = (tt, left_ask (leaves_with dialler kept added is_listed) now)
   given_ask dialler now (happens.Call ticket call until) asks = (asks, (tt, tt))
   given_ask dialler now (happens.Credential credential) asks = (tt, tt)
-  given_ask dialler now (happens.Follow ticket side path) asks = (tt, (tt, tt))
+  given_ask dialler now (happens.Follow ticket side path) asks = (asks, (tt, tt))
   given_ask dialler now (happens.Unfollow ticket) asks = (tt, (tt, tt))
   given_ask dialler now (happens.FollowTree ticket root most) asks = (tt, tt)
   given_ask dialler now (happens.UnfollowTree ticket) asks = (tt, tt)
@@ -444,14 +552,15 @@ module _ (IsAsked : ℕ → Question → Type 0) where
 -- what an agent takes
 pub part_goes : (IsAsked : ℕ → Question → Type 0) (Lasts : Chapter → Type 0) (Below : Type 0) → IsKept IsAsked Lasts → (moment : ℕ)
     (given : AgentInput Global) (from to : Agent Global) (said : List (Action Global)) → AgentTook moment given from to said
-    → (base : List Output) (chapter : Chapter) → (Below → GivenAsks IsAsked given)
+    → (base : List Output) (chapter : Chapter) → (Below → GivenAsks IsAsked given) → (Below → AllByRecursion TellsBelow (told_by said))
     → Sits from.timeout_ms base IsAsked Lasts Below (trail_of from []) chapter
     → (next : Chapter) × Takes moment given from to chapter next
     × Sits from.timeout_ms base IsAsked Lasts Below (trail_of to said) next
-part_goes IsAsked Lasts Below kept moment given from to said took base chapter asks sits =
+part_goes IsAsked Lasts Below kept moment given from to said took base chapter asks low sits =
     let comes = took.comes in
     let led = through from.timeout_ms base IsAsked Lasts Below kept comes.moves (trail_of from []) (trail_of to said) comes.does chapter
-    (λ below. all_ask IsAsked comes.moves (subst (AllByRecursion (MoveAsks IsAsked)) (sym comes.comes)
+    (λ below. all_ask IsAsked comes.moves (all_tend comes.moves (trail_of from []) (trail_of to said) comes.does (low below)).0
+    (subst (AllByRecursion (MoveAsks IsAsked)) (sym comes.comes)
     (moves_ask IsAsked (is_open to.dialler.phase) (max from.latest moment) given from (asks below)))) sits in (
       led.0,
       record { moves = comes.moves; outside = comes.comes; at = comes.at; leads = led.1; latest = took.latest },

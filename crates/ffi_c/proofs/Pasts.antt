@@ -35,7 +35,7 @@ use Rattle.ffi_device.specs.declared.device.Device.{Device}
 use Rattle.ffi_c.specs.Held.{ForgetsStale, Holds, Makes, Tells, TellsAll}
 use Rattle.ffi_c.specs.Lives.{Use, Opens, Resumes, Steps, Reads, ReadsAll, Forgets, Looks, Frees, Does as Uses_so}
 use Rattle.ffi_c.specs.Lives.{Used, held_after, IsLife, RefusesHappening}
-use Rattle.ffi_c.specs.Pasts.{Chapter, Advances, AllCallBelow, Breaks, CallsBelow}
+use Rattle.ffi_c.specs.Pasts.{Chapter, Advances, AreBelow, Breaks, IsBelow}
 use Rattle.ffi_c.specs.Pasts.{CameBy, Came, reported_by, told_reports, asked_by, contended_by, settled_by, how_many_asked}
 use Rattle.ffi_c.specs.Pasts.{has_contended, how_many_settled, CoherentForLife}
 use Rattle.ffi_c.proofs.Chains.{calls_told, inputs_own, reported_but, IsPrograms}
@@ -107,7 +107,8 @@ begun start session Earlier Below earlier begins = record {
   told = λ on. refl;
   contends = λ on. begins.no_contender;
   calls = λ on ticket ours. ap (λ entries. how_many ticket entries + 0) begins.calls;
-  lists = λ on below. session_begins (record { start = start; items = [] }) session refl begins.calls begins.nobody begins.no_asker;
+  lists = λ on below.
+      session_begins (record { start = start; items = [] }) session refl begins.calls begins.subjects begins.nobody begins.no_asker;
 }
 
 made : (Refuses : ℤ → Type 0) (start : Start) (Earlier : Chapter → Type 0) (Below : Type 0)
@@ -187,7 +188,7 @@ module _ (Earlier : Chapter → Type 0) (reports : List Output) (settled asked :
   abbrev IsOne : Use → (before after : Option Device) → Device → Type 0
   IsOne used before after session = Past (CameBy used before after Earlier) (reported_by used after reports)
       (λ ticket. settled_by ticket used after (settled ticket)) (λ ticket. asked_by ticket used (asked ticket))
-      (contended_by used contended) (CallsBelow used × Below) session
+      (contended_by used contended) (IsBelow used after × Below) session
 
   abbrev IsThen : Use → (before after : Option Device) → Type 0
   IsThen used before after = (session : Device) → after ≡ Some session → IsOne used before after session
@@ -212,7 +213,7 @@ module _ (Earlier : Chapter → Type 0) (reports : List Output) (settled asked :
   stepped moment what old now was does =
       let took = does.took in
       let parts : List Part = record { given = does.given; said = took.said } ∷ took.own in
-      let led = step_goes moment what (pos zero) old now does (CallsBelow (Steps moment what (pos zero)) × Below) reports was.chapter
+      let led = step_goes moment what old now does (IsBelow (Steps moment what (pos zero)) (Some now) × Below) reports was.chapter
       was.stands (was.told took.went_on) (λ below. below.0) (λ below. was.lists took.went_on below.1) in
       let contends : now.is_contending ≡ (is_contend what || contended)
       = does.contends ∙ ap (λ b. is_contend what || b) (was.contends took.went_on) in
@@ -289,10 +290,10 @@ module _ (Earlier : Chapter → Type 0) (reports : List Output) (settled asked :
   steps moment what (pos zero) (Some old) after past does = done moment what old after (past old refl) does
   steps moment what (negsuc zero) (Some old) after past does = broke moment what old after (past old refl) does
   steps moment what (pos (suc n)) (Some old) after past does =
-      unless (CallsBelow (Steps moment what (pos (suc n)))) after
+      unless (IsBelow (Steps moment what (pos (suc n))) after) after
       (refused (RefusesHappening what (pos (suc n))) old after (past old refl) does)
   steps moment what (negsuc (suc n)) (Some old) after past does =
-      unless (CallsBelow (Steps moment what (negsuc (suc n)))) after
+      unless (IsBelow (Steps moment what (negsuc (suc n))) after) after
       (refused (RefusesHappening what (negsuc (suc n))) old after (past old refl) does)
 
   -- nothing else became of a session than what was read of it
@@ -307,7 +308,8 @@ module _ (Earlier : Chapter → Type 0) (reports : List Output) (settled asked :
     calls = λ on ticket ours. subst
         (λ (a : Agent _). how_many ticket a.asker.line.entries.items + settled ticket ≡ asked ticket)
         (sym same) (was.calls (sym over ∙ on) ticket ours);
-    lists = λ on below. session_stays was.chapter old session (ap (λ (a : Agent _). a.asker.line.entries.items) same) contenders contends
+    lists = λ on below. session_stays was.chapter old session (ap (λ (a : Agent _). a.asker.line.entries.items) same)
+        (ap (λ (a : Agent _). a.asker.follower.subjects.items) same) contenders contends
         (was.lists (sym over ∙ on) below);
   }
 
@@ -346,36 +348,36 @@ module _ (Earlier : Chapter → Type 0) (reports : List Output) (settled asked :
         calls = λ on ticket ours. ap (λ (line : Line _). how_many ticket line.entries.items + settled ticket) gone.calls
             ∙ was.calls (sym gone.over ∙ on) ticket ours;
         lists = λ on below. session_stays (record was.chapter { items = items }) old session
-            (ap (λ (line : Line _). line.entries.items) gone.calls) gone.contenders gone.contends
+            (ap (λ (line : Line _). line.entries.items) gone.calls) (ap (λ s. s.items) gone.subjects) gone.contenders gone.contends
             (session_forgets was.chapter old (was.lists (sym gone.over ∙ on) below.1));
       }
 
   one : (used : Use) (before after : Option Device) → WasIn before → Uses_so before used after → IsThen used before after
   one (Opens limits timeout code) before after past does =
       made (RefusesTimeout timeout) (within limits (new_start (unsigned_abs timeout)))
-      (CameBy (Opens limits timeout code) before after Earlier) (CallsBelow (Opens limits timeout code) × Below) refl code after
+      (CameBy (Opens limits timeout code) before after Earlier) (IsBelow (Opens limits timeout code) after × Below) refl code after
       does
   one (Resumes limits timeout saved code) before after past does =
-      resumed limits timeout saved code before after Earlier (CallsBelow (Resumes limits timeout saved code) × Below)
+      resumed limits timeout saved code before after Earlier (IsBelow (Resumes limits timeout saved code) after × Below)
       (bytes_read saved) refl does
   one (Steps moment what code) before after past does = steps moment what code before after past does
   one (Reads room told code) before after past does =
-      unless (CallsBelow (Reads room told code)) after (reads room told code before after past does)
+      unless (IsBelow (Reads room told code) after) after (reads room told code before after past does)
   one (ReadsAll room written count code) before after past does =
-      unless (CallsBelow (ReadsAll room written count code)) after (reads_all room written count code before after past does)
+      unless (IsBelow (ReadsAll room written count code) after) after (reads_all room written count code before after past does)
   one (Forgets code) before after past does = forgets code before after past does
-  one Looks before after past does = unless (CallsBelow Looks) after (λ session is. past session (sym does ∙ is))
+  one Looks before after past does = unless (IsBelow Looks after) after (λ session is. past session (sym does ∙ is))
   one Frees before after past does = λ session is. empty_holds_none session after does is
 
 -- ---- all uses
 
 past_of : (uses : List Used) → IsLife uses
     → PastIn (Came uses) (told_reports uses) (λ ticket. how_many_settled ticket uses) (λ ticket. how_many_asked ticket uses)
-    (has_contended uses) (AllCallBelow uses) (held_after uses)
+    (has_contended uses) (AreBelow uses) (held_after uses)
 past_of [] lived session is = absurd (let e : None ≡ Some session = is in cc)
 past_of (used ∷ earlier) lived session is =
     one (Came earlier) (told_reports earlier) (λ ticket. how_many_settled ticket earlier) (λ ticket. how_many_asked ticket earlier)
-    (has_contended earlier) (AllCallBelow earlier) used.use_of (held_after earlier) used.held (past_of earlier lived.1) lived.0 session is
+    (has_contended earlier) (AreBelow earlier) used.use_of (held_after earlier) used.held (past_of earlier lived.1) lived.0 session is
 
 -- the client of a session stands where turns by the rule have led
 pub stands_in : (uses : List Used) (session : Device) → IsLife uses → held_after uses ≡ Some session
@@ -394,5 +396,5 @@ coherent_for_life uses session lived is =
       reports = past.told;
       contends = past.contends;
       calls = past.calls;
-      listings = λ on calls watches. its_listing past.chapter session (past.lists on calls) watches;
+      listings = λ on below. its_listing past.chapter session (past.lists on below);
     }

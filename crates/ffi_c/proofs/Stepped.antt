@@ -1,13 +1,14 @@
 -- A step of a device, in the chapter that its client has come to: its agent takes what was handed in, the contenders hear what was said and
 -- ask what is due of them, and what they have listed was answered.
-use Rattle.std.proofs.Common.{◌≡◌, ◌≤◌, ◌<◌, ℕ, ℤ, Bool, true, false, cond, not, List, [], ◌∷◌, Option, Some, None, is_some, map, inr}
-use Rattle.std.proofs.Common.{nat_eq, string_bytes, refl, sym, ap, subst, ◌∙◌, true≢false, arith}
+use Rattle.std.proofs.Common.{◌++◌, ◌≡◌, ◌≤◌, ◌<◌, ℕ, ℤ, Bool, true, false, cond, not, List, [], ◌∷◌, Option, Some, None, is_some, map}
+use Rattle.std.proofs.Common.{inl, inr, nat_eq, string_bytes, refl, sym, ap, subst, ◌∙◌, true≢false, arith}
 use Rattle.std.proofs.lemmas.Bool.{eqb-true}
 use Rattle.std.proofs.lemmas.List.{map-append}
 use Rattle.std.specs.Prelude.{◌||◌, ◌&&◌, fold}
 use Rattle.std.specs.List.{flat_map, list_any, AllByRecursion, FoldsTo}
 use Rattle.std.specs.declared.alloc.Global.{Global}
 use Rattle.zk_nodes.specs.Path.{Text}
+use Rattle.zk_nodes.specs.declared.side.Side.{Side}
 use Rattle.zk_nodes.specs.declared.stat.Stat.{Stat}
 use Rattle.zk_session.specs.declared.states.State.TheVariants.{Idle, Connecting, Connected, Expired, Closed}
 use Rattle.zk_conversation.specs.Calls.{Call as Asked_call}
@@ -39,15 +40,14 @@ use Rattle.zk_contend.specs.declared.listed.Listed.{Listed}
 use Rattle.zk_contend.specs.declared.place.Place.{Place}
 use Rattle.zk_contend.specs.declared.place.Place.TheVariants.{At}
 use Rattle.zk_contend.specs.declared.status.LockStatus.{LockStatus}
-use Rattle.ffi_device.specs.Chains.{first_own, Part, TookAll}
+use Rattle.ffi_device.specs.Chains.{first_own, IsOwnAnswer, Part, TellsAllBut, TookAll}
 use Rattle.ffi_device.specs.Contending.{is_own_answer, view_in, AskedAll, Contended, GoesOnWhere, HearsAll, HearsWhere, IsQuiet, JoinsBy}
 use Rattle.ffi_device.specs.Happenings.{Happening, given_of, happening, is_contend}
 use Rattle.ffi_device.specs.Happenings as whats
 use Rattle.ffi_device.specs.Steps.{Stepped}
 use Rattle.ffi_device.specs.declared.device.Device.{Device}
 use Rattle.ffi_device.proofs.OwnCalls.{own_answer}
-use Rattle.ffi_c.specs.Lives.{Steps}
-use Rattle.ffi_c.specs.Pasts.{AllWatchBelow, CallsBelow, Chapter, InputBelow, TakesAll, WatchesBelow, reported, with_turns}
+use Rattle.ffi_c.specs.Pasts.{AsksBelow, Chapter, TakesAll, TellsBelow, reported, with_turns}
 use Rattle.ffi_c.proofs.Contended.{asks_on_next, asks_where, bare_changed, changed_like, forgets, hears_on, lists_like, noted_like}
 use Rattle.ffi_c.proofs.Contended.{reads_list}
 use Rattle.ffi_c.proofs.Contended.{same_like, Answers, AskingOf, BecomesLike, Contender, HasListed, IsLike, IsListedIn, ListedOf}
@@ -55,7 +55,7 @@ use Rattle.ffi_c.proofs.Contended.{Lists, ListsBy, ListsPath, MayList}
 use Rattle.ffi_c.proofs.Heard.{listed_so, AsksSo, ItemAsks}
 use Rattle.zk_contend.proofs.Listings.{begins_has, leaves_has, renewed_has, HasListing}
 use Rattle.ffi_c.proofs.Moved.{part_goes, GivenAsks, Sits}
-use Rattle.ffi_c.proofs.Tickets.{begins, AreSaid, EntryAsks, IsKept, IsSaid, Keeps}
+use Rattle.ffi_c.proofs.Tickets.{begins, AreSaid, EntryAsks, IsKept, IsLow, IsSaid, Keeps}
 use Rattle.ffi_c.proofs.Turned.{fold_more, with_more}
 
 -- ---- what was answered stays so
@@ -83,9 +83,8 @@ turns_on start [] items directory listed heard = heard
 turns_on start (turn ∷ made) items directory listed heard =
     turns_on start made (Turned turn ∷ items) directory listed (heard_on start (Turned turn) items directory listed heard)
 
-below_before : (made : List Turn) (items : List Item) → AllWatchBelow (with_turns made items) → AllWatchBelow items
-below_before [] items below = below
-below_before (turn ∷ made) items below = (below_before made (Turned turn ∷ items) below).1
+not_both : (first ticket : ℕ) → ticket < first → first ≤ ticket → ⊥
+not_both first ticket below own = omega (arith, below, own)
 
 -- What contenders have listed stays so over turns.
 grows : (one : Option Contender) (old new : Chapter)
@@ -96,44 +95,24 @@ grows (Some contender) old new on has = λ listed is. on contender.directory lis
 
 kept_by : (contenders : Contenders Global) → IsKept (AskingOf contenders) (ListedOf contenders)
 kept_by contenders = record {
-  reads = reads_list (MayList (one_of contenders) (asker_of contenders) contenders.calls.next);
+  reads = λ ticket low. reads_list (MayList (one_of contenders) (asker_of contenders) contenders.calls.next) ticket
+      (λ path own. absurd (not_both first_own ticket low own));
   lasts = λ made chapter lists ticket. grows (one_of contenders ticket) chapter (with_more made chapter)
-      (λ directory listed heard below. turns_on chapter.start made chapter.items directory listed
-      (heard (below_before made chapter.items below))) (lists ticket);
+      (λ directory listed heard. turns_on chapter.start made chapter.items directory listed heard) (lists ticket);
 }
 
 -- ---- an answer that is heard
 
--- A call is asked as contenders ask, and lists with a watch only below their tickets.
-abbrev Both : Contenders Global → ℕ → Question → Type 0
-Both contenders ticket question = AskingOf contenders ticket question × WatchesBelow ticket question
-
-both_asked : (contenders : Contenders Global) (items : List Item) → AllByRecursion (ItemAsks (AskingOf contenders)) items
-    → AllWatchBelow items → AllByRecursion (ItemAsks (Both contenders)) items
-both_asked contenders [] asks below = tt
-both_asked contenders (Turned turn ∷ items) asks below = (by turn.input asks.0 below.0, both_asked contenders items asks.1 below.1)
-  where
-    by : (input : Input) → AsksSo (AskingOf contenders) input → InputBelow input → AsksSo (Both contenders) input
-    by (Call ticket call) its is = (its, is)
-    by _ its is = tt
-both_asked contenders (_ ∷ items) asks below = (tt, both_asked contenders items asks.1 below.1)
-
-not_both : (first ticket : ℕ) → ticket < first → first ≤ ticket → ⊥
-not_both first ticket below own = omega (arith, below, own)
-
 module _ (contenders : Contenders Global) (chapter : Chapter) (ticket : ℕ) (own : first_own ≤ ticket) where
-  heard_by : (contender : Contender) (listed : Listed Global) (stat : Stat) (path : Text) (watch : Bool)
-      → Both contenders ticket (GetChildren path watch)
-      → (MayList (one_of contenders) (asker_of contenders) contenders.calls.next ticket path → path ≡ contender.directory)
+  heard_by : (contender : Contender) (listed : Listed Global) (stat : Stat) (path : Text) (watch : Bool) → path ≡ contender.directory
       → Among (Took (Replies ticket (GetChildren path watch) listed.zxid (Listing listed.names stat))) (past_of chapter.start chapter.items)
       → HasHeard chapter.start chapter.items contender.directory listed
-  heard_by contender listed stat path true both is among = absurd (not_both first_own ticket both.1 own)
-  heard_by contender listed stat path false both is among = (
+  heard_by contender listed stat path watch is among = (
     ticket,
-    false,
+    watch,
     stat,
-    subst (λ (p : Text). Among (Took (Replies ticket (GetChildren p false) listed.zxid (Listing listed.names stat)))
-        (past_of chapter.start chapter.items)) (is both.0) among,
+    subst (λ (p : Text). Among (Took (Replies ticket (GetChildren p watch) listed.zxid (Listing listed.names stat)))
+        (past_of chapter.start chapter.items)) is among,
   )
 
   one_answers : (outcome : Outcome) → AllByRecursion (ItemAsks (AskingOf contenders)) chapter.items
@@ -141,12 +120,11 @@ module _ (contenders : Contenders Global) (chapter : Chapter) (ticket : ℕ) (ow
       → ((path : Text) → MayList (one_of contenders) (asker_of contenders) contenders.calls.next ticket path → ListsPath path one)
       → Answers (IsListedIn chapter) outcome one
   one_answers outcome asks all_said said None lists = tt
-  one_answers outcome asks all_said said (Some contender) lists = λ again listed answer below.
+  one_answers outcome asks all_said said (Some contender) lists = λ again listed answer.
       let among : Among (Answer ticket (Replied listed.zxid (Listing listed.names answer.0))) (outputs_of chapter.items)
       = subst (λ (o : Outcome). IsSaid (outputs_of chapter.items) (Says (Answer ticket o))) answer.1 said in
-      let was = listed_so (Both contenders) chapter.start chapter.items (both_asked contenders chapter.items asks below) all_said ticket
-      listed.zxid listed.names answer.0 among in
-      heard_by contender listed answer.0 was.0 was.1 was.2 (λ may. lists was.0 may again) was.3
+      let was = listed_so (AskingOf contenders) chapter.start chapter.items asks all_said ticket listed.zxid listed.names answer.0 among in
+      heard_by contender listed answer.0 was.0 was.1 (lists was.0 was.2 again) was.3
 
 -- ---- what is said
 
@@ -311,23 +289,53 @@ tell_all view (ticket ∷ tickets) old new asker next chapter line tells was =
 abbrev line_of : Agent Global → List (Entry Global)
 line_of agent = agent.asker.line.entries.items
 
+abbrev AreLow : Agent Global → Type 0
+AreLow agent = AllByRecursion IsLow agent.asker.follower.subjects.items
+
+abbrev AreToldBelow : List (Action Global) → Type 0
+AreToldBelow said = AllByRecursion TellsBelow (told_by said)
+
+both_below : (first second : List (Action Global)) → AreToldBelow (first ++ second) → AreToldBelow first × AreToldBelow second
+both_below [] second all = (tt, all)
+both_below (one ∷ first) second all =
+    let rest = both_below first second all.1 in
+    ((all.0, rest.0), rest.1)
+
+own_below : (one : Action Global) → IsOwnAnswer one → TellsBelow (action_view one)
+own_below (action.Answer ticket outcome) own = tt
+own_below _ own = absurd own
+
+-- What is left out of what is told are answers.
+but_below : (said told : List (Action Global)) → TellsAllBut said told → AreToldBelow told → AreToldBelow said
+but_below [] told same all = tt
+but_below (one ∷ said) told (inl but) all = (own_below one but.0, but_below said told but.1 all)
+but_below (one ∷ said) told (inr tells) all =
+    let here = subst AreToldBelow tells.1 all in
+    (here.0, but_below said tells.0 tells.2 here.1)
+
 low_asks : (contenders : Contenders Global) (ticket : ℕ) (question : Question) → ticket < first_own → AskingOf contenders ticket question
 low_asks contenders ticket question below =
     asks_where (MayList (one_of contenders) (asker_of contenders) contenders.calls.next) ticket question
-    (λ path is own. absurd (not_both first_own ticket below own))
+    (λ path watch is own. absurd (not_both first_own ticket below own))
 
-call_below : (moment : ℕ) (code : ℤ) (what : Happening) (ticket : ℕ) (asked : Asked_call) (until : Option ℕ)
-    → whats.Calls ticket asked until ≡ given_of what → CallsBelow (Steps moment what code) → ticket < first_own
-call_below moment code (whats.Calls its call limit) ticket asked until e below =
+call_below : (what : Happening) (ticket : ℕ) (asked : Asked_call) (until : Option ℕ)
+    → whats.Calls ticket asked until ≡ given_of what → AsksBelow what → ticket < first_own
+call_below (whats.Calls its call limit) ticket asked until e below =
     let same : its ≡ ticket = cc in subst (λ t. t < first_own) same below
-call_below moment code _ ticket asked until e below = absurd cc
+call_below _ ticket asked until e below = absurd cc
 
-given_asks : (contenders : Contenders Global) (moment : ℕ) (code : ℤ) (what : Happening) (given : AgentInput Global)
-    → happening given ≡ given_of what → CallsBelow (Steps moment what code) → GivenAsks (AskingOf contenders) given
-given_asks contenders moment code what (happens.Call ticket call until) is below =
-    low_asks contenders ticket (question_of (call_view call))
-    (call_below moment code what ticket (call_view call) until is below)
-given_asks contenders moment code what _ is below = tt
+follow_below : (what : Happening) (ticket : ℕ) (side : Side) (path : Text) → whats.Follows ticket side path ≡ given_of what
+    → AsksBelow what → ticket < first_own
+follow_below (whats.Follows its on at) ticket side path e below =
+    let same : its ≡ ticket = cc in subst (λ t. t < first_own) same below
+follow_below _ ticket side path e below = absurd cc
+
+given_asks : (contenders : Contenders Global) (what : Happening) (given : AgentInput Global)
+    → happening given ≡ given_of what → AsksBelow what → GivenAsks (AskingOf contenders) given
+given_asks contenders what (happens.Call ticket call until) is below =
+    low_asks contenders ticket (question_of (call_view call)) (call_below what ticket (call_view call) until is below)
+given_asks contenders what (happens.Follow ticket side path) is below = follow_below what ticket side path is below
+given_asks contenders what _ is below = tt
 
 own_given : (IsAsked : ℕ → Question → Type 0) (given : AgentInput Global) (ticket : ℕ) (call : Asked_call)
     → happening given ≡ whats.Calls ticket call None → IsAsked ticket (question_of call) → GivenAsks IsAsked given
@@ -336,20 +344,22 @@ own_given IsAsked (happens.Call its asked until) ticket call is asks =
     let calls : call_view asked ≡ call = cc in
     subst (λ t. IsAsked t (question_of (call_view asked))) (sym same)
     (subst (λ (c : Asked_call). IsAsked ticket (question_of c)) (sym calls) asks)
+own_given IsAsked (happens.Follow its side path) ticket call is asks = absurd cc
 own_given IsAsked _ ticket call is asks = tt
 
 -- where an agent sits before it takes something, and what its contenders hear then
 sits_down : (contenders : Contenders Global) (Below : Type 0) (base : List Output) (agent : Agent Global) (chapter : Chapter)
     → Stands chapter.start chapter.items (view_in agent) → base ≡ reports_in (outputs_of chapter.items)
-    → (Below → Lists contenders chapter (line_of agent) [])
+    → (Below → Lists contenders chapter (line_of agent) []) → (Below → AreLow agent)
     → Sits agent.timeout_ms base (AskingOf contenders) (ListedOf contenders) Below (trail_of agent []) chapter
-sits_down contenders Below base agent chapter stands told lists = record {
+sits_down contenders Below base agent chapter stands told lists low = record {
   stands = stands;
   asks = refl;
   told = told;
   keeps = λ below. record {
     turns = (lists below).turns;
     line = (lists below).waits;
+    subjects = low below;
     told = tt;
     lasts = λ none. (lists below).listed refl;
   };
@@ -382,28 +392,34 @@ told_both base part parts reports is =
 
 own_go : (now : ℕ) (Below : Type 0) (own : List Part) (from to : Agent Global × Contenders Global) → AskedAll now from own to
     → (base : List Output) (chapter : Chapter) → Stands chapter.start chapter.items (view_in from.0)
-    → base ≡ reports_in (outputs_of chapter.items) → (Below → Lists from.1 chapter (line_of from.0) [])
-    → GoesTo now base from.0 chapter own to.0 Below (λ next. Lists to.1 next (line_of to.0) [])
-own_go now Below [] from to same base chapter stands told lists = (
+    → base ≡ reports_in (outputs_of chapter.items) → (Below → Lists from.1 chapter (line_of from.0) [] × AreLow from.0)
+    → (Below → AreToldBelow (flat_map (λ part. part.said) own))
+    → GoesTo now base from.0 chapter own to.0 Below (λ next. Lists to.1 next (line_of to.0) [] × AreLow to.0)
+own_go now Below [] from to same base chapter stands told lists low = (
   chapter,
   ap (λ (pair : Agent Global × Contenders Global). (pair.0, chapter)) same,
   subst (λ (pair : Agent Global × Contenders Global). Stands chapter.start chapter.items (view_in pair.0)) same stands,
   told,
-  (λ below. subst (λ (pair : Agent Global × Contenders Global). Lists pair.1 chapter (line_of pair.0) []) same (lists below)),
+  (λ below. subst (λ (pair : Agent Global × Contenders Global). Lists pair.1 chapter (line_of pair.0) [] × AreLow pair.0) same
+      (lists below)),
 )
-own_go now Below (part ∷ own) from to asked base chapter stands told lists =
+own_go now Below (part ∷ own) from to asked base chapter stands told lists low =
     let mid = asked.0 in
     let one = asked.1 in
     let asks = λ (below : Below). asks_on_next (view_in from.0) now one.ticket one.call from.1 one.between chapter (line_of from.0) one.asks
-    (lists below) in
+    (lists below).0 in
     let gone = part_goes (AskingOf one.between) (ListedOf one.between) Below (kept_by one.between) now part.given from.0 mid.0 part.said
     one.took base chapter (λ below. own_given (AskingOf one.between) part.given one.ticket one.call one.is (asks below).1)
-    (sits_down one.between Below base from.0 chapter stands told (λ below. (asks below).0)) in
+    (λ below. (both_below part.said (flat_map (λ part. part.said) own) (low below)).0)
+    (sits_down one.between Below base from.0 chapter stands told (λ below. (asks below).0) (λ below. (lists below).1)) in
     let next : Chapter = gone.0 in
     let rest = own_go now Below own mid to asked.2 (fold reported base (told_by part.said)) next gone.2.stands gone.2.told
-    (λ below. hear_all (view_in mid.0) now next (line_of mid.0) gone.2.stands.said part.said one.between mid.1 one.hears
-    (gone.2.keeps below).told
-    (to_hear one.between chapter (line_of from.0) mid.0 part.said next (asks below).0 (gone.2.keeps below))) in (
+    (λ below. (
+      hear_all (view_in mid.0) now next (line_of mid.0) gone.2.stands.said part.said one.between mid.1 one.hears
+          (gone.2.keeps below).told
+          (to_hear one.between chapter (line_of from.0) mid.0 part.said next (asks below).0 (gone.2.keeps below)),
+      (gone.2.keeps below).subjects,
+    )) (λ below. (both_below part.said (flat_map (λ part. part.said) own) (low below)).1) in (
       rest.0,
       ((mid.0, next), gone.1, rest.1),
       rest.2,
@@ -416,6 +432,7 @@ own_go now Below (part ∷ own) from to asked base chapter stands told lists =
 -- What is so of the contenders of a session, in its chapter.
 pub record InSession (chapter : Chapter) (session : Device) : Type 0 where
   pub lists : Lists session.contenders chapter (line_of session.agent) []
+  pub subjects : AreLow session.agent
   pub nobody : session.is_contending ≡ false → (ticket : ℕ) → one_of session.contenders ticket ≡ None
 
 none_there : (is_it : Bool) (old new : Option Contender) → old ≡ None → IsChanged is_it (λ was is. is ≡ given_up was) old new → new ≡ None
@@ -439,24 +456,30 @@ module _ (moment : ℕ) (what : Happening) (old now : Device) (does : Stepped mo
     (told : base ≡ reports_in (outputs_of next.items)) (was : Below → InSession chapter old)
     (joined : Below → Lists does.joined chapter (line_of old.agent) [])
     (keeps : Below
-    → Keeps (AskingOf does.joined) (ListedOf does.joined) (trail_of does.took.took.0 does.took.said) next) where
+    → Keeps (AskingOf does.joined) (ListedOf does.joined) (trail_of does.took.took.0 does.took.said) next)
+    (low : Below → AreToldBelow (flat_map (λ part. part.said) does.took.own)) where
   abbrev agent : Agent Global
   agent = does.took.took.0
 
   abbrev GoesOn : List Part → Type 0
   GoesOn own = GoesTo moment base agent next own now.agent Below (λ last. InSession last now)
 
-  contended : (own : List Part) → now.is_contending ≡ true → Contended moment does.joined agent does.took.said own now → GoesOn own
-  contended own contends goes =
+  contended : (own : List Part) → (Below → AreToldBelow (flat_map (λ part. part.said) own)) → now.is_contending ≡ true
+      → Contended moment does.joined agent does.took.said own now → GoesOn own
+  contended own below_told contends goes =
       let gone = own_go moment Below own (agent, goes.heard) (now.agent, goes.looked) goes.asked base next stands told
-      (λ below. hear_all (view_in agent) moment next (line_of agent) stands.said does.took.said does.joined goes.heard goes.hears
-      (keeps below).told (to_hear does.joined chapter (line_of old.agent) agent does.took.said next (joined below) (keeps below))) in (
+      (λ below. (
+        hear_all (view_in agent) moment next (line_of agent) stands.said does.took.said does.joined goes.heard goes.hears
+            (keeps below).told (to_hear does.joined chapter (line_of old.agent) agent does.took.said next (joined below) (keeps below)),
+        (keeps below).subjects,
+      )) below_told in (
         gone.0,
         gone.1,
         gone.2,
         gone.3,
         (λ below. record {
-          lists = rested gone.0 (gone.4 below);
+          lists = rested gone.0 (gone.4 below).0;
+          subjects = (gone.4 below).1;
           nobody = λ none. absurd (true≢false (sym contends ∙ none));
         }),
       )
@@ -486,6 +509,7 @@ module _ (moment : ℕ) (what : Happening) (old now : Device) (does : Stepped mo
     (λ below. record {
       lists = subst (λ (a : Agent Global). Lists now.contenders next (line_of a) []) same
           (subst (λ (c : Contenders Global). Lists c next (line_of agent) []) (sym goes.nobody) (lists below));
+      subjects = subst AreLow same (keeps below).subjects;
       nobody = λ none ticket. ap (λ (c : Contenders Global). one_of c ticket) goes.nobody ∙ nobody below ticket;
     }),
   )
@@ -505,23 +529,24 @@ module _ (moment : ℕ) (what : Happening) (old now : Device) (does : Stepped mo
 
   goes_on : (is_contending : Bool) → now.is_contending ≡ is_contending
       → GoesOnWhere is_contending moment does.joined agent does.took.said does.took.own now → GoesOn does.took.own
-  goes_on true contends goes = contended does.took.own contends goes
+  goes_on true contends goes = contended does.took.own low contends goes
   goes_on false contends goes = quiet does.took.own (does.took.alone contends).0 contends goes does.took.took.2
 
-pub step_goes : (moment : ℕ) (what : Happening) (code : ℤ) (old now : Device) (does : Stepped moment what old now) (Below : Type 0)
+pub step_goes : (moment : ℕ) (what : Happening) (old now : Device) (does : Stepped moment what old now) (Below : Type 0)
     (base : List Output) (chapter : Chapter) → Stands chapter.start chapter.items (view_in old.agent)
-    → base ≡ reports_in (outputs_of chapter.items) → (Below → CallsBelow (Steps moment what code)) → (Below → InSession chapter old)
+    → base ≡ reports_in (outputs_of chapter.items) → (Below → AsksBelow what × AreToldBelow now.said.items)
+    → (Below → InSession chapter old)
     → GoesTo moment base old.agent chapter (record { given = does.given; said = does.took.said } ∷ does.took.own) now.agent Below
     (λ next. InSession next now)
-step_goes moment what code old now does Below base chapter stands told calls was =
+step_goes moment what old now does Below base chapter stands told calls was =
     let part : Part = record { given = does.given; said = does.took.said } in
     let agent = does.took.took.0 in
     let gone = part_goes (AskingOf does.joined) (ListedOf does.joined) Below (kept_by does.joined) moment does.given old.agent agent
     does.took.said does.took.took.1 base chapter
-    (λ below. given_asks does.joined moment code what does.given does.is (calls below))
-    (sits_down does.joined Below base old.agent chapter stands told joined) in
+    (λ below. given_asks does.joined what does.given does.is (calls below).0) (λ below. (low below).0)
+    (sits_down does.joined Below base old.agent chapter stands told joined (λ below. (was below).subjects)) in
     let rest = goes_on moment what old now does chapter gone.0 Below (fold reported base (told_by does.took.said)) gone.2.stands gone.2.told
-    was joined gone.2.keeps now.is_contending refl does.goes in (
+    was joined gone.2.keeps (λ below. (low below).1) now.is_contending refl does.goes in (
       rest.0,
       ((agent, gone.0), gone.1, rest.1),
       rest.2,
@@ -529,6 +554,11 @@ step_goes moment what code old now does Below base chapter stands told calls was
       rest.4,
     )
   where
+    low : Below → AreToldBelow does.took.said × AreToldBelow (flat_map (λ part. part.said) does.took.own)
+    low below =
+        both_below does.took.said (flat_map (λ part. part.said) does.took.own)
+        (but_below (does.took.said ++ flat_map (λ part. part.said) does.took.own) now.said.items does.took.told (calls below).1)
+
     joined : Below → Lists does.joined chapter (line_of old.agent) []
     joined below =
         let like = joins_like what old.contenders does.joined does.joins in
@@ -543,9 +573,11 @@ no_asker : (contenders : Contenders Global) → ((call : ℕ) → asker_of conte
 no_asker contenders none call ticket is = let e : None ≡ Some ticket = sym (none call) ∙ is in cc
 
 pub session_begins : (chapter : Chapter) (session : Device) → chapter.items ≡ [] → line_of session.agent ≡ []
+    → session.agent.asker.follower.subjects.items ≡ []
     → ((ticket : ℕ) → one_of session.contenders ticket ≡ None) → ((call : ℕ) → asker_of session.contenders call ≡ None)
     → InSession chapter session
-session_begins chapter session no_items no_calls nobody none = record {
+session_begins chapter session no_items no_calls no_subjects nobody none = record {
+  subjects = subst (AllByRecursion IsLow) (sym no_subjects) tt;
   lists = record {
     awaited = record {
       there = λ call ticket is. absurd (no_asker session.contenders none call ticket is);
@@ -560,8 +592,10 @@ session_begins chapter session no_items no_calls nobody none = record {
 
 -- nothing else became of it
 pub session_stays : (chapter : Chapter) (old session : Device) → line_of session.agent ≡ line_of old.agent
+    → session.agent.asker.follower.subjects.items ≡ old.agent.asker.follower.subjects.items
     → session.contenders ≡ old.contenders → session.is_contending ≡ old.is_contending → InSession chapter old → InSession chapter session
-session_stays chapter old session line contenders contends was = record {
+session_stays chapter old session line subjects contenders contends was = record {
+  subjects = subst (AllByRecursion IsLow) (sym subjects) was.subjects;
   lists = subst (λ (l : List (Entry Global)). Lists session.contenders chapter l []) (sym line)
       (subst (λ (c : Contenders Global). Lists c chapter (line_of old.agent) []) (sym contenders) was.lists);
   nobody = λ none ticket. ap (λ (c : Contenders Global). one_of c ticket) contenders ∙ was.nobody (sym contends ∙ none) ticket;
@@ -578,17 +612,18 @@ session_forgets chapter session was =
         turns = (tt, was.lists.turns);
         waits = was.lists.waits;
         listed = λ none ticket. grows (one_of session.contenders ticket) chapter next
-            (λ directory listed heard below. heard_on chapter.start Forgets chapter.items directory listed (heard below.1))
+            (λ directory listed heard. heard_on chapter.start Forgets chapter.items directory listed heard)
             (was.lists.listed none ticket);
       };
+      subjects = was.subjects;
       nobody = was.nobody;
     }
 
 -- The listing of each contender is one that the client was answered.
-pub its_listing : (chapter : Chapter) (session : Device) → InSession chapter session → AllWatchBelow chapter.items → (ticket : ℕ)
+pub its_listing : (chapter : Chapter) (session : Device) → InSession chapter session → (ticket : ℕ)
     (contender : Contender) (own : Text) (listed : Listed Global) → one_of session.contenders ticket ≡ Some contender
     → contender.place ≡ At own (Some listed) → HasHeard chapter.start chapter.items contender.directory listed
-its_listing chapter session was below ticket contender own listed is at =
+its_listing chapter session was ticket contender own listed is at =
     let has : HasListed (IsListedIn chapter) (Some contender)
     = subst (HasListed (IsListedIn chapter)) is (was.lists.listed refl ticket) in
-    has listed (subst (λ (p : Place Global). HasListing p listed) (sym at) refl) below
+    has listed (subst (λ (p : Place Global). HasListing p listed) (sym at) refl)

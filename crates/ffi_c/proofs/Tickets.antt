@@ -1,8 +1,9 @@
 -- By which tickets an agent calls, over its moves: each call of its client, and each that waits in its line, was asked with its ticket, or
 -- reads what is followed, with a watch; and each reply that is told of the session that is there was said by its client.
 use Rattle.std.proofs.Common.{◌≡◌, ◌++◌, inl, inr, ℕ, Bool, true, false, cond, not, List, [], ◌∷◌, Option, Some, None, map, refl, sym, ap}
-use Rattle.std.proofs.Common.{subst, ◌∙◌, true≢false}
-use Rattle.std.specs.Prelude.{⊤, ◌||◌, slice_index_or}
+use Rattle.std.proofs.Common.{arith, subst, ◌∙◌, true≢false}
+use Rattle.std.proofs.lemmas.List.Elements.{All-from_recursion, recursion_from_All}
+use Rattle.std.specs.Prelude.{◌<◌, ◌==◌, length, ⊤, ◌||◌, slice_index_or}
 use Rattle.std.specs.List.{filter, flat_map, list_any, AllByRecursion}
 use Rattle.std.specs.Option.{option_map}
 use Rattle.zk_nodes.specs.Path.{Text}
@@ -19,7 +20,9 @@ use Rattle.zk_dialler.specs.declared.dialler.DialDue.{DialDue}
 use Rattle.zk_dialler.specs.declared.dialler.DialDue.TheVariants.{Dial, GiveUp}
 use Rattle.zk_follow.specs.declared.news.News.{News}
 use Rattle.zk_follow.specs.declared.subject.Subject.{Subject}
-use Rattle.zk_follow.specs.Following.{news_in, read_of, AreReads}
+use Rattle.zk_follow.specs.Following.{news_in, read_of, taken, told_of, unfollowed, AreReads, AreVisited}
+use Rattle.zk_follow.proofs.Finding.{visit_keeps}
+use Rattle.zk_follow.proofs.Hearing.{all_same_ticket}
 use Rattle.zk_calls.specs.declared.entry.Ended.{Ended}
 use Rattle.zk_calls.specs.declared.entry.Ending.{Ending}
 use Rattle.zk_calls.specs.declared.entry.Ending.TheVariants as ending
@@ -29,6 +32,7 @@ use Rattle.zk_calls.specs.Lines.{settles, waits_turn, with_first}
 use Rattle.zk_agent.specs.Agents.{Trail, HearsSo, LetsGoWhere}
 use Rattle.zk_agent.specs.Calls.{answers, closings, endings, handed, hears, hears_all, tells, tells_all}
 use Rattle.zk_agent.specs.Telling.{Told, Says, HangsUp, Begins, closed_told, due_told, ended_told, news_told}
+use Rattle.ffi_device.specs.Chains.{first_own}
 use Rattle.ffi_c.specs.Pasts.{Chapter, with_turns}
 use Rattle.ffi_c.proofs.Heard.{each_both, AsksSo, ItemAsks}
 use Rattle.ffi_c.proofs.Turned.{heard_said, heard_turns, said_before, said_then, with_more}
@@ -144,6 +148,36 @@ all_tells_said said entries (output ∷ given) among =
     (tells_said said entries output (among output (inl refl)))
     (all_tells_said said (hears entries output) given (λ other is. among other (inr is)))
 
+-- ---- subjects
+
+abbrev pub IsLow : {A : Type 0} → Subject A → Type 0
+IsLow subject = subject.ticket < first_own
+
+pub mapped_low : {A : Type 0} (f : Subject A → Subject A) → ((subject : Subject A) → (f subject).ticket ≡ subject.ticket)
+    → (subjects : List (Subject A)) → AllByRecursion IsLow subjects → AllByRecursion IsLow (map f subjects)
+mapped_low f same [] low = tt
+mapped_low f same (subject ∷ subjects) low =
+    (subst (λ t. t < first_own) (sym (same subject)) low.0, mapped_low f same subjects low.1)
+
+pub unfollowed_low : {A : Type 0} (ticket : ℕ) (subjects : List (Subject A)) → AllByRecursion IsLow subjects
+    → AllByRecursion IsLow (unfollowed ticket subjects)
+unfollowed_low ticket [] low = tt
+unfollowed_low ticket (subject ∷ subjects) low = by (not (subject.ticket == ticket)) (unfollowed_low ticket subjects low.1)
+  where
+    by : (b : Bool) → AllByRecursion IsLow (unfollowed ticket subjects)
+        → AllByRecursion IsLow (cond b (subject ∷ unfollowed ticket subjects) (unfollowed ticket subjects))
+    by true rest = (low.0, rest)
+    by false rest = rest
+
+visited_low : {A : Type 0} (now : ℕ) (outputs : List Output) (old new : List (Subject A)) → length new ≡ length old
+    → AreVisited now outputs old new → AllByRecursion IsLow old → AllByRecursion IsLow new
+visited_low {A} now outputs old new size visited low =
+    recursion_from_All IsLow new (λ k d within.
+    let fits : k < length old = omega (arith, within, size) in
+    let subject : Subject A = slice_index_or old k d in
+    let kept = visit_keeps now (taken now outputs subject) (slice_index_or new k d) (visited k d fits) in
+    subst (λ t. t < first_own) (sym (kept.0 ∙ all_same_ticket now outputs subject)) (All-from_recursion IsLow old low k d fits))
+
 -- ---- calls
 
 module _ {A : Type 0} (IsAsked : ℕ → Question → Type 0) where
@@ -233,12 +267,14 @@ pub record Keeps {A : Type 0} (IsAsked : ℕ → Question → Type 0) (Lasts : C
     : Type 0 where
   pub turns : AllByRecursion (ItemAsks IsAsked) chapter.items
   pub line : AllByRecursion (EntryAsks IsAsked) trail.line
+  pub subjects : AllByRecursion IsLow trail.subjects
   pub told : AreSaid (outputs_of chapter.items) trail.told
   pub lasts : list_any begins trail.told ≡ false → Lasts chapter
 
 -- What an agent's reads ask is asked so, and what lasts does over more turns.
 pub record IsKept (IsAsked : ℕ → Question → Type 0) (Lasts : Chapter → Type 0) : Type 0 where
-  pub reads : (ticket : ℕ) (side : Side) (is_missing : Bool) (path : Text) → IsAsked ticket (read_of side is_missing path)
+  pub reads : (ticket : ℕ) → ticket < first_own → (side : Side) (is_missing : Bool) (path : Text)
+      → IsAsked ticket (read_of side is_missing path)
   pub lasts : (made : List Turn) (chapter : Chapter) → Lasts chapter → Lasts (with_more made chapter)
 
 module _ (IsAsked : ℕ → Question → Type 0) where
@@ -251,14 +287,15 @@ module _ (IsAsked : ℕ → Question → Type 0) where
   add_asks (turn ∷ made) items all was = add_asks made (Turned turn ∷ items) all.1 (all.0, was)
 
 module _ {A : Type 0} (IsAsked : ℕ → Question → Type 0) (Lasts : Chapter → Type 0) (kept : IsKept IsAsked Lasts) where
-  reads_ask : (subjects : List (Subject A)) (reads : List Turn) → AreReads subjects reads
-      → AllByRecursion (TurnAsks IsAsked) reads
-  reads_ask subjects [] are = tt
-  reads_ask subjects (turn ∷ reads) are =
+  reads_ask : (subjects : List (Subject A)) (reads : List Turn) → AllByRecursion IsLow subjects
+      → AreReads subjects reads → AllByRecursion (TurnAsks IsAsked) reads
+  reads_ask subjects [] low are = tt
+  reads_ask subjects (turn ∷ reads) low are =
       let subject : Subject A = slice_index_or subjects are.0.0 are.0.1 in (
         subst (AsksSo IsAsked) (sym are.0.4.1)
-            (subst (IsAsked subject.ticket) (sym are.0.4.2) (kept.reads subject.ticket subject.side are.0.2 subject.path)),
-        reads_ask subjects reads are.1,
+            (subst (IsAsked subject.ticket) (sym are.0.4.2) (kept.reads subject.ticket
+            (All-from_recursion IsLow subjects low are.0.0 are.0.1 are.0.3) subject.side are.0.2 subject.path)),
+        reads_ask subjects reads low are.1,
       )
 
   let_go_said : (is_there : Bool) (timeout now : ℕ) (old new : Dialler A) (before after : List Told) (said : List Output)
@@ -278,9 +315,12 @@ module _ {A : Type 0} (IsAsked : ℕ → Question → Type 0) (Lasts : Chapter �
       → Keeps IsAsked Lasts new (with_more (heard_turns now input old new does) chapter)
   hears_kept now input old new does chapter asks was = record {
     turns = add_asks IsAsked made chapter.items
-        (tt, (asks, reads_ask old.subjects does.takes.steps.calls does.takes.steps.reads)) was.turns;
+        (tt, (asks, reads_ask old.subjects does.takes.steps.calls was.subjects does.takes.steps.reads)) was.turns;
     line = subst (AllByRecursion (EntryAsks IsAsked)) (sym does.takes.line)
         (all_hear IsAsked given (handed input old.line) (handed_asks IsAsked input old.line was.line));
+    subjects = subst (AllByRecursion IsLow) (sym does.takes.subjects) (mapped_low (told_of new.view) (λ subject. refl) does.takes.stepped
+        (visited_low now (does.takes.steps.first ++ does.takes.steps.second) old.subjects does.takes.stepped does.takes.steps.count
+        does.takes.steps.visited was.subjects));
     told = let_go_said _ _ now _ new.dialler does.told new.told said does.lets_go
         (subst (AreSaid said) (sym does.takes.told) (said_more said (old.told ++ tells_all line given) news
         (said_more said old.told (tells_all line given)
@@ -314,18 +354,20 @@ module _ {A : Type 0} (IsAsked : ℕ → Question → Type 0) (Lasts : Chapter �
 
   -- A move that makes no turn: the line stays, or each of it was asked so, and no reply is told.
   pub stays_kept : (old new : Trail A) (more : List Told) (chapter : Chapter) → AllByRecursion (EntryAsks IsAsked) new.line
-      → new.told ≡ old.told ++ more → AllByRecursion (IsSaid (outputs_of chapter.items)) more → Keeps IsAsked Lasts old chapter
-      → Keeps IsAsked Lasts new chapter
-  stays_kept old new more chapter line told none was = record {
+      → AllByRecursion IsLow new.subjects → new.told ≡ old.told ++ more → AllByRecursion (IsSaid (outputs_of chapter.items)) more
+      → Keeps IsAsked Lasts old chapter → Keeps IsAsked Lasts new chapter
+  stays_kept old new more chapter line low told none was = record {
     turns = was.turns;
     line = line;
+    subjects = low;
     told = subst (AreSaid (outputs_of chapter.items)) (sym told) (said_more (outputs_of chapter.items) old.told more was.told none);
     lasts = λ no. was.lasts (none_before old.told more (sym (ap (list_any begins) told) ∙ no));
   }
 
   pub renewed_kept : (new : Trail A) (told : List Told) (chapter : Chapter) → chapter.items ≡ [] → new.line ≡ []
-      → new.told ≡ told ++ Begins ∷ [] → Keeps IsAsked Lasts new chapter
-  renewed_kept new told chapter none empty is = record {
+      → AllByRecursion IsLow new.subjects → new.told ≡ told ++ Begins ∷ [] → Keeps IsAsked Lasts new chapter
+  renewed_kept new told chapter none empty low is = record {
+    subjects = low;
     turns = subst (AllByRecursion (ItemAsks IsAsked)) (sym none) tt;
     line = subst (AllByRecursion (EntryAsks IsAsked)) (sym empty) tt;
     told = subst (AreSaid (outputs_of chapter.items)) (sym is) (said_anew (outputs_of chapter.items) told);

@@ -7,7 +7,7 @@ use Rattle.zk_nodes.specs.History.{History}
 use Rattle.zk_nodes.specs.Path.{Text, path_of}
 use Rattle.zk_nodes.specs.declared.side.Side.{Side}
 use Rattle.zk_conversation.specs.Calls.{Call}
-use Rattle.zk_conversation.specs.Questions.{Question, GetChildren, question_of}
+use Rattle.zk_conversation.specs.Questions.{question_of}
 use Rattle.zk_session.specs.declared.states.State.TheVariants.{Expired}
 use Rattle.zk_turns.specs.Turns.{Halts, Input, Item, Output, Start, Turn, Turned, new_start}
 use Rattle.zk_turns.specs.Turns as turns
@@ -33,7 +33,8 @@ use Rattle.zk_agent.specs.declared.input.AgentInput.{AgentInput}
 use Rattle.zk_agent.specs.Agents.{Advance, ByRenewal, ByTurn, Hands, Hears, IsAt, Move, Renews, Tires, how_many_ended, is_given, moves_of}
 use Rattle.zk_agent.specs.Calls.{how_many}
 use Rattle.zk_agent.specs.Replies.{is_lost}
-use Rattle.zk_agent.specs.Telling.{Told, Says, Begins, told_by}
+use Rattle.zk_agent.specs.Telling.{Told, Says, Begins, TellsTree, told_by}
+use Rattle.zk_trees.specs.Tending.{TakesOn}
 use Rattle.ffi_device.specs.Sessions.{put_start}
 use Rattle.ffi_device.specs.Happenings as happens
 use Rattle.ffi_device.specs.Happenings.{Happening, given_of, happening, is_contend}
@@ -217,29 +218,23 @@ IsOfProgram ticket uses = (ticket < first_own) ⊎ (has_contended uses ≡ false
 
 -- ---- the listings of contenders
 
--- The tickets of a program's calls are below those of the calls that contenders ask.
-abbrev pub CallsBelow : Use → Type 0
-CallsBelow (Steps moment (happens.Calls ticket asked until) code) = ticket < first_own
-CallsBelow used = ⊤
+-- The tickets with which a program calls and follows are below those of the calls that contenders ask, and so are those with which the
+-- nodes of trees are followed. The first are below 2^63, and the others run from there, one for each node.
+abbrev pub AsksBelow : Happening → Type 0
+AsksBelow (happens.Calls ticket asked until) = ticket < first_own
+AsksBelow (happens.Follows ticket side path) = ticket < first_own
+AsksBelow what = ⊤
 
-abbrev pub AllCallBelow : List Used → Type 0
-AllCallBelow uses = AllByRecursion (λ used. CallsBelow used.use_of) uses
+abbrev pub TellsBelow : Told → Type 0
+TellsBelow (TellsTree (TakesOn tree ticket side path)) = ticket < first_own
+TellsBelow told = ⊤
 
--- The same of the calls of a client that list names and leave a watch. No contender asks one: they read nodes that are followed.
-abbrev pub WatchesBelow : (ticket : ℕ) → Question → Type 0
-WatchesBelow ticket (GetChildren path true) = ticket < first_own
-WatchesBelow ticket question = ⊤
+abbrev pub IsBelow : Use → (after : Option Device) → Type 0
+IsBelow (Steps moment what (pos zero)) (Some session) = AsksBelow what × AllByRecursion TellsBelow (told_by session.said.items)
+IsBelow used after = ⊤
 
-abbrev pub InputBelow : Input → Type 0
-InputBelow (turns.Call ticket asked) = WatchesBelow ticket (question_of asked)
-InputBelow input = ⊤
-
-abbrev pub ItemBelow : Item → Type 0
-ItemBelow (Turned turn) = InputBelow turn.input
-ItemBelow item = ⊤
-
-abbrev pub AllWatchBelow : List Item → Type 0
-AllWatchBelow items = AllByRecursion ItemBelow items
+abbrev pub AreBelow : List Used → Type 0
+AreBelow uses = AllByRecursion (λ used. IsBelow used.use_of used.held) uses
 
 -- ---- the law
 
@@ -255,7 +250,7 @@ pub record IsCoherent (uses : List Used) (session : Device) : Type 0 where
   pub contends : session.is_over ≡ false → session.is_contending ≡ has_contended uses
   pub calls : session.is_over ≡ false → (ticket : ℕ) → IsOfProgram ticket uses
       → how_many ticket session.agent.asker.line.entries.items + how_many_settled ticket uses ≡ how_many_asked ticket uses
-  pub listings : session.is_over ≡ false → AllCallBelow uses → AllWatchBelow chapter.items
+  pub listings : session.is_over ≡ false → AreBelow uses
       → (ticket : ℕ) (contender : LockContender Global) (own : Text) (listed : Listed Global)
       → one_of session.contenders ticket ≡ Some contender → contender.place ≡ At own (Some listed)
       → HasHeard chapter.start chapter.items contender.directory listed
@@ -273,8 +268,7 @@ abbrev pub HeldForLife : Type 0
 HeldForLife = (uses : List Used) (session : Device) (coherent : IsCoherent uses session) (h : History) (ticket : ℕ)
     (contender : LockContender Global) (own : Text) (listed : Listed Global) (token : ℤ)
     (seen : IsServedAt (IsEither contender.directory own) h (view_in session.agent))
-    → session.is_over ≡ false → AllCallBelow uses → AllWatchBelow coherent.chapter.items
-    → seen.start ≡ coherent.chapter.start → seen.items ≡ coherent.chapter.items
+    → session.is_over ≡ false → AreBelow uses → seen.start ≡ coherent.chapter.start → seen.items ≡ coherent.chapter.items
     → one_of session.contenders ticket ≡ Some contender → contender.place ≡ At own (Some listed)
     → NumbersRise h (path_of contender.directory) (kind_of_all contender.naming) → ShowsContender (view_in session.agent) contender token
     → HoldsTruly h (view_in session.agent) contender own listed token

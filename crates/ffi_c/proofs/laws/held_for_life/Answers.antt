@@ -7,8 +7,8 @@ use Rattle.ffi_device.specs.Contending.{view_in}
 use Rattle.ffi_c.proofs.laws.held_for_life.Goals as goal
 
 pub returns : goal.returns
-returns c = λ uses session coherent h ticket contender own listed token seen on calls watches start items there place rises shows.
+returns c = λ uses session coherent h ticket contender own listed token seen on below start items there place rises shows.
     held_here h (view_in session.agent) contender own listed token seen place
     (subst (λ (s : Start). HasHeard s seen.items contender.directory listed) (sym start)
     (subst (λ (l : List Item). HasHeard coherent.chapter.start l contender.directory listed) (sym items)
-    (coherent.listings on calls watches ticket contender own listed there place))) rises shows
+    (coherent.listings on below ticket contender own listed there place))) rises shows
