@@ -27,6 +27,14 @@ static uint64_t pause_before(int32_t xid, int32_t type)
     return clock_ms - begun_ms;
 }
 
+/* A call is refused, which it says. */
+static void refuse(int32_t xid, int32_t type, int32_t code, const char *wanted)
+{
+    hear_request(xid, type, NULL);
+    answer_code(xid, code);
+    expect_said(wanted);
+}
+
 static void begin(int tries, int32_t limit_ms)
 {
     dws_release(&call);
@@ -67,24 +75,16 @@ static void ask_once(void)
     begin_session();
     begin(0, 0);
     dws_get(session, &call, "/a", false);
-    hear_request(1, TYPE_GET, NULL);
-    answer_code(1, THROTTLED);
-    expect_said("call -127\n");
+    refuse(1, TYPE_GET, THROTTLED, "call -127\n");
     begin(3, 0);
     dws_set(session, &call, "/a", "one", 3, 7);
-    hear_request(2, TYPE_SET, NULL);
-    answer_code(2, CODE_BAD_VERSION);
-    expect_said("call -103\n");
+    refuse(2, TYPE_SET, CODE_BAD_VERSION, "call -103\n");
     begin(3, 90);
     dws_get(session, &call, "/a", false);
-    hear_request(3, TYPE_GET, NULL);
-    answer_code(3, THROTTLED);
-    expect_said("call -127\n");
+    refuse(3, TYPE_GET, THROTTLED, "call -127\n");
     begin(3, 0);
     dws_set(session, &call, "/a", "one", 3, 7); /* the server's own word that it may have happened */
-    hear_request(4, TYPE_SET, NULL);
-    answer_code(4, DW_CODE_CONNECTION_LOSS);
-    expect_said("call -4\n");
+    refuse(4, TYPE_SET, DW_CODE_CONNECTION_LOSS, "call -4\n");
     close_all();
 }
 

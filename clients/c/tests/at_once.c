@@ -21,7 +21,7 @@ static void put_boolean(struct bytes *bytes, bool is_so)
 }
 
 /* What is read apart from the numbers of an action: its text, and after it the names of a listing, or the words of a drop. */
-static void put_text(struct bytes *bytes, dw_session *session, const dw_output *action)
+static void put_told(struct bytes *bytes, dw_session *session, const dw_output *action)
 {
     char text[256];
     size_t length = dw_session_copy(session, 0, text, sizeof text), more = 0;
@@ -50,7 +50,7 @@ static void put_action(struct bytes *bytes, dw_session *session, const dw_output
     put_boolean(bytes, action->is_null);
     put_boolean(bytes, action->has_stat);
     put_stat(bytes, &action->stat);
-    put_text(bytes, session, action);
+    put_told(bytes, session, action);
 }
 
 /* Nothing of the room from this place on was written. */

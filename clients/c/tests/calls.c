@@ -112,18 +112,14 @@ static void expect_spelled(const struct bytes *wanted, const uint8_t *at, size_t
 /* A path and a side, as dw_session_lacking spells them. */
 static void put_read(struct bytes *bytes, const char *path, int32_t side)
 {
-    put_buffer(bytes, path, strlen(path));
+    put_text(bytes, path);
     put_int(bytes, side);
 }
 
 /* The numbers of a node, as dw_session_subtree and dw_session_snapshot spell them. */
 static void put_numbers(struct bytes *bytes, const dw_stat *stat)
 {
-    put_long(bytes, stat->czxid);
-    put_long(bytes, stat->mzxid);
-    put_long(bytes, stat->ctime);
-    put_long(bytes, stat->mtime);
-    put_int(bytes, stat->version);
+    put_changes(bytes, stat);
     put_long(bytes, stat->ephemeral_owner);
     put_int(bytes, stat->data_length);
 }
@@ -131,8 +127,8 @@ static void put_numbers(struct bytes *bytes, const dw_stat *stat)
 /* A node, as dw_session_subtree spells it. */
 static void put_node(struct bytes *bytes, const char *path, const char *data, const dw_stat *stat)
 {
-    put_buffer(bytes, path, strlen(path));
-    put_buffer(bytes, data, strlen(data));
+    put_text(bytes, path);
+    put_text(bytes, data);
     put_numbers(bytes, stat);
     put_long(bytes, stat->pzxid);
 }
@@ -186,10 +182,10 @@ static void stand_first(dw_session *session)
     EXPECT_NUMBER(DW_OK, dw_session_get_data(session, 1, 11, UINT64_MAX, "/n-0000000000", 13, true));
     add_data(&came, 6, 6, "x", &stat);
     hand_in(session, &came);
-    put_buffer(&names, "n-0000000001", 12);
-    put_buffer(&names, "n-0000000000", 12);
-    put_buffer(&markers, "n-", 2);
-    put_buffer(&markers, "n-", 2);
+    put_text(&names, "n-0000000001");
+    put_text(&names, "n-0000000000");
+    put_text(&markers, "n-");
+    put_text(&markers, "n-");
     EXPECT_NUMBER(DW_OK, dw_session_standing(session, "/", 1, "n-0000000000", 12, names.at, names.length, 6, markers.at, markers.length, &token,
                                      rival, sizeof rival, &count));
     EXPECT(token == 6 && count == 0);
@@ -212,40 +208,48 @@ static void put_shown(struct bytes *bytes, enum dw_kept kind, const char *data, 
     if (data == NULL) {
         put_int(bytes, -1);
     } else {
-        put_buffer(bytes, data, strlen(data));
+        put_text(bytes, data);
     }
     put_numbers(bytes, stat);
 }
 
-/* A node that is read, one that is not there and one whose data were not read, and names: all of one moment. */
-static void take_a_snapshot(dw_session *session)
+/* A node that is not there, one whose data are not read, and names. */
+static void read_once_more(dw_session *session, const dw_stat *read)
 {
-    const dw_stat read = {3, 5, 1000, 2000, 77, 4, 1, 6, 7, 5, 0}, none = {0, 0, 0, 0, 0, 0, 0, 0, 0, 0, 0};
-    struct bytes came, nodes, parents, wanted;
-    uint8_t room[512];
-    size_t count = 1;
-    came.length = nodes.length = parents.length = wanted.length = 0;
+    struct bytes came;
+    came.length = 0;
     EXPECT_NUMBER(DW_OK, dw_session_exists(session, 1, 12, UINT64_MAX, "/no", 3, true));
     EXPECT_NUMBER(DW_OK, dw_session_exists(session, 1, 13, UINT64_MAX, "/yes", 4, true));
     EXPECT_NUMBER(DW_OK, dw_session_get_children(session, 1, 14, UINT64_MAX, "/", 1, true));
     add_header(&came, 7, 6, DW_CODE_NO_NODE);
-    add_stat(&came, 8, 6, &read);
-    add_names(&came, 9, 6, "n-0000000001", "n-0000000000", &read);
+    add_stat(&came, 8, 6, read);
+    add_names(&came, 9, 6, "n-0000000001", "n-0000000000", read);
     hand_in(session, &came);
-    put_buffer(&nodes, "/t", 2);
-    put_buffer(&nodes, "/no", 3);
-    put_buffer(&nodes, "/yes", 4);
-    put_buffer(&parents, "/", 1);
-    put_buffer(&wanted, "/t", 2);
+}
+
+/* These, and a node that was read before: all of one moment. */
+static void take_a_snapshot(dw_session *session)
+{
+    const dw_stat read = {3, 5, 1000, 2000, 77, 4, 1, 6, 7, 5, 0}, none = {0, 0, 0, 0, 0, 0, 0, 0, 0, 0, 0};
+    struct bytes nodes, parents, wanted;
+    uint8_t room[512];
+    size_t count = 1;
+    nodes.length = parents.length = wanted.length = 0;
+    read_once_more(session, &read);
+    put_text(&nodes, "/t");
+    put_text(&nodes, "/no");
+    put_text(&nodes, "/yes");
+    put_text(&parents, "/");
+    put_text(&wanted, "/t");
     put_shown(&wanted, DW_KEPT_FULL, "first", &read);
-    put_buffer(&wanted, "/no", 3);
+    put_text(&wanted, "/no");
     put_shown(&wanted, DW_KEPT_ABSENT, NULL, &none);
-    put_buffer(&wanted, "/yes", 4);
+    put_text(&wanted, "/yes");
     put_shown(&wanted, DW_KEPT_KNOWN, NULL, &read);
-    put_buffer(&wanted, "/", 1);
+    put_text(&wanted, "/");
     put_int(&wanted, 2 * 16);
-    put_buffer(&wanted, "n-0000000000", 12);
-    put_buffer(&wanted, "n-0000000001", 12);
+    put_text(&wanted, "n-0000000000");
+    put_text(&wanted, "n-0000000001");
     put_long(&wanted, read.pzxid);
     EXPECT_NUMBER(DW_OK, dw_session_snapshot(session, nodes.at, nodes.length, parents.at, parents.length, room, sizeof room, &count));
     expect_spelled(&wanted, room, count);
@@ -253,10 +257,10 @@ static void take_a_snapshot(dw_session *session)
     EXPECT_NUMBER(wanted.length, count);
     EXPECT_NUMBER(DW_NOT_TEXTS, dw_session_snapshot(session, nodes.at, nodes.length - 1, parents.at, parents.length, room, sizeof room, &count));
     EXPECT_NUMBER(DW_NOT_TEXTS, dw_session_snapshot(session, nodes.at, nodes.length, parents.at, 4, room, sizeof room, &count));
-    put_buffer(&nodes, "/config", 7);
+    put_text(&nodes, "/config");
     EXPECT_NUMBER(DW_NOT_WHOLE, dw_session_snapshot(session, nodes.at, nodes.length, parents.at, parents.length, room, sizeof room, &count));
     EXPECT_NUMBER(0, count);
-    put_buffer(&nodes, "t", 1);
+    put_text(&nodes, "t");
     EXPECT_NUMBER(DW_NOT_PATH, dw_session_snapshot(session, nodes.at, nodes.length, parents.at, parents.length, room, sizeof room, &count));
     EXPECT_NUMBER(DW_OK, dw_session_snapshot(session, nodes.at, 0, parents.at, 0, room, sizeof room, &count));
     EXPECT_NUMBER(0, count);
@@ -288,8 +292,8 @@ static void list_names(dw_session *session)
     add_names(&came, 5, 6, "right", "left", &stat);
     hand_in(session, &came);
     EXPECT_NUMBER(2, expect_next(session, DW_KIND_ANSWER).names);
-    put_buffer(&wanted, "right", 5);
-    put_buffer(&wanted, "left", 4);
+    put_text(&wanted, "right");
+    put_text(&wanted, "left");
     EXPECT_NUMBER(DW_OK, dw_session_names(session, room, sizeof room, &count));
     expect_spelled(&wanted, room, count);
     expect_no_more(session);

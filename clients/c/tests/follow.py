@@ -27,6 +27,13 @@ class Followed(Case):
         self.expect('good "first"')
         return partner
 
+    def begin_and_change(self, *commands):
+        """The same, and the node is changed while this is done."""
+        partner = self.begin()
+        partner.do(*commands)
+        self.expect('stale "first"', 'good "second"')
+        return partner
+
     def expect(self, *wanted):
         """The next lines are of these marks and data, and zxids do not go back."""
         for one in wanted:
@@ -51,9 +58,7 @@ class Followed(Case):
 
 class Follow(Followed):
     def test_changes(self):
-        partner = self.begin()
-        partner.do("set /config second")
-        self.expect('stale "first"', 'good "second"')
+        partner = self.begin_and_change("set /config second")
         partner.do("delete /config")
         self.expect('stale "second"', "good absent")
         partner.do("create /config a \"quoted\" word")
@@ -61,15 +66,11 @@ class Follow(Followed):
         self.expect_end(signal.SIGTERM, True)
 
     def test_lost_connection(self):
-        partner = self.begin()
-        partner.do("drop", "set /config second")
-        self.expect('stale "first"', 'good "second"')
+        self.begin_and_change("drop", "set /config second")
         self.expect_end(signal.SIGINT, True)
 
     def test_server_that_comes_back(self):
-        partner = self.begin()
-        partner.do("down", "set /config second", "up")
-        self.expect('stale "first"', 'good "second"')
+        self.begin_and_change("down", "set /config second", "up")
 
     def test_expired_session(self):
         partner = self.begin()

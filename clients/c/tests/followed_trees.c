@@ -34,11 +34,6 @@ static void expect_let_go(dw_session *session, uint64_t ticket)
     EXPECT_NUMBER(0, told.length);
 }
 
-static void expect_whole(dw_session *session)
-{
-    EXPECT_NUMBER(TREE, expect_next(session, DW_KIND_TREE_COMPLETE).ticket);
-}
-
 /* A step is due at once, in which the tree is tended. */
 static void tend(dw_session *session, uint64_t now_ms)
 {
@@ -49,14 +44,33 @@ static void tend(dw_session *session, uint64_t now_ms)
     EXPECT_NUMBER(DW_OK, dw_session_moment(session, now_ms));
 }
 
-static void answer_data(dw_session *session, uint64_t now_ms, int32_t xid, int64_t zxid)
+/* Nothing is lacking once the tree is tended. */
+static void expect_whole(dw_session *session, uint64_t now_ms)
 {
-    HAND_IN(session, now_ms, add_data, xid, zxid, "up", &STAT);
+    tend(session, now_ms);
+    EXPECT_NUMBER(TREE, expect_next(session, DW_KIND_TREE_COMPLETE).ticket);
+    expect_no_more(session);
 }
 
-static void answer_no_names(dw_session *session, uint64_t now_ms, int32_t xid, int64_t zxid)
+/* A node is read, which is shown by this ticket. */
+static void show_data(dw_session *session, uint64_t now_ms, int32_t xid, int64_t zxid, uint64_t ticket)
+{
+    HAND_IN(session, now_ms, add_data, xid, zxid, "up", &STAT);
+    expect_shown(session, ticket);
+}
+
+static void show_no_names(dw_session *session, uint64_t now_ms, int32_t xid, int64_t zxid, uint64_t ticket)
 {
     HAND_IN(session, now_ms, add_no_names, xid, zxid, &STAT);
+    expect_shown(session, ticket);
+}
+
+/* The names below the root are read: `a` and this one. */
+static void show_names(dw_session *session, uint64_t now_ms, int32_t xid, int64_t zxid, const char *second)
+{
+    HAND_IN(session, now_ms, add_names, xid, zxid, "a", second, &STAT);
+    expect_shown(session, FIRST);
+    tend(session, now_ms);
 }
 
 static void answer_no_node(dw_session *session, uint64_t now_ms, int32_t xid, int64_t zxid)
@@ -74,12 +88,9 @@ static void grow(dw_session *session)
 {
     int32_t data = expect_sent(session, 0), names = expect_sent(session, 0), reads[4];
     expect_no_more(session);
-    answer_data(session, 40, data, 6);
-    expect_shown(session, TREE);
+    show_data(session, 40, data, 6, TREE);
     expect_no_more(session);
-    HAND_IN(session, 41, add_names, names, 6, "a", "b", &STAT);
-    expect_shown(session, FIRST);
-    tend(session, 41);
+    show_names(session, 41, names, 6, "b");
     expect_taken_on(session, FIRST + 1, DW_SIDE_DATA, "/t/a");
     expect_taken_on(session, FIRST + 2, DW_SIDE_DATA, "/t/b");
     expect_taken_on(session, FIRST + 3, DW_SIDE_CHILDREN, "/t/a");
@@ -88,20 +99,14 @@ static void grow(dw_session *session)
         reads[i] = expect_sent(session, 0);
     }
     expect_no_more(session);
-    answer_data(session, 42, reads[0], 6);
-    expect_shown(session, FIRST + 1);
+    show_data(session, 42, reads[0], 6, FIRST + 1);
     expect_no_more(session);
-    answer_data(session, 43, reads[1], 6);
-    expect_shown(session, FIRST + 2);
+    show_data(session, 43, reads[1], 6, FIRST + 2);
     expect_no_more(session);
-    answer_no_names(session, 44, reads[2], 6);
-    expect_shown(session, FIRST + 3);
+    show_no_names(session, 44, reads[2], 6, FIRST + 3);
     expect_no_more(session);
-    answer_no_names(session, 45, reads[3], 6);
-    expect_shown(session, FIRST + 4);
-    tend(session, 45);
-    expect_whole(session);
-    expect_no_more(session);
+    show_no_names(session, 45, reads[3], 6, FIRST + 4);
+    expect_whole(session, 45);
 }
 
 /* It is told once that nothing is lacking, and again where a node has changed. After a report of a path its other side is shown again. */
@@ -115,11 +120,8 @@ static void change(dw_session *session)
     read = expect_sent(session, 0);
     expect_shown(session, FIRST + 3);
     expect_no_more(session);
-    answer_data(session, 52, read, 7);
-    expect_shown(session, FIRST + 1);
-    tend(session, 52);
-    expect_whole(session);
-    expect_no_more(session);
+    show_data(session, 52, read, 7, FIRST + 1);
+    expect_whole(session, 52);
 }
 
 /* A node has gone, which the reads of both sides find, and then that it is absent. It is let go once that is known, and not taken on again
@@ -159,22 +161,16 @@ static void replace(dw_session *session)
     names = expect_sent(session, 0);
     expect_shown(session, TREE);
     expect_no_more(session);
-    HAND_IN(session, 59, add_names, names, 9, "a", "c", &STAT);
-    expect_shown(session, FIRST);
-    tend(session, 59);
+    show_names(session, 59, names, 9, "c");
     expect_taken_on(session, FIRST + 5, DW_SIDE_DATA, "/t/c");
     expect_taken_on(session, FIRST + 6, DW_SIDE_CHILDREN, "/t/c");
     data = expect_sent(session, 0);
     names = expect_sent(session, 0);
     expect_no_more(session);
-    answer_data(session, 60, data, 9);
-    expect_shown(session, FIRST + 5);
+    show_data(session, 60, data, 9, FIRST + 5);
     expect_no_more(session);
-    answer_no_names(session, 61, names, 9);
-    expect_shown(session, FIRST + 6);
-    tend(session, 61);
-    expect_whole(session);
-    expect_no_more(session);
+    show_no_names(session, 61, names, 9, FIRST + 6);
+    expect_whole(session, 61);
 }
 
 /* All that is followed still is let go, in the order in which it was taken on. */

@@ -38,18 +38,23 @@ void put_buffer(struct bytes *bytes, const void *from, size_t length)
     put(bytes, from, length);
 }
 
-static void put_text(struct bytes *bytes, const char *text)
+void put_text(struct bytes *bytes, const char *text)
 {
     put_buffer(bytes, text, strlen(text));
 }
 
-void put_stat(struct bytes *bytes, const dw_stat *stat)
+void put_changes(struct bytes *bytes, const dw_stat *stat)
 {
     put_long(bytes, stat->czxid);
     put_long(bytes, stat->mzxid);
     put_long(bytes, stat->ctime);
     put_long(bytes, stat->mtime);
     put_int(bytes, stat->version);
+}
+
+void put_stat(struct bytes *bytes, const dw_stat *stat)
+{
+    put_changes(bytes, stat);
     put_int(bytes, stat->cversion);
     put_int(bytes, stat->aversion);
     put_long(bytes, stat->ephemeral_owner);

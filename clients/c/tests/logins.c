@@ -63,7 +63,6 @@ static void open_with(bool (*log_in)(dws_session *, dws_sasl *, void *), void *c
     options.log_in = log_in;
     options.log_in_context = context;
     open_session_with(options);
-    EXPECT(session != NULL);
     dws_get(session, named(&get, "get"), "/a", false);
 }
 
@@ -71,7 +70,7 @@ static void hear_token(int32_t xid, const char *token)
 {
     struct bytes body;
     body.length = 0;
-    put_words(&body, token);
+    put_text(&body, token);
     hear_request(xid, TYPE_LOG_IN, &body);
 }
 
@@ -79,7 +78,7 @@ static void add_challenge(struct bytes *bytes, int32_t xid, const char *challeng
 {
     size_t begin = bytes->length;
     add_header(bytes, xid, 0, 0);
-    put_words(bytes, challenge);
+    put_text(bytes, challenge);
     end_answer(bytes, begin);
 }
 

@@ -91,26 +91,28 @@ static void pass(uint64_t time_ms)
     }
 }
 
-static int32_t exists(dws_session *s, const char *path)
+typedef dws_call *ask_of(dws_session *, dws_call *, const char *, bool);
+
+/* The numbers of a read's answer: what it points to is released. */
+static dws_call answered(dws_session *s, const char *path, ask_of *ask)
 {
     dws_call call;
     memset(&call, 0, sizeof call);
-    dws_exists(s, &call, path, false);
+    ask(s, &call, path, false);
     WAIT_UNTIL(call.is_answered);
-    int32_t why = call.why;
+    dws_call answer = call;
     dws_release(&call);
-    return why;
+    return answer;
+}
+
+static int32_t exists(dws_session *s, const char *path)
+{
+    return answered(s, path, dws_exists).why;
 }
 
 static size_t children(dws_session *s, const char *path)
 {
-    dws_call call;
-    memset(&call, 0, sizeof call);
-    dws_children(s, &call, path, false);
-    WAIT_UNTIL(call.is_answered);
-    size_t count = call.count;
-    dws_release(&call);
-    return count;
+    return answered(s, path, dws_children).count;
 }
 
 static void make(dws_session *s, const char *path, int mode)
@@ -429,12 +431,29 @@ static void read_again(dws_session *s, dws_call *call)
     dws_get(s, call, "/a", true);
 }
 
-static void watch(dws_session *s, dws_call *call, dws_call *(*ask)(dws_session *, dws_call *, const char *, bool),
-                  void (*changed)(dws_session *, dws_call *))
+static void watch(dws_session *s, dws_call *call, ask_of *ask, void (*changed)(dws_session *, dws_call *))
 {
     call->changed = changed;
     ask(s, call, "/a", true);
     WAIT_UNTIL(call->is_answered);
+}
+
+/* A watch outlives its connection, and ends with the session, by an expiry and by a close. */
+static void lose_watches(dws_session *s, dws_call *names)
+{
+    int count = changes;
+    watch(s, names, dws_children, call_changed);
+    command("drop", 0);
+    exists(s, "/a");
+    EXPECT_NUMBER(count, changes);
+    command("expire", 0);
+    WAIT_UNTIL(changes == count + 1);
+    EXPECT_SAYS("/a 0", said);
+    watch(s, names, dws_children, call_changed);
+    dws_end(s);
+    WAIT_UNTIL(dws_is_over(s));
+    EXPECT_NUMBER(count + 2, changes);
+    EXPECT_SAYS("/a 0", said);
 }
 
 static void test_watches(void)
@@ -463,18 +482,7 @@ static void test_watches(void)
     command("set /a five", 0);
     pass(100);
     EXPECT_NUMBER(5, changes);
-    watch(s, &names, dws_children, call_changed);
-    command("drop", 0); /* the watch goes on */
-    exists(s, "/a");
-    EXPECT_NUMBER(5, changes);
-    command("expire", 0);
-    WAIT_UNTIL(changes == 6);
-    EXPECT_SAYS("/a 0", said);
-    watch(s, &names, dws_children, call_changed);
-    dws_end(s);
-    WAIT_UNTIL(dws_is_over(s));
-    EXPECT_NUMBER(7, changes);
-    EXPECT_SAYS("/a 0", said);
+    lose_watches(s, &names);
     dws_release(&is_there);
     dws_release(&data);
     dws_release(&names);
@@ -516,24 +524,50 @@ static void test_hosts(void)
 
 /* ---- Stats. ---- */
 
-static void expect_line(const char *page, const char *line)
+static dws_stats stats;
+static char page[65536];
+
+/* The page of the stats has these lines, up to NULL. */
+static void expect_lines(dws_session *s, const char *const *lines)
 {
     char whole[128];
-    snprintf(whole, sizeof whole, "\n%s\n", line);
-    if (strstr(page, whole) == NULL) {
-        fprintf(stderr, "%s\nhas no line %s\n", page, line);
-        exit(EXIT_FAILURE);
+    dws_stats_write(s, &stats, page, sizeof page);
+    for (; *lines != NULL; lines++) {
+        snprintf(whole, sizeof whole, "\n%s\n", *lines);
+        if (strstr(page, whole) == NULL) {
+            fprintf(stderr, "%s\nhas no line %s\n", page, *lines);
+            exit(EXIT_FAILURE);
+        }
     }
 }
 
 /* By the protocol a ConnectRequest has 49 bytes, its answer 40 where the server has no read-only mode; a request without a body 12, a path and a watch 4 + 2 + 1 more; a header of a reply
  * 20 bytes, a Stat 68, data 4 more than they have. */
+static const char *const OF_CALLS[] = {
+    "dirwolleu_connections_total 1",
+    "# TYPE dirwolleu_call_seconds histogram",
+    "dirwolleu_calls_total{kind=\"get\",outcome=\"ok\"} 1",
+    "dirwolleu_calls_total{kind=\"get\",outcome=\"not_asked\"} 1",
+    "dirwolleu_calls_total{kind=\"exists\",outcome=\"refused\"} 1",
+    "dirwolleu_call_seconds_bucket{kind=\"get\",le=\"+Inf\"} 1",
+    "dirwolleu_call_seconds_count{kind=\"get\"} 1",
+    "dirwolleu_bytes_total{direction=\"out\"} 87", /* 49 + 19 + 19 */
+    "dirwolleu_bytes_total{direction=\"in\"} 155", /* 40 + 20 + 7 + 68 + 20 */
+    "dirwolleu_kept_bytes 0",
+    NULL,
+};
+static const char *const OF_ENDS[] = {
+    "dirwolleu_connection_ends_total{reason=\"ended\"} 2",
+    "dirwolleu_connection_ends_total{reason=\"expired\"} 1",
+    "dirwolleu_sessions_lost_total 1",
+    "dirwolleu_followed{kind=\"node\"} 1",
+    NULL,
+};
+
 static void test_stats(void)
 {
-    static dws_stats stats;
     static dws_call call;
     static dws_subject node, names;
-    static char page[65536];
     dws_options options;
     memset(&options, 0, sizeof options);
     options.observe = dws_count;
@@ -544,28 +578,14 @@ static void test_stats(void)
     EXPECT_NUMBER(0, dws_wait(s, dws_get(s, &call, "/a", false)));
     EXPECT_NUMBER(DW_CODE_NO_NODE, dws_wait(s, dws_exists(s, &call, "/b", false)));
     dws_get(s, &call, "a", false);
-    dws_stats_write(s, &stats, page, sizeof page);
-    expect_line(page, "dirwolleu_connections_total 1");
-    expect_line(page, "# TYPE dirwolleu_call_seconds histogram");
-    expect_line(page, "dirwolleu_calls_total{kind=\"get\",outcome=\"ok\"} 1");
-    expect_line(page, "dirwolleu_calls_total{kind=\"get\",outcome=\"not_asked\"} 1");
-    expect_line(page, "dirwolleu_calls_total{kind=\"exists\",outcome=\"refused\"} 1");
-    expect_line(page, "dirwolleu_call_seconds_bucket{kind=\"get\",le=\"+Inf\"} 1");
-    expect_line(page, "dirwolleu_call_seconds_count{kind=\"get\"} 1");
-    expect_line(page, "dirwolleu_bytes_total{direction=\"out\"} 87");  /* 49 + 19 + 19 */
-    expect_line(page, "dirwolleu_bytes_total{direction=\"in\"} 155");  /* 40 + 20 + 7 + 68 + 20 */
-    expect_line(page, "dirwolleu_kept_bytes 0");
+    expect_lines(s, OF_CALLS);
     EXPECT(dws_follow(s, &node, "/a", NULL) == DW_OK && dws_follow_children(s, &names, "/", NULL) == DW_OK);
     WAIT_UNTIL(dws_is_good(&node) && dws_is_good(&names));
     command("drop", 0);
     EXPECT_NUMBER(0, exists(s, "/a"));
     command("expire", 0);
     WAIT_UNTIL(stats.sessions_lost == 1 && stats.connections == 3);
-    dws_stats_write(s, &stats, page, sizeof page);
-    expect_line(page, "dirwolleu_connection_ends_total{reason=\"ended\"} 2");
-    expect_line(page, "dirwolleu_connection_ends_total{reason=\"expired\"} 1");
-    expect_line(page, "dirwolleu_sessions_lost_total 1");
-    expect_line(page, "dirwolleu_followed{kind=\"node\"} 1");
+    expect_lines(s, OF_ENDS);
     WAIT_UNTIL(dws_is_good(&node) && dws_is_good(&names));
     dws_holdings held_now = dws_hold(s);
     EXPECT_NUMBER(2 + 3 + 1 + 1, (int)held_now.bytes); /* "/a", "one", "/", "a": there is no /zookeeper here */

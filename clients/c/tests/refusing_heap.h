@@ -20,7 +20,7 @@ bool was_refused(void);
 
 /* What a test does in turn: a step may halt, and a move that refuses may answer DW_NO_MEMORY, by the header. The outputs of a step are read after it,
  * unless a move that follows reads them. */
-enum { STEP = 1, REFUSES = 2, UNREAD = 4 };
+enum { STEP = 1, REFUSES = 2, BOTH = 3, UNREAD = 4 };
 struct play;
 struct move {
     enum dw_result (*make)(struct play *play);

@@ -19,7 +19,7 @@ struct named {
 static void add_synced(struct bytes *bytes, int32_t xid)
 {
     size_t begin = begin_answer(bytes, xid, 0);
-    put_words(bytes, "/a");
+    put_text(bytes, "/a");
     end_answer(bytes, begin);
 }
 
@@ -28,11 +28,11 @@ static void add_acls(struct bytes *bytes, int32_t xid)
     size_t begin = begin_answer(bytes, xid, 0);
     put_int(bytes, 2);
     put_int(bytes, DWS_MAY_ALL);
-    put_words(bytes, "auth");
-    put_words(bytes, "");
+    put_text(bytes, "auth");
+    put_text(bytes, "");
     put_int(bytes, DWS_MAY_READ);
-    put_words(bytes, "ip");
-    put_words(bytes, "10.0.0.0/8");
+    put_text(bytes, "ip");
+    put_text(bytes, "10.0.0.0/8");
     put_stat(bytes, &STAT);
     end_answer(bytes, begin);
 }
@@ -44,7 +44,7 @@ static void add_changes(struct bytes *bytes, int32_t xid)
     put_type(bytes, DWS_OF_SET, 0);
     put_stat(bytes, &STAT);
     put_type(bytes, DWS_OF_CREATE, 0);
-    put_words(bytes, "/log-0000000000");
+    put_text(bytes, "/log-0000000000");
     put_type(bytes, DWS_OF_DELETE, 0);
     put_type(bytes, -1, 1);
     end_answer(bytes, begin);
@@ -78,19 +78,19 @@ static void hear_transaction(int32_t xid)
     struct bytes body;
     body.length = 0;
     put_type(&body, DWS_OF_CHECK, 0);
-    put_words(&body, "/a");
+    put_text(&body, "/a");
     put_int(&body, 3);
     put_type(&body, DWS_OF_SET, 0);
-    put_words(&body, "/a");
-    put_words(&body, "two");
+    put_text(&body, "/a");
+    put_text(&body, "two");
     put_int(&body, 3);
     put_type(&body, DWS_OF_CREATE, 0);
-    put_words(&body, "/log-");
-    put_words(&body, "");
+    put_text(&body, "/log-");
+    put_text(&body, "");
     put_open_acl(&body);
     put_int(&body, DW_MODE_SEQUENTIAL);
     put_type(&body, DWS_OF_DELETE, 0);
-    put_words(&body, "/b");
+    put_text(&body, "/b");
     put_int(&body, -1);
     put_type(&body, -1, 1);
     hear_request(xid, DW_OPERATION_MULTI, &body);
@@ -358,8 +358,8 @@ static void expect_credentials(const char *words)
     struct bytes body;
     body.length = 0;
     put_int(&body, 0);
-    put_words(&body, "digest");
-    put_words(&body, words);
+    put_text(&body, "digest");
+    put_text(&body, words);
     hear_request(-4, TYPE_AUTH, &body);
 }
 

@@ -10,7 +10,6 @@
 #include <sys/socket.h>
 #include <unistd.h>
 
-
 enum { PATIENCE_MS = 50 };
 
 static dws_call get, set, many[2 * DWS_MOST_ASKED];
@@ -345,6 +344,17 @@ static void follow_owned(dws_subject *subject, const char *path)
     EXPECT_NUMBER(DW_OK, (is_of_names ? dws_follow_children : dws_follow)(session, subject, path, see_owned));
 }
 
+/* A lock is asked for, as far as to the names of its contenders. */
+static void ask_for_lock(char *place, size_t size)
+{
+    owned.lock = (dws_lock *)calloc(1, sizeof *owned.lock);
+    EXPECT(dws_lock_take(session, owned.lock, "/l", DWS_EXCLUSIVE, "me", see_owned_lock));
+    make_place(1, "0000000002", place, size);
+    hear_about(2, TYPE_GET, place);
+    answer_place(2, 6);
+    hear_about(3, TYPE_CHILDREN, "/l");
+}
+
 /* A session that has all of it. */
 static void own(bool ends)
 {
@@ -356,13 +366,8 @@ static void own(bool ends)
     open_session_with(options);
     session->options.told = note_end;
     owned.ends = ends;
-    owned.lock = (dws_lock *)calloc(1, sizeof *owned.lock);
     admit();
-    EXPECT(dws_lock_take(session, owned.lock, "/l", DWS_EXCLUSIVE, "me", see_owned_lock));
-    make_place(1, "0000000002", place, sizeof place);
-    hear_about(2, TYPE_GET, place);
-    answer_place(2, 6);
-    hear_about(3, TYPE_CHILDREN, "/l");
+    ask_for_lock(place, sizeof place);
     answer_names(3, 6, place + 3, "note");
     follow_owned(&owned.node, "/node");
     hear_about(4, TYPE_GET, "/node");
@@ -431,13 +436,8 @@ static void close_before_a_lock(void)
 {
     char place[256];
     memset(&owned, 0, sizeof owned);
-    owned.lock = (dws_lock *)calloc(1, sizeof *owned.lock);
     begin_session();
-    EXPECT(dws_lock_take(session, owned.lock, "/l", DWS_EXCLUSIVE, "me", see_owned_lock));
-    make_place(1, "0000000002", place, sizeof place);
-    hear_about(2, TYPE_GET, place);
-    answer_place(2, 6);
-    hear_about(3, TYPE_CHILDREN, "/l");
+    ask_for_lock(place, sizeof place);
     dws_end(session);
     hear_request(4, -11, NULL);
     session->options.read = read_few;
@@ -471,18 +471,24 @@ static void begin_tree(const char *second)
     answer_names(2, 6, "a", second);
 }
 
+/* The rest of what is read of `a` and `b`, and its answers: data are refused, and no names are below. */
+static void answer_rest(void)
+{
+    hear_about(4, TYPE_GET, "/t/b");
+    hear_about(5, TYPE_CHILDREN, "/t/a");
+    hear_about(6, TYPE_CHILDREN, "/t/b");
+    refuse(4);
+    answer_no_names(5);
+    answer_no_names(6);
+}
+
 /* Two nodes of a tree are refused: the first one is told, and the other one once that is read, though it was refused long before. */
 static void refuse_nodes(void)
 {
     begin_tree("b");
     hear_about(3, TYPE_GET, "/t/a");
-    hear_about(4, TYPE_GET, "/t/b");
-    hear_about(5, TYPE_CHILDREN, "/t/a");
-    hear_about(6, TYPE_CHILDREN, "/t/b");
     refuse(3);
-    refuse(4);
-    answer_no_names(5);
-    answer_no_names(6);
+    answer_rest();
     turn(0);
     expect_said("the node's ACL does not admit this client: /t/a\n");
     hear_about(7, TYPE_GET, "/t/a");
@@ -510,14 +516,9 @@ static void unfollow_tree(void)
     refuse(3);
     turn(0);
     EXPECT_NUMBER(DW_OK, dws_follow_tree(session, &tree, "/t/c", 0, take_tree));
-    hear_about(4, TYPE_GET, "/t/b");
-    hear_about(5, TYPE_CHILDREN, "/t/a");
-    hear_about(6, TYPE_CHILDREN, "/t/b");
+    answer_rest();
     hear_about(7, TYPE_GET, "/t/c");
     hear_about(8, TYPE_CHILDREN, "/t/c");
-    refuse(4);
-    answer_no_names(5);
-    answer_no_names(6);
     answer_node(7);
     answer_no_names(8);
     turn(0);
@@ -647,6 +648,18 @@ static void watch_all(void)
     }
 }
 
+/* Serves until both calls are answered, and what is followed is shown, or the session is over. */
+static void serve_all(enum dw_result followed, enum dw_result planted)
+{
+    bool is_shown = false;
+    for (int i = 0; i < MOST_TURNS && !dws_is_over(session) && !(get.is_answered && set.is_answered && is_shown); i++) {
+        serve();
+        turn(i);
+        is_shown = (followed != DW_OK || dws_is_good(&node)) && (planted != DW_OK || tree.is_good);
+    }
+    EXPECT(get.is_answered && set.is_answered);
+}
+
 /* A session that follows, reads and writes, of which one request of the library for memory is refused. Whether it was, and went on. */
 static bool run_short(long refused_at)
 {
@@ -654,7 +667,7 @@ static bool run_short(long refused_at)
     memset(&options, 0, sizeof options);
     heap.asked = 0;
     heap.refused_at = refused_at;
-    open_session_with(options);
+    try_session_with(options);
     if (session == NULL) { /* there was no memory for one */
         EXPECT(was_refused());
         return false;
@@ -663,18 +676,7 @@ static bool run_short(long refused_at)
     enum dw_result followed = dws_follow(session, &node, "/a", NULL), planted = dws_follow_tree(session, &tree, "/t", 0, NULL);
     dws_get(session, &get, "/a", false);
     dws_set(session, &set, "/a", "one", 3, -1);
-    for (int i = 0; i < MOST_TURNS; i++) {
-        bool is_shown = (followed != DW_OK || dws_is_good(&node)) && (planted != DW_OK || tree.is_good);
-        if (get.is_answered && set.is_answered && is_shown) {
-            break;
-        }
-        serve();
-        turn(i);
-        if (dws_is_over(session)) {
-            break;
-        }
-    }
-    EXPECT(get.is_answered && set.is_answered);
+    serve_all(followed, planted);
     EXPECT(followed == DW_OK || followed == DW_NO_MEMORY);
     EXPECT(planted == DW_OK || planted == DW_NO_MEMORY);
     bool goes_on = !dws_is_over(session);
