@@ -27,6 +27,11 @@ class Row(NamedTuple):
         return name, [int(number) for number in numbers], line.split()
 
     @property
+    def printed(self) -> str:
+        """The expected lines, and where none of them says how the row ends, that it tells nothing and has the status 0."""
+        return "\n".join([*self.wanted, *([] if re.search(r"\|\d+$", "".join(self.wanted[-1:])) else ["||0"])])
+
+    @property
     def script(self) -> str:
         """The standard input. `{end}` at the end of a line drops its newline."""
         return "".join(f"{line}\n" for text in self.given for line in numbered(repeated(text))).replace("{end}\n", "")
@@ -40,18 +45,24 @@ class Case(NamedTuple):
 SIGNS: dict[str, Callable[[Row], list[str]]] = {"<": lambda row: row.given, "=": lambda row: row.wanted, "@": lambda row: row.dialled}
 
 
+def lines_of(file: Path) -> Iterator[tuple[int, str]]:
+    """The lines of a table with their numbers, after a `>` several in one line: `> WORDS < TEXT ! STATUS TEXT`."""
+    for number, line in enumerate(file.read_bytes().decode().split("\n"), 1):
+        yield from ((number, part) for part in (re.split(r" (?=[<=!+] )", line) if line.startswith("> ") else [line]))
+
+
 def cases_of(name: str) -> list[Case]:
     """The cases of a file.
 
     `case NAME` begins one. A step is a line `> WORDS`, followed by its input, `< TEXT`, its expected output, `= TEXT`, and what it finds at the
-    addresses that it dials, `@ TEXT`. `let NAME TEXT` defines a text, which replaces each `{NAME}`. `let NAME` alone defines lines of a step, up to
-    the next empty line; `+ NAME` inserts them.
+    addresses that it dials, `@ TEXT`. `! STATUS TEXT` is the end of one that fails: what it tells, and its status. `let NAME TEXT` defines a text,
+    which replaces each `{NAME}`. `let NAME` alone defines lines of a step, up to the next empty line; `+ NAME` inserts them.
     """
     cases: list[Case] = []
     texts: dict[str, str] = {}
     parts: dict[str, Row] = {}
     row: Row | None = None
-    for number, line in enumerate((HERE / name).read_bytes().decode().split("\n"), 1):
+    for number, line in lines_of(HERE / name):
         sign, _, rest = line.partition(" ")
         rest = re.sub(r"\{(\w+)\}", lambda found: texts.get(found[1], found[0]), rest)
         word, _, text = rest.partition(" ")
@@ -66,11 +77,13 @@ def cases_of(name: str) -> list[Case]:
             cases[-1].rows.append(row)
         elif sign in SIGNS and row:
             SIGNS[sign](row).append(rest)
+        elif sign == "!" and row:
+            row.wanted.extend((f"|{text}", f"|{word}"))
         elif sign == "+" and row and rest in parts:
             for of in SIGNS.values():
                 of(row).extend(of(parts[rest]))
         elif sign not in ("", "#"):
-            raise ValueError(f"{name}:{number}: a line begins with case, let, >, <, =, @, + and a name, or #, and this one with {sign}")
+            raise ValueError(f"{name}:{number}: a line begins with case, let, >, <, =, !, @, + and a name, or #, and this one with {sign}")
     return cases
 
 

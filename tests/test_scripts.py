@@ -34,7 +34,7 @@ OUT_OF_MEMORY = 3
 MOST_WITHOUT = 4
 SHARES = 4
 """The tests that each take a share of the rows, side by side."""
-TABLES = ("show", "history", "replay", "rehearse", "live", "watch", "memory")
+TABLES = ("show", "history", "replay", "words", "rehearse", "live", "watch", "memory")
 
 
 class Case(NamedTuple):
@@ -59,7 +59,8 @@ def cases(*kinds: str) -> Iterator[Case]:
                 least, most = [*numbers, 0, 0][:2]
                 if kind in kinds:
                     place = f"{name}.txt:{row.line}: {case.name}"
-                    yield Case(place, kind, least, most, words, "\n".join(row.dialled), row.script, "\n".join(row.wanted) + "\n")
+                    wanted = row.wanted[0] if kind == "refused" else row.printed
+                    yield Case(place, kind, least, most, words, "\n".join(row.dialled), row.script, f"{wanted}\n")
 
 
 def expanded(script: str, number: int = 0) -> str:

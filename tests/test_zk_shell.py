@@ -214,8 +214,8 @@ class ShellTest(unittest.TestCase):
                     self._compare(f"{table}:{row.line}: {case.name}", row)
 
     def _compare(self, place: str, row: Row) -> None:
-        got, wanted = outcome(row.words, row.script.encode()), "\n".join(row.wanted)
-        if row.wanted[0] == "..":
+        got, wanted = outcome(row.words, row.script.encode()), row.printed
+        if wanted.startswith("..\n"):
             wanted = wanted[3:]
             got = got[-len(wanted) :]
         self.assertEqual(wanted, got, place)
