@@ -289,10 +289,8 @@ fn a_scheme_that_is_not_there_is_refused() {
     let session = Session::open(&place, TIMEOUT).unwrap();
     session.create("/mine", b"", Mode::Ephemeral).unwrap();
     let refused = session.add_auth("nobody", b"knows");
-    let kind = Err(ErrorKind::Server(Code::AUTH_FAILED));
-    assert_eq!(refused.map_err(Error::into_kind), kind);
-    let later = session.exists("/mine").map(drop);
-    assert_eq!(later.map_err(Error::into_kind), kind);
+    assert_eq!(kind_of(refused), Code::AUTH_FAILED.into());
+    assert_eq!(kind_of(session.exists("/mine")), Code::AUTH_FAILED.into());
     assert_eq!(session.state(), Some(State::Closed));
     session.renew().unwrap();
     assert!(session.call(Request::exists("/").within(PATIENCE)).is_ok());

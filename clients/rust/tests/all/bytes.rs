@@ -55,6 +55,29 @@ fn given_up<'a>(actions: &'a mut Actions<'_>) -> GivenUp<'a> {
     }
 }
 
+/// Asks for data, names or a Stat, with a watch.
+fn ask_data(machine: &mut Machine, ticket: u64, path: &str) {
+    let _ = machine
+        .get_data(START, ticket, None, path, Watch::Yes)
+        .unwrap();
+}
+
+fn ask_names(machine: &mut Machine, ticket: u64, path: &str) {
+    let _ = machine
+        .get_children(START, ticket, None, path, Watch::Yes)
+        .unwrap();
+}
+
+fn ask_stat(machine: &mut Machine, ticket: u64, path: &str) {
+    let _ = machine
+        .exists(START, ticket, None, path, Watch::Yes)
+        .unwrap();
+}
+
+fn hear(machine: &mut Machine, bytes: &[u8]) {
+    let _ = machine.bytes(START, bytes).unwrap();
+}
+
 /// A machine that has asked for its first connection.
 fn dialling() -> Machine {
     let mut machine = Machine::open(TIMEOUT, 1, 1).unwrap();
@@ -65,9 +88,9 @@ fn dialling() -> Machine {
 /// A machine that has read `/a` with a watch: the bytes `one`, at zxid 5.
 fn watching() -> Machine {
     let mut machine = connected();
-    let _ = machine.get_data(START, 7, None, "/a", Watch::Yes).unwrap();
+    ask_data(&mut machine, 7, "/a");
     let reply = Record::reply(1, 5, 0).buffer(b"one").stat(5, 0, 3, 0);
-    let _ = machine.bytes(START, &reply.framed()).unwrap();
+    hear(&mut machine, &reply.framed());
     machine
 }
 
@@ -132,7 +155,7 @@ fn each_call_is_spelled() {
 #[test]
 fn a_reply_is_read() {
     let mut machine = connected();
-    let _ = machine.get_data(START, 7, None, "/a", Watch::Yes).unwrap();
+    ask_data(&mut machine, 7, "/a");
     let reply = Record::reply(1, 5, 0).buffer(b"one").stat(5, 2, 3, 0);
     let mut actions = machine.bytes(START, &reply.framed()).unwrap();
     let reply = reply_to(7, &mut actions);
@@ -157,11 +180,11 @@ fn a_reply_is_read() {
 #[test]
 fn each_field_of_a_stat_has_its_place() {
     let mut machine = connected();
-    let _ = machine.get_data(START, 1, None, "/a", Watch::Yes).unwrap();
+    ask_data(&mut machine, 1, "/a");
     let longs = Record::reply(1, 90, 0).buffer(b"x");
     let longs = longs.long(11).long(12).long(13).long(14);
     let ints = longs.int(15).int(16).int(17).long(18).int(19).int(20);
-    let _ = machine.bytes(START, &ints.long(21).framed()).unwrap();
+    hear(&mut machine, &ints.long(21).framed());
     let Some(Kept {
         answer: DataAnswer::Full { stat, .. },
         ..
@@ -189,7 +212,7 @@ fn each_field_of_a_stat_has_its_place() {
 #[test]
 fn null_data_are_no_empty_data() {
     let mut machine = connected();
-    let _ = machine.get_data(START, 1, None, "/a", Watch::Yes).unwrap();
+    ask_data(&mut machine, 1, "/a");
     let reply = Record::reply(1, 5, 0).int(-1).stat(5, 0, 0, 0);
     let mut actions = machine.bytes(START, &reply.framed()).unwrap();
     let reply = reply_to(1, &mut actions);
@@ -224,11 +247,9 @@ fn stream() -> Vec<u8> {
 /// All that is said where the stream comes in pieces of this length.
 fn pieces(length: usize) -> Vec<String> {
     let mut machine = connected();
-    let _ = machine.get_data(START, 1, None, "/a", Watch::Yes).unwrap();
-    let _ = machine
-        .get_children(START, 2, None, "/a", Watch::Yes)
-        .unwrap();
-    let _ = machine.exists(START, 3, None, "/none", Watch::Yes).unwrap();
+    ask_data(&mut machine, 1, "/a");
+    ask_names(&mut machine, 2, "/a");
+    ask_stat(&mut machine, 3, "/none");
     let mode = Mode::PersistentSequential;
     let _ = machine
         .create(START, 4, None, "/s", Some(b"x"), mode)
@@ -285,9 +306,7 @@ fn a_watch_is_reported_once_and_its_answer_is_stale() {
 fn names_of_each_length_are_kept_in_byte_order() {
     let mut machine = connected();
     let long = "n".repeat(1_000);
-    let _ = machine
-        .get_children(START, 1, None, "/a", Watch::Yes)
-        .unwrap();
+    ask_names(&mut machine, 1, "/a");
     let reply = Record::reply(1, 5, 0)
         .texts(&["z", &long, "", "b"])
         .stat(5, 0, 0, 3);
@@ -315,25 +334,19 @@ fn a_subtree_is_told_once_nothing_is_lacking() {
     let both = |path| vec![read(path, Side::Data), read(path, Side::Children)];
     assert_eq!(machine.lacking("/a", 9).unwrap(), both("/a"));
     assert_eq!(machine.subtree("/a", 9).unwrap(), None);
-    let _ = machine.get_data(START, 1, None, "/a", Watch::Yes).unwrap();
-    let _ = machine
-        .get_children(START, 2, None, "/a", Watch::Yes)
-        .unwrap();
+    ask_data(&mut machine, 1, "/a");
+    ask_names(&mut machine, 2, "/a");
     let data = Record::reply(1, 5, 0).buffer(b"one").stat(5, 2, 3, 1);
     let names = Record::reply(2, 5, 0).texts(&["b"]).stat(5, 2, 3, 1);
     let came = [data.framed(), names.framed()].concat();
-    let _ = machine.bytes(START, &came).unwrap();
+    hear(&mut machine, &came);
     assert_eq!(machine.lacking("/a", 9).unwrap(), both("/a/b"));
-    let _ = machine
-        .get_data(START, 3, None, "/a/b", Watch::Yes)
-        .unwrap();
-    let _ = machine
-        .get_children(START, 4, None, "/a/b", Watch::Yes)
-        .unwrap();
+    ask_data(&mut machine, 3, "/a/b");
+    ask_names(&mut machine, 4, "/a/b");
     let data = Record::reply(3, 6, 0).int(-1).stat(6, 0, 0, 0);
     let names = Record::reply(4, 6, 0).texts(&[]).stat(6, 0, 0, 0);
     let came = [data.framed(), names.framed()].concat();
-    let _ = machine.bytes(START, &came).unwrap();
+    hear(&mut machine, &came);
     assert_eq!(machine.lacking("/a", 9).unwrap(), []);
     let Subtree { zxid, nodes } = machine.subtree("/a", 2).unwrap().unwrap();
     let [root, leaf] = nodes.as_slice() else {
@@ -357,18 +370,14 @@ fn a_subtree_is_told_once_nothing_is_lacking() {
 fn a_snapshot_is_of_several_paths_that_are_all_good() {
     let mut machine = watching();
     assert_eq!(machine.snapshot(&["/a"], &["/a"]), Ok(None));
-    let _ = machine
-        .exists(START, 8, None, "/known", Watch::Yes)
-        .unwrap();
-    let _ = machine.exists(START, 9, None, "/none", Watch::Yes).unwrap();
-    let _ = machine
-        .get_children(START, 10, None, "/a", Watch::Yes)
-        .unwrap();
+    ask_stat(&mut machine, 8, "/known");
+    ask_stat(&mut machine, 9, "/none");
+    ask_names(&mut machine, 10, "/a");
     let known = Record::reply(2, 6, 0).stat(4, 1, 2, 0).framed();
     let none = Record::reply(3, 6, -101).framed();
     let names = Record::reply(4, 6, 0).texts(&["c", "b"]).stat(5, 0, 3, 2);
     let came = [known, none, names.framed()].concat();
-    let _ = machine.bytes(START, &came).unwrap();
+    hear(&mut machine, &came);
     let paths = ["/none", "/a", "/known"];
     let found = machine.snapshot(&paths, &["/a"]).unwrap().unwrap();
     let [DataAnswer::Absent, DataAnswer::Full { data, stat }, DataAnswer::Known(known)] =
@@ -391,7 +400,7 @@ fn a_snapshot_is_of_several_paths_that_are_all_good() {
         not_path.to_string(),
         "b is no path: no slash at its beginning"
     );
-    let _ = machine.bytes(START, &Record::notice(3, "/a")).unwrap();
+    hear(&mut machine, &Record::notice(3, "/a"));
     assert_eq!(machine.snapshot(&paths, &["/a"]), Ok(None));
     assert!(machine.snapshot(&["/none"], &["/a"]).unwrap().is_some());
 }
@@ -400,18 +409,16 @@ fn a_snapshot_is_of_several_paths_that_are_all_good() {
 fn who_holds_by_the_first_name_of_a_prefix_has_a_token() {
     let mut machine = connected();
     let own = "/l/lock-0000000007";
-    let _ = machine.get_data(START, 1, None, own, Watch::Yes).unwrap();
+    ask_data(&mut machine, 1, own);
     let longs = Record::reply(1, 90, 0).buffer(b"").long(88).long(89);
     let owned = longs.long(0).long(0).int(1).int(0).int(0).long(SESSION);
     let data = owned.int(0).int(0).long(88).framed();
-    let _ = machine.bytes(START, &data).unwrap();
+    hear(&mut machine, &data);
     assert_eq!(machine.holder("/l", "lock-", own), Ok(None));
-    let _ = machine
-        .get_children(START, 2, None, "/l", Watch::Yes)
-        .unwrap();
+    ask_names(&mut machine, 2, "/l");
     let names = ["lock-0000000007", "lock-0000000008", "a"];
     let reply = Record::reply(2, 90, 0).texts(&names).stat(80, 0, 0, 3);
-    let _ = machine.bytes(START, &reply.framed()).unwrap();
+    hear(&mut machine, &reply.framed());
     assert_eq!(machine.holder("/l", "lock-", own), Ok(Some(88)));
     assert_eq!(machine.holder("/l", "", own), Ok(None));
     assert_eq!(machine.holder("/", "lock-", own), Ok(None));
@@ -424,13 +431,11 @@ fn who_holds_by_the_first_name_of_a_prefix_has_a_token() {
 #[test]
 fn who_stands_first_has_a_token_and_others_wait() {
     let mut machine = connected();
-    let _ = machine
-        .get_data(START, 1, None, "/l/x-lock-0000000007", Watch::Yes)
-        .unwrap();
+    ask_data(&mut machine, 1, "/l/x-lock-0000000007");
     let longs = Record::reply(1, 90, 0).buffer(b"").long(88).long(88);
     let owned = longs.long(0).long(0).int(0).int(0).int(0).long(SESSION);
     let data = owned.int(0).int(0).long(88).framed();
-    let _ = machine.bytes(START, &data).unwrap();
+    hear(&mut machine, &data);
     let names = ["a-lock-0000000008", "x-lock-0000000007", "y-0000000001"].map(String::from);
     let mut contender = Contender {
         directory: "/l",
@@ -516,7 +521,7 @@ fn a_frame_out_of_range_ends_the_connection() {
 #[test]
 fn a_reply_that_is_behind_ends_the_connection() {
     let mut machine = watching();
-    let _ = machine.exists(START, 8, None, "/b", Watch::Yes).unwrap();
+    ask_stat(&mut machine, 8, "/b");
     let reply = Record::reply(2, 4, 0).stat(4, 0, 0, 0).framed();
     let mut actions = machine.bytes(START, &reply).unwrap();
     let given_up = given_up(&mut actions);
@@ -559,10 +564,10 @@ fn the_revision_rises_where_something_may_have_changed() {
     assert_eq!(Machine::open(TIMEOUT, 1, 1).unwrap().revision(), 1);
     let mut machine = watching();
     assert_eq!(machine.revision(), 1 + 3, "connecting, and bytes twice");
-    let _ = machine.get_data(START, 8, None, "/b", Watch::Yes).unwrap();
+    ask_data(&mut machine, 8, "/b");
     let _ = machine.tick(START).unwrap();
     assert_eq!(machine.revision(), 1 + 3);
-    let _ = machine.bytes(START, &Record::notice(3, "/a")).unwrap();
+    hear(&mut machine, &Record::notice(3, "/a"));
     assert_eq!(machine.revision(), 1 + 4, "bytes");
     let _ = machine.cut(START).unwrap();
     assert_eq!(machine.revision(), 1 + 5, "idle");

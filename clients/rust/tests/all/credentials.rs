@@ -2,9 +2,9 @@
 
 use crate::jute::{Record, CLOSE_SESSION, GET_CHILDREN_2, GET_DATA};
 use crate::partner::{Partner, Request};
-use crate::{PATIENCE, TIMEOUT};
+use crate::{kind_of, PATIENCE, TIMEOUT};
 use dirwolleu::{
-    Code, Error, ErrorKind, Event, Mark, NoReply, Request as Asked, Session, SessionOptions, State,
+    Code, ErrorKind, Event, Mark, NoReply, Request as Asked, Session, SessionOptions, State,
 };
 use std::sync::mpsc;
 use std::time::{Duration, Instant};
@@ -123,10 +123,8 @@ fn credentials_that_are_added_and_refused_are_told_to_their_caller() {
     });
     let session = Session::open(partner.address, TIMEOUT).unwrap();
     let refused = session.add_auth("nobody", b"knows");
-    let kind = Err(ErrorKind::Server(Code::AUTH_FAILED));
-    assert_eq!(refused.map_err(Error::into_kind), kind);
-    let later = session.get("/a").map(drop);
-    assert_eq!(later.map_err(Error::into_kind), kind);
+    assert_eq!(kind_of(refused), Code::AUTH_FAILED.into());
+    assert_eq!(kind_of(session.get("/a")), Code::AUTH_FAILED.into());
     assert_eq!(session.state(), Some(State::Closed));
     assert_eq!(partner.dials(), 1);
 }
@@ -155,8 +153,7 @@ fn a_call_whose_credentials_have_no_answer_ends_at_its_limit() {
     });
     let session = Session::open(partner.address, TIMEOUT).unwrap();
     let limited = Asked::auth("digest", b"ann:secret").within(Duration::from_secs(1));
-    let late = session.call(limited).map_err(Error::into_kind);
-    assert_eq!(late, Err(ErrorKind::TimedOut));
+    assert_eq!(kind_of(session.call(limited)), ErrorKind::TimedOut);
     let nobody = SessionOptions::new(TIMEOUT).open_lazily("127.0.0.1:1");
     let limited = Asked::auth("digest", b"ann:secret").within(Duration::from_secs(1));
     let late = nobody.unwrap().call(limited).unwrap_err();

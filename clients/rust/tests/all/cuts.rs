@@ -2,6 +2,7 @@
 //! `libdirwolleu_bench.a` beside the library.
 
 use crate::bench::{Bench, Change};
+use crate::jute::{EXISTS, GET_CHILDREN_2, GET_DATA, NOTICE, SET_WATCHES};
 use dirwolleu::{
     Action, Actions, DataAnswer, DataStat, Fault, Kept, Machine, Mark, Moment, Side, State,
 };
@@ -25,13 +26,6 @@ const MOST_STEPS: usize = 20_000;
 
 /// How many more connections a cut makes: another one, and one to a server that is behind.
 const MORE_CONNECTIONS: usize = 2;
-
-/// Types of requests, and the xid of a notice, which has no zxid.
-const EXISTS: i32 = 3;
-const GET_DATA: i32 = 4;
-const GET_CHILDREN_2: i32 = 12;
-const SET_WATCHES: i32 = 101;
-const NOTICE: i32 = -1;
 
 /// How many connections are made, and how many bytes are sent and heard by servers.
 #[derive(Clone, Copy, Debug, Default, PartialEq)]

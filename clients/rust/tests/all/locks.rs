@@ -4,8 +4,8 @@ use crate::runtime::block_on;
 use crate::server::Server;
 use crate::{kind_of, millis, renewing, started, wait_until, PATIENCE, TIMEOUT};
 use dirwolleu::{
-    Code, Election, Error, ErrorKind, Fault, Lock, LockNames, LockOptions, Mark, Mode, NoReply,
-    Request, Session, SessionOptions, Sharing, ANY_VERSION,
+    Code, Election, ErrorKind, Fault, Lock, LockNames, LockOptions, Mark, Mode, NoReply, Request,
+    Session, SessionOptions, Sharing, ANY_VERSION,
 };
 use std::sync::atomic::{AtomicBool, Ordering};
 use std::sync::{mpsc, Arc};
@@ -96,11 +96,8 @@ fn those_that_share_hold_together_and_wait_for_who_does_not() {
             thread::sleep(Duration::from_millis(5));
         }
         let late = shared(A_WHILE);
-        assert_eq!(
-            late.map(drop).map_err(Error::into_kind),
-            Err(ErrorKind::LockTimeout),
-            "an exclusive one is before it"
-        );
+        let why = "an exclusive one is before it";
+        assert_eq!(kind_of(late), ErrorKind::LockTimeout, "{why}");
         one.release().unwrap();
         other.release().unwrap();
         waits.join().unwrap().release().unwrap();
@@ -210,10 +207,8 @@ fn a_lock_is_awaited() {
     lock.release().unwrap();
     assert!(block_on(next).unwrap().token() > token);
     let none = LockOptions::new().contend(&first, "locks").map(drop);
-    assert_eq!(
-        none.unwrap_err().to_string(),
-        "locks is no path: no slash at its beginning"
-    );
+    let why = "locks is no path: no slash at its beginning";
+    assert_eq!(none.unwrap_err().to_string(), why);
 }
 
 #[test]

@@ -1,7 +1,7 @@
 //! What the machine decides of a session: which calls wait and how long, what becomes of them at a cut, what is followed.
 
 use crate::jute::{self, EXISTS, GET_DATA, PING, SYNC};
-use crate::partner::Partner;
+use crate::partner::{Line, Partner};
 use crate::{kind_of, millis, PATIENCE, SLACK, TIMEOUT};
 use dirwolleu::{
     Code, ErrorKind, Hosts, LocalSession, Mode, NoReply, Request, Session, SessionOptions, State,
@@ -110,13 +110,18 @@ fn a_raw_call_waits_to_its_limit_too() {
     assert_eq!(kind_of(late), ErrorKind::TimedOut);
 }
 
+/// Admits a session, and tells which one was asked for.
+fn admit_and_tell(line: &mut Line, asked: &mpsc::Sender<Vec<u8>>) {
+    let request = line.frame().unwrap();
+    asked.send(request[16..24].to_vec()).unwrap();
+    line.send(&jute::Record::accepted(10_000, 0x1234));
+}
+
 #[test]
 fn a_session_that_is_closed_is_asked_nothing_and_is_renewed() {
     let (sender, sessions) = mpsc::channel();
     let partner = Partner::start(move |_, mut line| {
-        let request = line.frame().unwrap();
-        sender.send(request[16..24].to_vec()).unwrap();
-        line.send(&jute::Record::accepted(10_000, 0x1234));
+        admit_and_tell(&mut line, &sender);
         line.serve();
     });
     let session = Session::open(partner.address, TIMEOUT).unwrap().shared();
@@ -137,9 +142,7 @@ fn a_session_that_is_closed_is_asked_nothing_and_is_renewed() {
 fn a_session_that_lives_goes_on_with_another_machine() {
     let (sender, sessions) = mpsc::channel();
     let partner = Partner::start(move |number, mut line| {
-        let request = line.frame().unwrap();
-        sender.send(request[16..24].to_vec()).unwrap();
-        line.send(&jute::Record::accepted(10_000, 0x1234));
+        admit_and_tell(&mut line, &sender);
         if number == 0 {
             let request = line.request().unwrap();
             line.tell_data(request.xid);

@@ -3,10 +3,10 @@
 
 use crate::jute::{Record, EXISTS, GET_DATA, PING, PONG};
 use crate::partner::{Line, Partner};
-use crate::{PATIENCE, TIMEOUT};
+use crate::{kind_of, PATIENCE, TIMEOUT};
 use dirwolleu::{
-    Acl, Change, Code, Error, ErrorKind, Mark, Mode, NoReply, Operations, Permissions, Read,
-    ReadAnswer, Request, Session, ANY_VERSION,
+    Acl, Change, Code, Mark, Mode, NoReply, Operations, Permissions, Read, ReadAnswer, Request,
+    Session, ANY_VERSION,
 };
 use std::sync::mpsc;
 
@@ -173,26 +173,19 @@ fn an_answer_that_does_not_read_ends_the_connection() {
     });
     let session = Session::open(partner.address, TIMEOUT).unwrap();
     for _ in 0..2 {
-        let unread = session.sync("/");
-        assert_eq!(
-            unread.map_err(Error::into_kind),
-            Err(ErrorKind::NoReply(NoReply::ConnectionLoss))
-        );
+        assert_eq!(kind_of(session.sync("/")), NoReply::ConnectionLoss.into());
     }
     assert_eq!(session.sync("/"), Ok(()));
 }
 
 #[test]
 fn calls_that_the_core_reads_and_does_not_read_are_on_their_way_at_once() {
-    let partner = Partner::start(|_, mut line| {
-        line.admit(10_000);
-        while let Some(request) = line.request() {
-            match request.kind {
-                GET_ACL => tell_acls(&mut line, request.xid),
-                EXISTS => line.tell_stat(request.xid),
-                _ => line.tell_data(request.xid),
-            };
-        }
+    let partner = Partner::answering(|line, request| {
+        match request.kind {
+            GET_ACL => tell_acls(line, request.xid),
+            EXISTS => line.tell_stat(request.xid),
+            _ => line.tell_data(request.xid),
+        };
     });
     let session = Session::open(partner.address, TIMEOUT).unwrap();
     let told = [Acl::new(Permissions::READ, "ip", "10.0.0.0/8")];
@@ -231,10 +224,7 @@ fn a_request_is_sent_that_is_as_long_as_it_may_be() {
     let set = |data: &[u8]| session.transaction().set("/a", data, 0).commit();
     assert_eq!(set(&data).map(|changes| changes.len()), Ok(1));
     data.push(7);
-    assert_eq!(
-        set(&data).map_err(Error::into_kind),
-        Err(ErrorKind::NoReply(NoReply::TooLarge))
-    );
+    assert_eq!(kind_of(set(&data)), NoReply::TooLarge.into());
 }
 
 #[test]

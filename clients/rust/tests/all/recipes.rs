@@ -200,6 +200,11 @@ fn a_barrier_holds_back_until_it_is_removed() {
     assert_eq!(barrier.remove(), Ok(false));
 }
 
+/// How many leases of the semaphore are held or waited for.
+fn leases(session: &Session) -> usize {
+    session.children("/s/two").unwrap().0.len()
+}
+
 #[test]
 fn so_many_hold_a_semaphore_as_it_says() {
     let Some(mut server) = started() else { return };
@@ -210,18 +215,11 @@ fn so_many_hold_a_semaphore_as_it_says() {
     let second = same.acquire(b"two").unwrap();
     assert!(first.token() < second.token());
     let late = same.acquire_within(b"three", Duration::from_millis(100));
-    assert_eq!(
-        late.err().map(|error| error.kind().clone()),
-        Some(ErrorKind::LockTimeout)
-    );
-    wait_until("no place of it is left", || {
-        session.children("/s/two").unwrap().0.len() == 2
-    });
+    assert_eq!(kind_of(late), ErrorKind::LockTimeout);
+    wait_until("no place of it is left", || leases(&session) == 2);
     scope(|scope| {
         let third = scope.spawn(|| same.acquire_within(b"three", PATIENCE));
-        wait_until("it waits", || {
-            session.children("/s/two").unwrap().0.len() == 3
-        });
+        wait_until("it waits", || leases(&session) == 3);
         assert!(!third.is_finished());
         assert_eq!(first.release(), Ok(()));
         assert!(third.join().unwrap().unwrap().check(PATIENCE));
@@ -235,9 +233,7 @@ fn so_many_hold_a_semaphore_as_it_says() {
     block_on(second.lost());
     assert!(!second.is_held() && !second.check(PATIENCE));
     drop(block_on(same.contend(b"two").unwrap()).unwrap());
-    wait_until("no lease is left", || {
-        session.children("/s/two").unwrap().0.is_empty()
-    });
+    wait_until("no lease is left", || leases(&session) == 0);
     server.tell("create /s/two/leases -");
     server.tell("create /s/kazoo 2");
     let kazoos = Semaphore::new(&session, "/s/kazoo", 2);

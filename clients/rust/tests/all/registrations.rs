@@ -15,12 +15,18 @@ fn owner(session: &Session) -> Option<i64> {
     Some(session.exists("/host").ok()??.ephemeral_owner)
 }
 
+/// A registration whose node is there.
+fn registered(session: &SharedSession) -> Registration {
+    let registration = Registration::begin(session, "/host", b"one").unwrap();
+    wait_until("it is registered", || registration.is_registered());
+    registration
+}
+
 #[test]
 fn a_node_is_there_until_the_registration_ends() {
     let Some(mut server) = started() else { return };
     let (session, other) = (renewing(&server), renewing(&server));
-    let registration = Registration::begin(&session, "/host", b"one").unwrap();
-    wait_until("it is registered", || registration.is_registered());
+    let registration = registered(&session);
     assert_eq!(owner(&other), Some(session.id().unwrap()));
     server.tell("delete /host");
     wait_until("it is made again", || owner(&other).is_some());
@@ -33,8 +39,7 @@ fn a_node_is_there_until_the_registration_ends() {
 fn a_node_is_made_again_by_the_next_session() {
     let Some(mut server) = started() else { return };
     let (session, other) = (renewing(&server), renewing(&server));
-    let registration = Registration::begin(&session, "/host", b"one").unwrap();
-    wait_until("it is registered", || registration.is_registered());
+    let registration = registered(&session);
     let before = session.id().unwrap();
     server.tell("expire");
     wait_until("another session registers", || {
@@ -59,8 +64,7 @@ fn a_registration_that_ends_at_once_leaves_no_node() {
 fn the_node_of_an_older_session_is_waited_for() {
     let Some(server) = started() else { return };
     let (first, second) = (renewing(&server), renewing(&server));
-    let older = Registration::begin(&first, "/host", b"one").unwrap();
-    wait_until("it is registered", || older.is_registered());
+    let older = registered(&first);
     let newer = Registration::begin(&second, "/host", b"two").unwrap();
     sleep(Duration::from_millis(300));
     assert!(older.is_registered() && !newer.is_registered());
@@ -73,8 +77,7 @@ fn the_node_of_an_older_session_is_waited_for() {
 fn a_session_that_is_over_ends_it() {
     let Some(mut server) = started() else { return };
     let session = Session::open(server.address, TIMEOUT).unwrap().shared();
-    let registration = Registration::begin(&session, "/host", b"one").unwrap();
-    wait_until("it is registered", || registration.is_registered());
+    let registration = registered(&session);
     server.tell("expire");
     wait_until(
         "the session has expired",

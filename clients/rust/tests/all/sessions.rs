@@ -29,6 +29,11 @@ pub fn wait_for(session: &Session, is_awaited: impl Fn(&Event) -> bool) -> Event
     }
 }
 
+/// Takes the events that there are.
+fn take_events(session: &Session) {
+    while session.next_event(Some(Instant::now())).unwrap().is_some() {}
+}
+
 pub fn wait_for_state(session: &Session, state: State) {
     wait_for(session, |event| *event == Event::State(state));
 }
@@ -145,7 +150,7 @@ fn no_event_is_no_wait() {
     let Some(server) = started() else { return };
     let session = session_at(&server, 10_000);
     session.exists("/").unwrap();
-    while session.next_event(Some(Instant::now())).unwrap().is_some() {}
+    take_events(&session);
     let begun = Instant::now();
     let until = begun + Duration::from_millis(50);
     assert_eq!(session.next_event(Some(until)), Ok(None));
@@ -228,7 +233,7 @@ fn an_idle_session_goes_on_by_pings() {
     let Some(server) = started() else { return };
     let session = session_at(&server, 6_000);
     session.watch("/").unwrap();
-    while session.next_event(Some(Instant::now())).unwrap().is_some() {}
+    take_events(&session);
     let until = Instant::now() + Duration::from_millis(5_000);
     let event = session.next_event(Some(until)).unwrap();
     assert_eq!(event, None, "the connection goes on");
