@@ -27,17 +27,23 @@ class Outcome(queue.Queue[Any]):
         return found
 
 
-def in_thread(call: Callable[[], Any]) -> Outcome:
-    """Makes a call in a thread of its own."""
-    outcome = Outcome()
+def run_in_thread(call: Callable[[], Any], take: Callable[[Any], None]) -> None:
+    """Makes a call in a thread of its own, in which what it returned or raised is taken."""
 
     def run() -> None:
         try:
-            outcome.put(call())
+            outcome = call()
         except BaseException as error:
-            outcome.put(error)
+            outcome = error
+        take(outcome)
 
     threading.Thread(target=run, daemon=True).start()
+
+
+def in_thread(call: Callable[[], Any]) -> Outcome:
+    """The outcome of a call in a thread of its own."""
+    outcome = Outcome()
+    run_in_thread(call, outcome.put)
     return outcome
 
 
@@ -114,6 +120,16 @@ class BothCase(PartnerCase):
 
     def made(self, make: Callable[[], Any]) -> Any:
         return make()
+
+
+class TwoCase(BothCase):
+    """A test of two clients, at the server that the class has and with a root of its own."""
+
+    def setUp(self) -> None:
+        super().setUp()
+        self.server, self.root = self.shared_partner(), self.own_root()
+        self.one, self.other = (self.client(self.server.host + self.root) for _ in range(2))
+        self.one.ensure_path("/")
 
 
 class AioCase(BothCase):

@@ -155,7 +155,3 @@ class EndOfLoopTest(PartnerCase):
         child.send_signal(signal.SIGINT)
         child.communicate(timeout=WAIT)
         self.assertEqual(asyncio.run(self.names(partner.host)), [])
-
-
-if __name__ == "__main__":
-    unittest.main()

@@ -5,7 +5,6 @@ from __future__ import annotations
 import subprocess
 import sys
 import textwrap
-import unittest
 
 import support
 from support import WAIT, PartnerCase
@@ -56,7 +55,3 @@ class CallbackTest(PartnerCase):
         )
         self.assertEqual(errors.count("LookupError: a fault of the program"), 1, errors)
         self.assertEqual(errors.count("Traceback"), 1, errors)
-
-
-if __name__ == "__main__":
-    unittest.main()

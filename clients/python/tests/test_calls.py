@@ -597,7 +597,3 @@ asyncio.run(main())
             except ConnectionClosedError as error:
                 failures += "fork" not in str(error)
         return failures
-
-
-if __name__ == "__main__":
-    unittest.main()

@@ -71,33 +71,23 @@ class CheckRules(BothCase):
                 (lambda: self.recipe("Queue", self.one, path).get(), words),
             )
 
+    def refused_version(self, kind: type[BaseException], version: Any, words: str) -> None:
+        """Each call that takes a version refuses this one."""
+        transaction = self.one.transaction()
+        calls = [functools.partial(getattr(self.one, name), "/v", *before) for name, before in WITH_VERSIONS]
+        calls += [functools.partial(transaction.check, "/v"), functools.partial(transaction.delete, "/v")]
+        calls += [functools.partial(transaction.set_data, "/v", b""), functools.partial(self.one.delete, "/v", recursive=True)]
+        self.refused(kind, *((functools.partial(call, version), words) for call in calls))
+
     def test_a_version_is_an_int(self) -> None:
         for version in ("1", 1.0, None):
-            words, transaction = f"a version is an int, and not {type(version).__name__}", self.one.transaction()
-            calls = ((getattr(self.one, name), before) for name, before in WITH_VERSIONS)
-            self.refused(TypeError, *((functools.partial(call, "/", *before, version), words) for call, before in calls))
-            self.refused(
-                TypeError,
-                (lambda: self.one.delete("/a", version, recursive=True), words),
-                (lambda: transaction.check("/", version), words),
-                (lambda: transaction.delete("/", version), words),
-                (lambda: transaction.set_data("/", b"", version), words),
-            )
+            self.refused_version(TypeError, version, f"a version is an int, and not {type(version).__name__}")
 
     def test_a_version_fits_into_32_bits(self) -> None:
         """Else it would be sent as another one: 2^32 as 0, which is that of the node, and 2^32 - 1 as any."""
         self.one.create("/v", b"one")
         for version in (2**31, 2**32, 2**32 - 1, 2**33 + 2, -(2**31) - 1):
-            words, transaction = f"{version} does not fit into 32 bits", self.one.transaction()
-            calls = ((getattr(self.one, name), before) for name, before in WITH_VERSIONS)
-            self.refused(ValueError, *((functools.partial(call, "/v", *before, version), words) for call, before in calls))
-            self.refused(
-                ValueError,
-                (lambda: self.one.delete("/v", version, recursive=True), words),
-                (lambda: transaction.check("/v", version), words),
-                (lambda: transaction.delete("/v", version), words),
-                (lambda: transaction.set_data("/v", b"", version), words),
-            )
+            self.refused_version(ValueError, version, f"{version} does not fit into 32 bits")
         for version in (2**31 - 1, -(2**31)):
             with self.raises(BadVersionError, -103):
                 self.one.set("/v", b"two", version)
@@ -188,7 +178,3 @@ class AioTest(AioCase, CheckRules):
 def load_tests(loader: unittest.TestLoader, *_: Any) -> unittest.TestSuite:
     """The rules are no test by themselves."""
     return unittest.TestSuite(loader.loadTestsFromTestCase(one) for one in (ThreadsTest, AioTest))
-
-
-if __name__ == "__main__":
-    unittest.main()

@@ -11,7 +11,7 @@ import unittest
 from typing import Any, Optional
 
 from both import AioCase, BothCase, in_thread
-from support import CLOSE_SESSION, WAIT, Peer, reply, within
+from support import CLOSE_SESSION, WAIT, Partner, Peer, reply, within
 
 import dirwolleu
 from dirwolleu import (
@@ -256,15 +256,10 @@ class FollowRules(ClientCase):
         client = self.client(partner.host)
         following = Following(client, "/a")
         self.check(following, None)
-        partner.do("create /a one")
-        self.check(following, b"one")
-        partner.do("set /a two")
-        self.check(following, b"two")
-        partner.do("drop")
-        partner.do("set /a three")
-        self.check(following, b"three")
-        partner.do("delete /a")
-        self.check(following, None)
+        self.check_after(partner, following, b"one", "create /a one")
+        self.check_after(partner, following, b"two", "set /a two")
+        self.check_after(partner, following, b"three", "drop", "set /a three")
+        self.check_after(partner, following, None, "delete /a")
         client.stop()
         self.assertIsNone(following.next())
 
@@ -274,11 +269,9 @@ class FollowRules(ClientCase):
         client = self.client(partner.host)
         following = Following(client, "/a")
         self.check(following, b"one")
-        partner.do("down", "set /a two", "up")
-        self.check(following, b"two")
+        self.check_after(partner, following, b"two", "down", "set /a two", "up")
         first = client.session_id
-        partner.do("expire", "set /a three")
-        self.check(following, b"three")
+        self.check_after(partner, following, b"three", "expire", "set /a three")
         self.assertNotEqual(client.session_id, first)
         client.close()
         self.assertIsNone(following.next())
@@ -298,6 +291,10 @@ class FollowRules(ClientCase):
         client = self.new_client("127.0.0.1:1")
         with self.assertRaises(ConnectionClosedError):
             next(client.follow("/a"))
+
+    def check_after(self, partner: Partner, following: Following, data: Optional[bytes], *commands: str) -> None:
+        partner.do(*commands)
+        self.check(following, data)
 
     def check(self, following: Following, data: Optional[bytes]) -> None:
         """The next answer that is told has these data, or says that there is no node."""
@@ -585,7 +582,3 @@ def load_tests(loader: unittest.TestLoader, *_: Any) -> unittest.TestSuite:
     of_threads = CallsTest, WatchTest, KeptTest, FollowTest, SessionTest
     of_asyncio = AioCallsTest, AioWatchTest, AioKeptTest, AioFollowTest, AioSessionTest
     return unittest.TestSuite(loader.loadTestsFromTestCase(one) for one in (*of_threads, *of_asyncio))
-
-
-if __name__ == "__main__":
-    unittest.main()

@@ -118,7 +118,3 @@ class ContendingTest(unittest.TestCase):
         self.engine.take_handed(500)
         self.answer(600, b"")
         self.assertEqual((contender.is_over, self.engine._contenders, self.engine._unasked), (True, {}, {}))
-
-
-if __name__ == "__main__":
-    unittest.main()

@@ -53,7 +53,3 @@ class DemoTest(unittest.TestCase):
         done = subprocess.run(command, env=environment, stdin=subprocess.DEVNULL, capture_output=True, text=True, timeout=3 * WAIT)
         self.assertEqual((done.returncode, done.stderr), (0, ""))
         self.assertEqual(done.stdout.splitlines()[-1], "all are right.")
-
-
-if __name__ == "__main__":
-    unittest.main()

@@ -9,10 +9,8 @@ import doctest
 import importlib
 import inspect
 import io
-import pathlib
 import re
 import textwrap
-import unittest
 from collections.abc import Iterator
 from typing import Any, NamedTuple
 from unittest import mock
@@ -123,7 +121,3 @@ class DocsTest(PartnerCase):
                 outcome = doctest.testmod(importlib.import_module(name))
                 self.assertEqual(outcome.failed, 0)
                 self.assertGreater(outcome.attempted, 0)
-
-
-if __name__ == "__main__":
-    unittest.main()

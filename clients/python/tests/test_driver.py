@@ -14,23 +14,10 @@ import sys
 import termios
 import threading
 import time
-import unittest
 from typing import Any, Callable
 from unittest import mock
 
-from support import (
-    PASSWORD,
-    PING,
-    WAIT,
-    Asked,
-    Connected,
-    PartnerCase,
-    Peer,
-    data_reply,
-    notice,
-    reply,
-    within,
-)
+from support import PASSWORD, PING, WAIT, Asked, Connected, PartnerCase, Peer, data_reply, notice, reply, within
 
 from dirwolleu import Client, ConnectionClosedError, ConnectionLoss, NotConnectedError, State, aio
 from dirwolleu._driver import Driver
@@ -39,6 +26,50 @@ from dirwolleu._hosts import Servers
 from dirwolleu._sockets import Link
 
 HELD_UP = pathlib.Path(__file__).resolve().parent / "held_up.py"
+
+
+def closes(peer: Peer) -> None: ...
+
+
+def admits(peer: Peer) -> None:
+    peer.admit()
+
+
+def grants_a_millisecond(peer: Peer) -> None:
+    peer.admit(1)
+    peer.take()
+
+
+def answers_and_closes(peer: Peer) -> None:
+    peer.admit()
+    peer.send(data_reply(peer.take(), b"one"))
+
+
+def says_too_much(peer: Peer) -> None:
+    peer.admit()
+    peer.take()
+    peer.send_bytes(struct.pack(">i", 5_000_000))
+
+
+def says_that_it_moved(peer: Peer) -> None:
+    peer.admit()
+    peer.send(reply(peer.take(), code=-118))
+    peer.take()
+
+
+def expires(peer: Peer) -> None:
+    if peer.take_connect().session == 0:
+        peer.send(struct.pack(">iiq", 0, 1000, 7) + PASSWORD + b"\0")
+    else:
+        peer.refuse()
+
+
+def unread(client: aio.Client) -> int:
+    """How many bytes the socket of a client has. What was sent comes later if the system is busy."""
+    driver: Any = client._driver
+    connection = driver._link._transport.get_extra_info("socket")
+    (count,) = struct.unpack("i", fcntl.ioctl(connection, termios.FIONREAD, bytes(4)))
+    return int(count)
 
 
 class DialTest(PartnerCase):
@@ -69,35 +100,6 @@ class DialTest(PartnerCase):
         within(lambda: states == [State.SUSPENDED, State.CONNECTED])
 
     def test_no_server_is_dialled_more_than_three_times_a_second(self) -> None:
-        def closes(peer: Peer) -> None: ...
-
-        def admits(peer: Peer) -> None:
-            peer.admit()
-
-        def grants_a_millisecond(peer: Peer) -> None:
-            peer.admit(1)
-            peer.take()
-
-        def answers_and_closes(peer: Peer) -> None:
-            peer.admit()
-            peer.send(data_reply(peer.take(), b"one"))
-
-        def says_too_much(peer: Peer) -> None:
-            peer.admit()
-            peer.take()
-            peer.send_bytes(struct.pack(">i", 5_000_000))
-
-        def says_that_it_moved(peer: Peer) -> None:
-            peer.admit()
-            peer.send(reply(peer.take(), code=-118))
-            peer.take()
-
-        def expires(peer: Peer) -> None:
-            if peer.take_connect().session == 0:
-                peer.send(struct.pack(">iiq", 0, 1000, 7) + PASSWORD + b"\0")
-            else:
-                peer.refuse()
-
         kinds: list[Callable[[Peer], None]] = [
             closes, admits, grants_a_millisecond, answers_and_closes, says_too_much, says_that_it_moved, expires
         ]  # fmt: skip
@@ -141,27 +143,24 @@ class DialTest(PartnerCase):
         within(lambda: len(seen) >= 3)
         self.assertEqual([(one.last_zxid, one.session) for one in seen[:3]], [(0, 0), (9, 7), (9, 0)])
 
-    def test_a_server_that_says_nothing_is_left(self) -> None:
+    def is_left_while_connecting(self, does: Callable[[Peer], None]) -> None:
+        """A server that does this to a connection, and admits no session, is left after two thirds of the timeout."""
+
         def serve(peer: Peer) -> None:
             peer.take_connect()
-            time.sleep(9 * WAIT)
+            does(peer)
 
         server = self.raw_server(serve)
         began = time.monotonic()
         self.client(server.host, 3.0, is_awaited=False)
         within(lambda: len(server.dials) > 1)
         self.assertGreater(server.dials[1] - began, 1.999)
+
+    def test_a_server_that_says_nothing_is_left(self) -> None:
+        self.is_left_while_connecting(lambda peer: time.sleep(9 * WAIT))
 
     def test_a_server_that_trickles_while_connecting_is_left(self) -> None:
-        def serve(peer: Peer) -> None:
-            peer.take_connect()
-            peer.trickle(struct.pack(">i", 1000) + bytes(996), 0.2)
-
-        server = self.raw_server(serve)
-        began = time.monotonic()
-        self.client(server.host, 3.0, is_awaited=False)
-        within(lambda: len(server.dials) > 1)
-        self.assertGreater(server.dials[1] - began, 1.999)
+        self.is_left_while_connecting(lambda peer: peer.trickle(struct.pack(">i", 1000) + bytes(996), 0.2))
 
     def test_a_server_that_trickles_an_answer_is_left(self) -> None:
         def serve(peer: Peer) -> None:
@@ -267,13 +266,6 @@ class DialTest(PartnerCase):
             sent.append(sum(4 + len(frame) for frame in frames))
             time.sleep(9 * WAIT)
 
-        def unread(client: aio.Client) -> int:
-            """How many bytes the socket of a client has. What was sent comes later if the system is busy."""
-            driver: Any = client._driver
-            connection = driver._link._transport.get_extra_info("socket")
-            (count,) = struct.unpack("i", fcntl.ioctl(connection, termios.FIONREAD, bytes(4)))
-            return int(count)
-
         async def run() -> None:
             async with aio.Client(server.host, 3.0) as client:
                 read = client.get_async("/a")
@@ -297,19 +289,15 @@ class DialTest(PartnerCase):
     def test_how_a_connection_has_ended_is_told(self) -> None:
         """Between two calls, or where the frame of a call meets its end."""
 
-        def answers(peer: Peer) -> None:
-            peer.admit()
-            peer.send(data_reply(peer.take(), b"one"))
-
-        def closes(peer: Peer) -> None:
-            answers(peer)
+        def finishes(peer: Peer) -> None:
+            answers_and_closes(peer)
             peer.finish()  # where a ping is not read, a close resets the connection
 
         def resets(peer: Peer) -> None:
-            answers(peer)
+            answers_and_closes(peer)
             peer.reset()
 
-        for serve, words in ((closes, "the server has closed it"), (resets, "reset by peer|[Bb]roken pipe")):
+        for serve, words in ((finishes, "the server has closed it"), (resets, "reset by peer|[Bb]roken pipe")):
             with self.subTest(serve.__name__), self.assertLogs("dirwolleu.connection", "WARNING") as told:
                 server = self.raw_server(serve)
                 client = self.client(server.host, 3.0)
@@ -343,7 +331,3 @@ class DialTest(PartnerCase):
             with self.assertRaisesRegex(OSError, "Too many open files"):
                 client.start()
         self.assertIs(client.state, State.LOST)
-
-
-if __name__ == "__main__":
-    unittest.main()

@@ -5,7 +5,6 @@ from __future__ import annotations
 import concurrent.futures
 import contextlib
 import struct
-import unittest
 from typing import Any, Callable, Optional
 from unittest import mock
 
@@ -534,7 +533,3 @@ class EngineTest(support.PartnerCase):
         self.engine.cut(300)
         self.engine.forget_stale()
         self.engine.close()
-
-
-if __name__ == "__main__":
-    unittest.main()

@@ -125,7 +125,3 @@ class AioFollowTest(AioCase, FollowRules): ...
 def load_tests(loader: unittest.TestLoader, *_: Any) -> unittest.TestSuite:
     """The rules are no test by themselves."""
     return unittest.TestSuite(loader.loadTestsFromTestCase(one) for one in (FollowTest, AioFollowTest))
-
-
-if __name__ == "__main__":
-    unittest.main()

@@ -8,12 +8,11 @@ import queue
 import socket
 import threading
 import time
-import unittest
 from collections.abc import Sequence
 from typing import Any, Callable, Optional
 from unittest import mock
 
-from support import TIMEOUT, WAIT, ClientCase, Partner, PartnerCase, Peer, within
+from support import WAIT, ClientCase, Partner, PartnerCase, Peer, within
 from test_library import CONNECT_RESPONSE
 
 from dirwolleu import Client, EventType, Mark, NoNodeError, State, WatchedEvent
@@ -288,7 +287,3 @@ class RootTest(PartnerCase):
         told = {events.get(timeout=WAIT), events.get(timeout=WAIT)}
         expected = {(EventType.CHANGED, "/x"), (EventType.CREATED, "/z")}
         self.assertEqual({(event.type, event.path) for event in told}, expected)
-
-
-if __name__ == "__main__":
-    unittest.main()

@@ -23,19 +23,7 @@ from unittest import mock
 
 from support import CLIENTS, WAIT, ClientCase, within
 
-from dirwolleu import (
-    Barrier,
-    Client,
-    ConnectionClosedError,
-    Counter,
-    Held,
-    Lock,
-    LockLostError,
-    Queue,
-    Registration,
-    State,
-    WatchedEvent,
-)
+from dirwolleu import Barrier, Client, ConnectionClosedError, Counter, Held, Lock, LockLostError, Queue, Registration, State, WatchedEvent
 
 INTERRUPTED_CALLS, LONGEST = 100_000, 8.0
 

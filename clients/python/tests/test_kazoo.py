@@ -758,9 +758,3 @@ class InstallTest(KazooCase):
         self.assertEqual(
             self.run_program(lines, "-B"), "kazoo was imported before dirwolleu.kazoo.install() was called\n"
         )
-
-
-if __name__ == "__main__":
-    import unittest
-
-    unittest.main()

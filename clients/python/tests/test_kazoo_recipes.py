@@ -5,23 +5,16 @@ from __future__ import annotations
 import datetime
 import json
 import threading
-import unittest
 from typing import Any, Callable
 from unittest import mock
 
+from both import run_in_thread
 from support import WAIT, within
 from test_kazoo import KazooCase
 
 from dirwolleu.kazoo.exceptions import (
-    CancelledError,
-    ConfigurationError,
-    ConnectionClosedError,
-    ConnectionLoss,
-    KazooException,
-    LockTimeout,
-    NoNodeError,
-    ZookeeperError,
-)
+    CancelledError, ConfigurationError, ConnectionClosedError, KazooException, LockTimeout, NoNodeError, ZookeeperError,
+)  # fmt: skip
 from dirwolleu.kazoo.recipe import election, lock, party
 from dirwolleu.kazoo.recipe.cache import TreeCache, TreeEvent
 from dirwolleu.kazoo.recipe.watchers import PatientChildrenWatch
@@ -35,14 +28,7 @@ class RecipesCase(KazooCase):
     def in_thread(self, call: Callable[[], Any]) -> list[Any]:
         """What a call in a thread has brought, once it has returned."""
         outcome: list[Any] = []
-
-        def run() -> None:
-            try:
-                outcome.append(call())
-            except Exception as error:
-                outcome.append(error)
-
-        threading.Thread(target=run, daemon=True).start()
+        run_in_thread(call, outcome.append)
         return outcome
 
 
@@ -450,7 +436,3 @@ class SharesTest(RecipesCase):
         within(lambda: len(faults) == 2)
         self.assertIsInstance(faults[0], ZeroDivisionError)
         cache.close()
-
-
-if __name__ == "__main__":
-    unittest.main()

@@ -2,7 +2,6 @@
 
 from __future__ import annotations
 
-import unittest
 from typing import Any, Optional
 from unittest import mock
 
@@ -163,7 +162,3 @@ class WatchesTest(KazooCase):
         self.assertEqual(found[:4], [([], None), (["b"], "CHILD"), (["b", "c"], None), (["c"], "CHILD")])
         self.zk.ChildrenWatch("/none", lambda names: found.append(names))
         self.assertEqual(self.zk.state_listeners, set())
-
-
-if __name__ == "__main__":
-    unittest.main()

@@ -272,7 +272,3 @@ class AioTest(AioCase, LeavingRules):
 def load_tests(loader: unittest.TestLoader, *_: Any) -> unittest.TestSuite:
     """The rules are no test by themselves."""
     return unittest.TestSuite(loader.loadTestsFromTestCase(one) for one in (ThreadsTest, AioTest))
-
-
-if __name__ == "__main__":
-    unittest.main()

@@ -413,7 +413,3 @@ class MachineTest(unittest.TestCase):
                 use()
         del session
         gc.collect()
-
-
-if __name__ == "__main__":
-    unittest.main()

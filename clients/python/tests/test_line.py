@@ -52,7 +52,3 @@ class LineTest(unittest.TestCase):
         asked = [self.asked(100), self.asked(100, 200)]
         self.assertEqual((self.line.clear(), self.line.clear()), (asked, []))
         self.assertEqual((len(self.line), self.line.deadline(False)), (0, None))
-
-
-if __name__ == "__main__":
-    unittest.main()

@@ -12,7 +12,7 @@ import unittest
 from typing import Any, Optional
 from unittest import mock
 
-from both import AioCase, BothCase, in_thread
+from both import AioCase, BothCase, TwoCase, in_thread
 from support import GET_DATA, STAT, WAIT, PartnerCase, Peer, reply, within
 
 import dirwolleu
@@ -37,13 +37,7 @@ CREATE, DELETE, GET_CHILDREN_2 = 1, 2, 12
 """Types of requests."""
 
 
-class ContendingRules(BothCase):
-    def setUp(self) -> None:
-        super().setUp()
-        self.server, self.root = self.shared_partner(), self.own_root()
-        self.one, self.other = (self.client(self.server.host + self.root) for _ in range(2))
-        self.one.ensure_path("/")
-
+class ContendingRules(TwoCase):
     def engine(self, client: Any) -> Any:
         return getattr(client, "_made", client)._engine
 
@@ -374,7 +368,3 @@ class NumberTest(BothCase):
 def load_tests(loader: unittest.TestLoader, *_: Any) -> unittest.TestSuite:
     """The rules are no test by themselves."""
     return unittest.TestSuite(loader.loadTestsFromTestCase(one) for one in (ThreadsTest, AioTest, OutageTest, NumberTest))
-
-
-if __name__ == "__main__":
-    unittest.main()

@@ -6,7 +6,6 @@ import contextlib
 import functools
 import pickle
 import socket
-import unittest
 from typing import Callable
 
 import support
@@ -190,7 +189,3 @@ class RefusalTest(MessageCase):
     def test_a_number_without_a_class_has_words_too(self) -> None:
         for code, words in ((-999, "the server answers -999"), (-127, "the server has too much to do; call again later")):
             self.assertEqual((str(error_of(code)), error_of(code).code), (words, code))
-
-
-if __name__ == "__main__":
-    unittest.main()

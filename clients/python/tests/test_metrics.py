@@ -224,9 +224,3 @@ class MetricsTest(PartnerCase):
         record: Any = next(one for one in logs.records if one.getMessage().startswith("connected to"))
         self.assertRegex(record.session_id, "^0x[0-9a-f]+$")
         self.assertEqual((record.server, record.zxid >= 0), (f"127.0.0.1:{client._servers.hosts.servers[0][1]}", True))
-
-
-if __name__ == "__main__":
-    import unittest
-
-    unittest.main()

@@ -3,7 +3,6 @@
 from __future__ import annotations
 
 import asyncio
-import unittest
 from typing import Any, Optional
 
 from unittest import mock
@@ -308,7 +307,3 @@ class BehindTest(UntimedCase):
                 self.assertEqual((await client.get("/a"))[0], b"three")
 
         self.run_in_loop(run())
-
-
-if __name__ == "__main__":
-    unittest.main()

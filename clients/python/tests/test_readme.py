@@ -4,7 +4,6 @@ from __future__ import annotations
 
 import contextlib
 import io
-import pathlib
 import re
 import signal
 import subprocess
@@ -71,7 +70,3 @@ class ExampleTest(PartnerCase):
         process.send_signal(signal.SIGINT)
         self.assertEqual(process.communicate(timeout=WAIT)[0], "")
         self.assertEqual(process.returncode, 0)
-
-
-if __name__ == "__main__":
-    unittest.main()

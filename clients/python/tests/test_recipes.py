@@ -16,19 +16,7 @@ from support import WAIT, ClientCase, PartnerCase, within
 from test_leaving import CREATE, Relay
 
 import dirwolleu
-from dirwolleu import (
-    Client,
-    ConnectionClosedError,
-    Election,
-    Held,
-    Lock,
-    LockLostError,
-    LockTimeout,
-    ReadLock,
-    Registration,
-    State,
-    aio,
-)
+from dirwolleu import Client, ConnectionClosedError, Election, Held, Lock, LockLostError, LockTimeout, ReadLock, Registration, State, aio
 from dirwolleu._locks import in_line
 
 
@@ -387,7 +375,3 @@ class NamesTest(unittest.TestCase):
         for module in (dirwolleu.aio, dirwolleu.recipes, dirwolleu.security):
             for name in module.__all__:
                 self.assertTrue(hasattr(module, name))
-
-
-if __name__ == "__main__":
-    unittest.main()

@@ -58,9 +58,3 @@ class RecordingTest(PartnerCase):
     def test_a_record_that_cannot_be_made_is_told_at_once(self) -> None:
         with self.assertRaises(FileNotFoundError):
             dirwolleu.Client("127.0.0.1:1", record=self.file / "none")
-
-
-if __name__ == "__main__":
-    import unittest
-
-    unittest.main()

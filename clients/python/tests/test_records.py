@@ -741,7 +741,3 @@ class SecurityTest(unittest.TestCase):
     def test_names_of_permissions(self) -> None:
         self.assertEqual(security.make_digest_acl("bob", "x", all=True).acl_list, ["ALL"])
         self.assertEqual(security.make_digest_acl("bob", "x", create=True, admin=True).acl_list, ["CREATE", "ADMIN"])
-
-
-if __name__ == "__main__":
-    unittest.main()

@@ -222,9 +222,3 @@ class SaslTest(PartnerCase):
 
         asyncio.run(run())
         self.assertEqual(server.logged_in, 1)
-
-
-if __name__ == "__main__":
-    import unittest
-
-    unittest.main()

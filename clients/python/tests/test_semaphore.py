@@ -158,7 +158,3 @@ class WaiterTest(unittest.TestCase):
         waiter.set_result("late")
         self.sleepers.wake()
         self.assertEqual(waiter.result(None), "late")
-
-
-if __name__ == "__main__":
-    unittest.main()

@@ -141,7 +141,3 @@ class ServeTest(unittest.TestCase):
         with mock.patch.dict(os.environ, {"COLUMNS": "80"}), contextlib.redirect_stdout(printed):
             self.assertEqual(main(["serve", "--help"]), 0)
         self.assertLessEqual(max(map(len, printed.getvalue().splitlines())), 80)
-
-
-if __name__ == "__main__":
-    unittest.main()

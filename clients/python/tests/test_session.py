@@ -11,25 +11,13 @@ from unittest import mock
 from support import buffer, framed, text, texts
 from test_library import CONNECT_REQUEST, CONNECT_RESPONSE, STAT, STAT_BYTES, reply
 
-from dirwolleu import _handle as handle
 from dirwolleu import _library as library
 from dirwolleu import _session as of_session
 from dirwolleu._library import Answer, Drop, Halted, NoMemory, Report, Send, StateChange
 from dirwolleu._root import Root
 from dirwolleu._session import (
-    NO_LIMIT,
-    Action,
-    Dial,
-    MemberAdded,
-    MemberRemoved,
-    PlainAction,
-    Refused,
-    Session,
-    Shown,
-    TimedOut,
-    TreeBounded,
-    TreeComplete,
-)
+    NO_LIMIT, Action, Dial, MemberAdded, MemberRemoved, PlainAction, Refused, Session, Shown, TimedOut, TreeBounded, TreeComplete,
+)  # fmt: skip
 
 EXPIRED = framed(struct.pack(">iiq", 0, 0, 0) + buffer(bytes(16)) + b"\0")
 CONNECTED = [StateChange(library.CONNECTED)]
@@ -255,7 +243,3 @@ class MemoryTest(unittest.TestCase):
             self.assertEqual(len(answers.pop()), 100_000)
             del answers
         self.assertLess(faults[-1] - faults[0], 100)  # where it goes back to the system they are 500 each time
-
-
-if __name__ == "__main__":
-    unittest.main()

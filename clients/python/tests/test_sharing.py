@@ -10,7 +10,7 @@ import unittest
 from typing import Any, Callable, Optional
 from unittest import mock
 
-from both import AioCase, BothCase, in_thread
+from both import AioCase, TwoCase, in_thread
 from support import GET_DATA, STAT, WAIT, Asked, Peer, buffer, data_reply, reply, within
 from test_library import connected
 from test_library import reply as answer_to
@@ -26,13 +26,7 @@ DELETE, GET_CHILDREN_2 = 2, 12
 """Types of requests."""
 
 
-class SharingRules(BothCase):
-    def setUp(self) -> None:
-        super().setUp()
-        self.server, self.root = self.shared_partner(), self.own_root()
-        self.one, self.other = (self.client(self.server.host + self.root) for _ in range(2))
-        self.one.ensure_path("/")
-
+class SharingRules(TwoCase):
     def names_below(self, path: str) -> list[str]:
         return sorted(self.one.get_children(path))
 
@@ -454,7 +448,3 @@ class OrderTest(unittest.TestCase):
 def load_tests(loader: unittest.TestLoader, *_: Any) -> unittest.TestSuite:
     """The rules are no test by themselves."""
     return unittest.TestSuite(loader.loadTestsFromTestCase(one) for one in (ThreadsTest, AioTest, OrderTest))
-
-
-if __name__ == "__main__":
-    unittest.main()

@@ -278,7 +278,3 @@ class ShellTest(PartnerCase):
             lines.append(process.stdout.readline())
         self.assertRegex(lines[-1], wanted)
         return lines
-
-
-if __name__ == "__main__":
-    unittest.main()

@@ -616,7 +616,3 @@ class ShellsTest(unittest.TestCase):
             _, printed, _ = self.run_zk("", [command, "--help"])
             for option in re.findall(r"^      --([a-z]+)", printed, re.M):
                 self.assertIn(f"-{option}", manual, (command, option))
-
-
-if __name__ == "__main__":
-    unittest.main()

@@ -129,7 +129,3 @@ def load_tests(loader: unittest.TestLoader, *_: Any) -> unittest.TestSuite:
     """The rules are no test by themselves."""
     kinds = ThreadsTest, AioTest, SecretTest, InterruptTest, DeletedTest
     return unittest.TestSuite(loader.loadTestsFromTestCase(one) for one in kinds)
-
-
-if __name__ == "__main__":
-    unittest.main()

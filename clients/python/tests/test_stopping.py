@@ -13,7 +13,7 @@ from typing import Any, Callable
 from unittest import mock
 
 from both import in_thread
-from support import WAIT, PartnerCase, within
+from support import WAIT, Partner, PartnerCase, within
 
 from dirwolleu import Client, ConnectionClosedError, NoNodeError, SessionExpiredError, State, ZookeeperError
 from dirwolleu import _requests as requests
@@ -121,18 +121,20 @@ class ThreadsTest(StoppingCase):
 
 
 class CallbacksTest(unittest.TestCase):
-    def test_what_is_told_is_called_once_or_refused(self) -> None:
-        called = list[int]()
-        callbacks = Callbacks(lambda begin: None)
+    def told(self) -> tuple[Callbacks, list[int]]:
+        """Callbacks that were told of one, and what was called."""
+        callbacks, called = Callbacks(lambda begin: None), list[int]()
         self.assertTrue(callbacks.tell(called.append, 1))
+        return callbacks, called
+
+    def test_what_is_told_is_called_once_or_refused(self) -> None:
+        callbacks, called = self.told()
         callbacks.start()
         callbacks.stop()
         self.assertEqual((callbacks.tell(called.append, 2), called), (False, [1]))
 
     def test_what_is_told_before_a_thread_that_never_begins_is_called(self) -> None:
-        called = list[int]()
-        callbacks = Callbacks(lambda begin: None)
-        self.assertTrue(callbacks.tell(called.append, 1))
+        callbacks, called = self.told()
         callbacks.seal()
         callbacks.start()
         callbacks.join(WAIT)
@@ -325,12 +327,16 @@ class TurnTest(StoppingCase):
             self.started._ask(requests.close_session())
             self.check_over()
 
-    def test_an_expiry_is_told_with_its_state(self) -> None:
+    def start_and_mute(self) -> tuple[Partner, Client]:
         partner = self.partner()
         client = self.started = self.client(partner.host)
         client.start(WAIT)
         self.engine = client._engine
         partner.do("mute")
+        return partner, client
+
+    def test_an_expiry_is_told_with_its_state(self) -> None:
+        partner, client = self.start_and_mute()
         waits = in_thread(lambda: self.outcome(lambda: client.get("/")))
         within(lambda: self.engine._sent)
         with self.held_up_after("_forget_callers"):
@@ -340,11 +346,7 @@ class TurnTest(StoppingCase):
         self.assertIn(state, (State.LOST, State.CONNECTED))  # the next session may have begun meanwhile
 
     def test_a_stop_is_told_with_its_state(self) -> None:
-        partner = self.partner()
-        client = self.started = self.client(partner.host)
-        client.start(WAIT)
-        self.engine = client._engine
-        partner.do("mute")
+        _, client = self.start_and_mute()
         waits = [in_thread(lambda: self.outcome(lambda: client.get("/"))) for _ in range(3)]
         within(lambda: len(self.engine._sent) == 3)
         with self.held_up_after("end"):
@@ -380,7 +382,3 @@ class TurnTest(StoppingCase):
         waiter.set_result("one")
         self.started.close()
         self.assertEqual(waiter.result(WAIT), "one")
-
-
-if __name__ == "__main__":
-    unittest.main()

@@ -261,7 +261,3 @@ class FixtureTest(unittest.TestCase):
             done = subprocess.run(command, env=environment, capture_output=True, text=True, timeout=3 * WAIT)
         self.assertEqual(done.returncode, 0, done.stdout + done.stderr)
         self.assertIn("2 passed", done.stdout)
-
-
-if __name__ == "__main__":
-    unittest.main()

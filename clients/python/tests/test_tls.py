@@ -217,7 +217,3 @@ def hear_hello(peer: Peer) -> None:
     """Reads the first record of TLS."""
     head = peer.take_bytes(5)
     peer.take_bytes(int.from_bytes(head[3:], "big"))
-
-
-if __name__ == "__main__":
-    unittest.main()

@@ -288,7 +288,3 @@ class GrowingTest(unittest.TestCase):
         self.assertEqual(self.frames(), read(1091, "/other").frame)
         self.come(data(68))
         self.assertEqual(struct.unpack(">ii", self.frames()[4:12]), (1092, library.SYNC))
-
-
-if __name__ == "__main__":
-    unittest.main()

@@ -4,7 +4,6 @@ from __future__ import annotations
 
 import asyncio
 import threading
-import unittest
 from typing import Callable, Optional
 
 from support import TIMEOUT, WAIT, PartnerCase, within
@@ -224,7 +223,3 @@ class AsyncTest(PartnerCase):
             return given
 
         self.assertEqual(asyncio.run(follow()), [4, 5])
-
-
-if __name__ == "__main__":
-    unittest.main()

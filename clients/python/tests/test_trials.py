@@ -48,7 +48,3 @@ class TrialsTest(unittest.TestCase):
 
     def test_a_part_that_is_none_is_refused(self) -> None:
         self.assertEqual(self.tried("ruby"), (1, "test: no part: ruby"))
-
-
-if __name__ == "__main__":
-    unittest.main()

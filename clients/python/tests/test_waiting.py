@@ -331,7 +331,3 @@ class ProcessTest(unittest.TestCase):
         if child == 0:
             os._exit(0 if this_process() == os.getpid() else 1)
         self.assertEqual(os.waitstatus_to_exitcode(os.waitpid(child, 0)[1]), 0)
-
-
-if __name__ == "__main__":
-    unittest.main()

@@ -481,7 +481,3 @@ def load_tests(loader: unittest.TestLoader, *_: Any) -> unittest.TestSuite:
     of_threads = ThreadsWatchTest, ThreadsFreshTest, FollowChildrenTest, FutureTest, StateTest, TaskTest, LookTest
     of_asyncio = AioWatchTest, AioFreshTest, AioFollowChildrenTest
     return unittest.TestSuite(loader.loadTestsFromTestCase(one) for one in (*of_threads, *of_asyncio))
-
-
-if __name__ == "__main__":
-    unittest.main()
