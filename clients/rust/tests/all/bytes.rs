@@ -47,6 +47,14 @@ fn reply_to<'a>(ticket: u64, actions: &'a mut Actions<'_>) -> Reply<'a> {
     }
 }
 
+/// The state, which is said next.
+fn state(actions: &mut Actions<'_>) -> State {
+    match actions.next().unwrap() {
+        Some(Action::State(state)) => state,
+        other => panic!("no state: {other:?}"),
+    }
+}
+
 /// Why the connection is given up, which is said next.
 fn given_up<'a>(actions: &'a mut Actions<'_>) -> GivenUp<'a> {
     match actions.next().unwrap() {
@@ -107,10 +115,7 @@ fn a_connection_begins_with_a_connect_request() {
     let mut actions = machine
         .bytes(START, &Record::accepted(6_000, SESSION))
         .unwrap();
-    assert!(matches!(
-        actions.next().unwrap(),
-        Some(Action::State(State::Connected))
-    ));
+    assert_eq!(state(&mut actions), State::Connected);
     assert!(actions.next().unwrap().is_none());
     assert_eq!(actions.machine().timeout(), Duration::from_secs(6));
 }
@@ -171,10 +176,8 @@ fn a_reply_is_read() {
     let mut room = [0; 5];
     assert_eq!((data.copy_to(1, &mut room), &room), (2, b"ne\0\0\0"));
     assert_eq!((stat.czxid, stat.ctime, stat.mtime), (5, 1_000, 2_000));
-    assert_eq!(
-        (stat.version, stat.data_length, stat.num_children),
-        (2, 3, 0)
-    );
+    assert_eq!((stat.version, stat.data_length), (2, 3));
+    assert_eq!(stat.num_children, 0);
 }
 
 #[test]
@@ -391,15 +394,11 @@ fn a_snapshot_is_of_several_paths_that_are_all_good() {
     let names = ["b", "c"].map(String::from).to_vec();
     assert_eq!(found.children, [Children { names, pzxid: 5 }]);
     let empty = machine.snapshot(&[], &[]).unwrap().unwrap();
-    assert_eq!(
-        (empty.zxid, empty.nodes.len(), empty.children.len()),
-        (6, 0, 0)
-    );
-    let not_path = machine.snapshot(&["/a", "b"], &["/a"]).unwrap_err();
-    assert_eq!(
-        not_path.to_string(),
-        "b is no path: no slash at its beginning"
-    );
+    assert_eq!((empty.zxid, empty.nodes.len()), (6, 0));
+    assert!(empty.children.is_empty());
+    let refused = machine.snapshot(&["/a", "b"], &["/a"]).unwrap_err();
+    let why = "b is no path: no slash at its beginning";
+    assert_eq!(refused.to_string(), why);
     hear(&mut machine, &Record::notice(3, "/a"));
     assert_eq!(machine.snapshot(&paths, &["/a"]), Ok(None));
     assert!(machine.snapshot(&["/none"], &["/a"]).unwrap().is_some());
@@ -475,10 +474,7 @@ fn pings_and_silence_are_due_at_a_third_and_two_thirds() {
     assert_eq!(given_up.cause, Cause::Silence);
     assert_eq!(String::from(given_up.code), "D1");
     assert!(!given_up.words().unwrap().is_empty());
-    assert!(matches!(
-        actions.next().unwrap(),
-        Some(Action::State(State::Idle))
-    ));
+    assert_eq!(state(&mut actions), State::Idle);
     assert!(matches!(actions.next().unwrap(), Some(Action::HangUp)));
 }
 
@@ -491,10 +487,7 @@ fn a_cut_answers_what_waits_and_watches_are_set_again() {
         panic!("no answer");
     };
     assert_eq!(outcome.unwrap_err(), NoReply::ConnectionLoss);
-    assert!(matches!(
-        actions.next().unwrap(),
-        Some(Action::State(State::Idle))
-    ));
+    assert_eq!(state(&mut actions), State::Idle);
     let _ = machine.tick(LATER).unwrap();
     let _ = machine.opened(LATER).unwrap();
     let actions = machine

@@ -57,28 +57,35 @@ fn answer_of(outcome: Result<Reply<'_>, NoReply>) -> String {
     }
 }
 
+/// What is said as these bytes come.
+fn heard(machine: &mut Machine, now: Moment, bytes: &[u8]) -> Vec<String> {
+    said(machine.bytes(now, bytes).unwrap())
+}
+
+/// What is said at a moment.
+fn ticked(machine: &mut Machine, now: Moment) -> Vec<String> {
+    said(machine.tick(now).unwrap())
+}
+
 /// A machine with one address, which a server has accepted.
 pub fn connected() -> Machine {
     let mut machine = Machine::open(TIMEOUT, 1, 1).unwrap();
-    assert_eq!(said(machine.tick(START).unwrap()), ["dial 0 within 3s"]);
+    assert_eq!(ticked(&mut machine, START), ["dial 0 within 3s"]);
     assert_eq!(
         said(machine.opened(START).unwrap()),
         ["send connect", "Connecting"]
     );
     let accepted = Record::accepted(9_000, SESSION);
-    assert_eq!(
-        said(machine.bytes(START, &accepted).unwrap()),
-        ["Connected"]
-    );
+    assert_eq!(heard(&mut machine, START, &accepted), ["Connected"]);
     machine
 }
 
 /// Connects again, after a pause that is over for sure.
 fn connect_again(machine: &mut Machine, now: Moment) -> Vec<String> {
-    assert_eq!(said(machine.tick(now).unwrap()), ["dial 0 within 3s"]);
+    assert_eq!(ticked(machine, now), ["dial 0 within 3s"]);
     let _ = machine.opened(now).unwrap();
     let accepted = Record::accepted(9_000, SESSION);
-    said(machine.bytes(now, &accepted).unwrap())
+    heard(machine, now, &accepted)
 }
 
 fn names(xid: i32, zxid: i64, names: &[&str]) -> Vec<u8> {
@@ -98,25 +105,19 @@ fn a_subject_is_read_again_after_each_report() {
     let mut machine = connected();
     let actions = machine.follow(START, 7, "/a", Side::Data).unwrap();
     assert_eq!(said(actions), ["send 4"]);
-    let actions = machine.bytes(START, &data(1, 5, "one")).unwrap();
-    assert_eq!(said(actions), ["7: shown"]);
+    assert_eq!(heard(&mut machine, START, &data(1, 5, "one")), ["7: shown"]);
     let kept = machine.peek_data("/a").unwrap().unwrap();
-    let DataAnswer::Full { data: found, .. } = kept.answer else {
-        panic!("no data");
-    };
+    assert!(matches!(&kept.answer, DataAnswer::Full { data: Some(data), .. } if data == b"one"));
+    assert_eq!(kept.mark, Mark::Good);
     assert_eq!(
-        (found.as_deref(), kept.mark),
-        (Some(&b"one"[..]), Mark::Good)
+        heard(&mut machine, START, &Record::notice(3, "/a")),
+        ["/a: Data DataChanged", "send 4"]
     );
-    let actions = machine.bytes(START, &Record::notice(3, "/a")).unwrap();
-    assert_eq!(said(actions), ["/a: Data DataChanged", "send 4"]);
     assert_eq!(machine.data_mark("/a"), Ok(Some(Mark::Stale)));
-    let actions = machine.bytes(START, &data(2, 6, "two")).unwrap();
-    assert_eq!(said(actions), ["7: shown"]);
+    assert_eq!(heard(&mut machine, START, &data(2, 6, "two")), ["7: shown"]);
     let _ = machine.bytes(START, &Record::notice(3, "/a")).unwrap();
     assert_eq!(said(machine.unfollow(START, 7).unwrap()), [""; 0]);
-    let actions = machine.bytes(START, &data(3, 7, "three")).unwrap();
-    assert_eq!(said(actions), [""; 0]);
+    assert_eq!(heard(&mut machine, START, &data(3, 7, "three")), [""; 0]);
 }
 
 /// The ticket of the first node of a tree that is not the data of its root.
@@ -134,10 +135,11 @@ fn a_tree_is_followed_as_its_names_come() {
         String::from("send 12"),
     ];
     assert_eq!(said(actions), root);
-    let actions = machine.bytes(START, &data(1, 5, "one")).unwrap();
-    assert_eq!(said(actions), ["7: shown"]);
-    let actions = machine.bytes(START, &names(2, 5, &["b"])).unwrap();
-    assert_eq!(said(actions), [format!("{first}: shown")]);
+    assert_eq!(heard(&mut machine, START, &data(1, 5, "one")), ["7: shown"]);
+    assert_eq!(
+        heard(&mut machine, START, &names(2, 5, &["b"])),
+        [format!("{first}: shown")]
+    );
     assert_eq!(machine.deadline(), Some(START));
     let below = [
         format!("{second}: /a/b is taken on"),
@@ -145,12 +147,16 @@ fn a_tree_is_followed_as_its_names_come() {
         String::from("send 4"),
         String::from("send 12"),
     ];
-    assert_eq!(said(machine.tick(START).unwrap()), below);
-    let actions = machine.bytes(START, &data(3, 5, "two")).unwrap();
-    assert_eq!(said(actions), [format!("{second}: shown")]);
-    let actions = machine.bytes(START, &names(4, 5, &[])).unwrap();
-    assert_eq!(said(actions), [format!("{third}: shown")]);
-    assert_eq!(said(machine.tick(START).unwrap()), ["7: whole"]);
+    assert_eq!(ticked(&mut machine, START), below);
+    assert_eq!(
+        heard(&mut machine, START, &data(3, 5, "two")),
+        [format!("{second}: shown")]
+    );
+    assert_eq!(
+        heard(&mut machine, START, &names(4, 5, &[])),
+        [format!("{third}: shown")]
+    );
+    assert_eq!(ticked(&mut machine, START), ["7: whole"]);
     let tickets = [7, first, second, third];
     let lines = said(machine.unfollow_tree(START, 7).unwrap());
     assert_eq!(lines, tickets.map(|ticket| format!("{ticket}: let go")));
@@ -180,8 +186,7 @@ fn stale_answers_are_forgotten_and_good_ones_stay() {
     let _ = machine.bytes(START, &Record::notice(3, "/a")).unwrap();
     machine.forget_stale();
     assert_eq!(machine.data_mark("/a"), Ok(None));
-    let actions = machine.bytes(START, &data(2, 6, "two")).unwrap();
-    assert_eq!(said(actions), ["7: shown"]); // it is followed still
+    assert_eq!(heard(&mut machine, START, &data(2, 6, "two")), ["7: shown"]); // it is followed still
 }
 
 #[test]
@@ -193,8 +198,8 @@ fn a_read_that_is_refused_is_made_again_after_a_second() {
     let reason = Refusal::Code(Code::NO_AUTH);
     assert_eq!(said(actions), [format!("7: refused, {reason:?}")]);
     assert_eq!(machine.deadline(), Some(after(1_000)));
-    assert_eq!(said(machine.tick(after(999)).unwrap()), [""; 0]);
-    assert_eq!(said(machine.tick(after(1_000)).unwrap()), ["send 12"]);
+    assert_eq!(ticked(&mut machine, after(999)), [""; 0]);
+    assert_eq!(ticked(&mut machine, after(1_000)), ["send 12"]);
 }
 
 #[test]
@@ -210,8 +215,10 @@ fn a_lost_read_is_asked_again_and_a_lost_write_is_told() {
         connect_again(&mut machine, after(2_000)),
         ["Connected", "send 4"]
     );
-    let actions = machine.bytes(after(2_000), &data(3, 5, "one")).unwrap();
-    assert_eq!(said(actions), ["1: one"]);
+    assert_eq!(
+        heard(&mut machine, after(2_000), &data(3, 5, "one")),
+        ["1: one"]
+    );
 }
 
 #[test]
@@ -219,9 +226,9 @@ fn a_server_that_sends_notices_and_no_answer_is_left() {
     let mut machine = connected();
     let actions = machine.delete(START, 1, None, "/a", -1).unwrap();
     assert_eq!(said(actions), ["send 2"]);
-    assert_eq!(said(machine.tick(after(4_000)).unwrap()), ["send 11"]);
+    assert_eq!(ticked(&mut machine, after(4_000)), ["send 11"]);
     let notice = Record::notice(3, "/b");
-    assert_eq!(said(machine.bytes(after(5_999), &notice).unwrap()), [""; 0]);
+    assert_eq!(heard(&mut machine, after(5_999), &notice), [""; 0]);
     assert_eq!(machine.deadline(), Some(after(6_000))); // two thirds of the timeout
     let actions = machine.bytes(after(6_000), &notice).unwrap();
     let left = ["hang up", "1: ConnectionLoss", "Idle", "dial 0 within 3s"];
@@ -234,13 +241,13 @@ fn a_call_waits_to_its_limit() {
     let until = Some(after(100));
     let _ = machine.get_data(START, 1, until, "/a", Watch::No).unwrap();
     assert_eq!(machine.deadline(), Some(after(100)));
-    let lines = said(machine.tick(after(100)).unwrap());
+    let lines = ticked(&mut machine, after(100));
     assert_eq!(lines, ["1: late, sent true"]);
     let _ = machine.cut(after(100)).unwrap();
     let until = Some(after(150));
     let actions = machine.delete(after(100), 2, until, "/a", -1).unwrap();
     assert_eq!(said(actions), [""; 0]);
-    let lines = said(machine.tick(after(150)).unwrap());
+    let lines = ticked(&mut machine, after(150));
     assert_eq!(lines, ["2: late, sent false"]);
 }
 
@@ -254,7 +261,7 @@ fn a_thousand_and_twenty_four_are_on_their_way_and_more_wait() {
     let sent: usize = (1..=1_030).map(|ticket| asked(&mut machine, ticket)).sum();
     assert_eq!(sent, 1_024);
     let reply = Record::reply(1, 5, 0).stat(5, 0, 0, 0).framed();
-    let lines = said(machine.bytes(START, &reply).unwrap());
+    let lines = heard(&mut machine, START, &reply);
     assert_eq!((lines.len(), lines[1].as_str()), (2, "send 3"));
 }
 
@@ -265,13 +272,10 @@ fn an_expired_session_is_followed_by_another() {
     let _ = machine.bytes(START, &data(1, 5, "one")).unwrap();
     let _ = machine.cut(START).unwrap();
     let _ = machine.exists(START, 8, None, "/", Watch::No).unwrap();
-    assert_eq!(
-        said(machine.tick(after(2_000)).unwrap()),
-        ["dial 0 within 3s"]
-    );
+    assert_eq!(ticked(&mut machine, after(2_000)), ["dial 0 within 3s"]);
     let _ = machine.opened(after(2_000)).unwrap();
     let _ = machine.delete(after(2_000), 9, None, "/a", 0).unwrap();
-    let lines = said(machine.bytes(after(2_000), &Record::expired()).unwrap());
+    let lines = heard(&mut machine, after(2_000), &Record::expired());
     let calls = ["8: SessionExpired", "9: SessionExpired"];
     assert_eq!(lines, ["Expired", "hang up", calls[0], calls[1], "renewed"]);
     assert_eq!((machine.state(), machine.last_zxid()), (State::Idle, 5));
@@ -329,7 +333,7 @@ fn a_session_that_is_closed_says_so() {
     let actions = machine.exists(START, 10, None, "/", Watch::No).unwrap();
     assert_eq!(said(actions), ["10: SessionClosed"]);
     let closed = Record::reply(1, 6, 0).framed();
-    let lines = said(machine.bytes(START, &closed).unwrap());
+    let lines = heard(&mut machine, START, &closed);
     assert_eq!(lines[..3], ["9: Done", "Closed", "hang up"]);
     assert_eq!(machine.state(), State::Closed);
 }
@@ -467,8 +471,8 @@ fn a_connection_is_left_on_which_a_raw_call_waits() {
         let heard = machine.bytes(now, &Record::reply(-2, 0, 0).framed());
         assert_eq!(said(heard.unwrap()), [""; 0]);
     }
-    assert_eq!(said(machine.tick(after(5_999)).unwrap()), [""; 0]);
-    let left = said(machine.tick(after(6_000)).unwrap());
+    assert_eq!(ticked(&mut machine, after(5_999)), [""; 0]);
+    let left = ticked(&mut machine, after(6_000));
     assert!(
         left.contains(&String::from("7: ConnectionLoss")),
         "{left:?}"
@@ -509,7 +513,7 @@ fn credentials_go_first_on_each_connection_and_their_answers_are_told() {
     let now = sent(machine.credential(START, "digest", b"ann:secret").unwrap());
     assert_eq!(now, [auth(b"ann:secret")]);
     let accepted = Record::reply(-4, 0, 0).framed();
-    let told = said(machine.bytes(START, &accepted).unwrap());
+    let told = heard(&mut machine, START, &accepted);
     assert_eq!(told, ["Credential { place: 0, code: Code(0) }"]);
     let _ = machine.cut(START).unwrap();
     let later = sent(machine.credential(START, "digest", b"bob").unwrap());
@@ -520,7 +524,7 @@ fn credentials_go_first_on_each_connection_and_their_answers_are_told() {
     let _ = machine.bytes(after(9_000), &Record::accepted(9_000, SESSION));
     let refused = Record::reply(-4, 0, -115).framed();
     let answers = [accepted, refused].concat();
-    let told = said(machine.bytes(after(9_000), &answers).unwrap());
+    let told = heard(&mut machine, after(9_000), &answers);
     assert_eq!(
         told,
         [

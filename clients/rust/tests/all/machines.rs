@@ -192,16 +192,24 @@ fn a_refused_read_of_what_is_followed_is_told_once_and_made_again() {
     }
 }
 
-#[test]
-fn what_follows_ends_with_its_session() {
-    let partner = Partner::start(|number, mut line| {
+/// A server that answers one request, then says that the session has expired, and serves the next one.
+fn expiring() -> Partner {
+    Partner::start(|number, mut line| {
         if number == 1 {
             line.expire();
         } else if line.admit(10_000) {
             let request = line.request().unwrap();
-            line.tell_data(request.xid);
+            line.answer(&request);
+            if number > 0 {
+                line.serve();
+            }
         }
-    });
+    })
+}
+
+#[test]
+fn what_follows_ends_with_its_session() {
+    let partner = expiring();
     let session = Session::open(partner.address, TIMEOUT).unwrap();
     let mut nodes = session.follow("/a");
     assert!(nodes.next().unwrap().is_ok());
@@ -215,25 +223,13 @@ fn what_follows_ends_with_its_session() {
     sleep(millis(1_000));
     assert_eq!(partner.dials(), 2, "it dials no more");
     let no_path = session.follow("a").next().unwrap().unwrap_err();
-    assert_eq!(
-        no_path.to_string(),
-        "a is no path: no slash at its beginning"
-    );
+    let why = "a is no path: no slash at its beginning";
+    assert_eq!(no_path.to_string(), why);
 }
 
 #[test]
 fn what_is_followed_goes_on_with_a_renewed_session() {
-    let partner = Partner::start(|number, mut line| {
-        if number == 1 {
-            line.expire();
-        } else if line.admit(10_000) {
-            let request = line.request().unwrap();
-            line.answer(&request);
-            if number > 0 {
-                line.serve();
-            }
-        }
-    });
+    let partner = expiring();
     let session = Session::open(partner.address, TIMEOUT).unwrap().shared();
     let follower = session.clone();
     let (sender, told) = mpsc::channel();

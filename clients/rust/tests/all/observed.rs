@@ -73,7 +73,7 @@ fn ends_of_connections_and_what_is_kept_are_counted() {
     assert_eq!(stats.connections, 3);
 }
 
-/// What an observer was told, but for bytes.
+/// What an observer was told, except bytes.
 fn shown(seen: &Observation) -> Option<String> {
     match seen {
         Observation::BytesIn(_) | Observation::BytesOut(_) => None,

@@ -40,10 +40,8 @@ fn a_path_is_made_with_all_above_it() {
     assert!(session.exists("/app/x").unwrap().is_some());
     session.create("/mine", b"", Mode::Ephemeral).unwrap();
     let refused = session.ensure_path("/mine/x").unwrap_err();
-    assert_eq!(
-        refused.to_string(),
-        "an ephemeral node has no children: /mine"
-    );
+    let why = "an ephemeral node has no children: /mine";
+    assert_eq!(refused.to_string(), why);
     let refused = session.ensure_path("/a//b").unwrap_err();
     assert_eq!(refused.to_string(), "/a//b is no path: an empty name");
     let mut local = LocalSession::open(server.address, TIMEOUT).unwrap();
@@ -225,10 +223,8 @@ fn so_many_hold_a_semaphore_as_it_says() {
         assert!(third.join().unwrap().unwrap().check(PATIENCE));
     });
     let other_number = Semaphore::new(&session, "/s/two", 3).acquire(b"");
-    assert_eq!(
-        other_number.unwrap_err().to_string(),
-        "the node says that it has 2 leases: /s/two; take the same number everywhere"
-    );
+    let why = "the node says that it has 2 leases: /s/two; take the same number everywhere";
+    assert_eq!(other_number.unwrap_err().to_string(), why);
     server.tell("expire");
     block_on(second.lost());
     assert!(!second.is_held() && !second.check(PATIENCE));
@@ -257,8 +253,6 @@ fn no_lease_is_left_wherever_connections_end() {
             other.children("/s/one").unwrap().0.is_empty()
         });
     }
-    assert_eq!(
-        kind_of(session.delete("/s", ANY_VERSION)),
-        Code::NOT_EMPTY.into()
-    );
+    let full = session.delete("/s", ANY_VERSION);
+    assert_eq!(kind_of(full), Code::NOT_EMPTY.into());
 }

@@ -76,11 +76,8 @@ fn a_session_lives_while_its_program_works() {
         return;
     }
     assert_eq!(session.state(), Some(State::Connected));
-    assert_eq!(
-        expiries.load(Ordering::SeqCst),
-        0,
-        "the servers have the session"
-    );
+    let expiries = expiries.load(Ordering::SeqCst);
+    assert_eq!(expiries, 0, "the servers have the session");
     assert!(session.exists("/mine").unwrap().is_some());
 }
 
@@ -93,18 +90,10 @@ fn without_a_thread_the_state_is_not_known_after_work() {
     assert_eq!(session.state(), Some(State::Connected));
     sleep(millis(4_500));
     assert_eq!(session.state(), None);
-    assert_eq!(
-        expiries.load(Ordering::SeqCst),
-        1,
-        "the servers have given it up"
-    );
-    let expired = Event::State(State::Expired);
-    while session
-        .next_event(Some(Instant::now() + PATIENCE))
-        .unwrap()
-        .as_ref()
-        != Some(&expired)
-    {}
+    let expiries = expiries.load(Ordering::SeqCst);
+    assert_eq!(expiries, 1, "the servers have given it up");
+    let (until, expired) = (Instant::now() + PATIENCE, Event::State(State::Expired));
+    while session.next_event(Some(until)).unwrap().unwrap() != expired {}
     assert_eq!(session.state(), Some(State::Expired));
 }
 
@@ -262,18 +251,14 @@ fn each_ticket_is_answered_where_the_session_is_let_go() {
     let sent = session.ask(Request::get("/a"));
     assert_eq!(requests.recv_timeout(PATIENCE), Ok(GET_DATA));
     drop(session);
-    assert_eq!(
-        kind_of(sent.wait_for(PATIENCE)),
-        NoReply::ConnectionLoss.into()
-    );
+    let lost = kind_of(sent.wait_for(PATIENCE));
+    assert_eq!(lost, NoReply::ConnectionLoss.into());
     let options = SessionOptions::new(millis(10_000));
     let nowhere = options.open_lazily(Hosts::default()).unwrap();
     let not_sent = nowhere.ask(Request::get("/a"));
     drop(nowhere);
-    assert_eq!(
-        kind_of(not_sent.wait_for(PATIENCE)),
-        NoReply::NotConnected.into()
-    );
+    let nobody = kind_of(not_sent.wait_for(PATIENCE));
+    assert_eq!(nobody, NoReply::NotConnected.into());
 }
 
 #[test]

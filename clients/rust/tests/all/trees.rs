@@ -161,10 +161,8 @@ fn what_is_no_tree_is_refused() {
     }
     let tree = session.tree("/t").unwrap();
     let late = tree.wait_for(Duration::from_millis(1)).unwrap_err();
-    assert_eq!(
-        late.to_string(),
-        "the tree was not whole in time: /t; it is read on"
-    );
+    let why = "the tree was not whole in time: /t; it is read on";
+    assert_eq!(late.to_string(), why);
 }
 
 #[test]
