@@ -282,7 +282,3 @@ class LogTest(unittest.TestCase):
         printed, told, status = self._end_of({}, "--log --help").split("|")
         self.assertEqual(("", "0"), (told, status))
         self.assertLessEqual(max(map(len, printed.splitlines())), 80)
-
-
-if __name__ == "__main__":
-    unittest.main()

@@ -14,16 +14,7 @@ from ctypes import byref, c_int64, create_string_buffer
 from pathlib import Path
 from typing import Any, Callable
 
-from machine import (
-    LONGEST_FRAME,
-    MOST_NUMBER,
-    Handle,
-    Server,
-    number_of,
-    spelled_lines,
-    text_line,
-    word_of,
-)
+from machine import LONGEST_FRAME, MOST_NUMBER, Handle, Server, number_of, spelled_lines, text_line, word_of
 from outside import COMPILER, lacks_compiler
 from shell import TOP
 from tables import HERE, Row, bytes_of, cases_of
@@ -443,7 +434,3 @@ class TurnTest(unittest.TestCase):
             with self.subTest(calls=calls):
                 self.setUp()
                 self.assertEqual(self._shown_with(calls, 3_000), wanted)
-
-
-if __name__ == "__main__":
-    unittest.main()

@@ -213,7 +213,3 @@ class ScriptsTest(unittest.TestCase):
 
     def test_readers_that_fail(self) -> None:
         self._each(self._unread, "unread")
-
-
-if __name__ == "__main__":
-    unittest.main()

@@ -103,7 +103,3 @@ class WatchingTest(unittest.TestCase):
                 time.sleep(0.01)
             if served.heard[number].moment >= since:
                 yield served.heard[number]
-
-
-if __name__ == "__main__":
-    unittest.main()

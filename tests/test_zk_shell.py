@@ -272,7 +272,3 @@ class ShellTest(unittest.TestCase):
             self.assertEqual(wanted, outcome(words, unread, out=full), words)
         os.close(unread)
         os.close(full)
-
-
-if __name__ == "__main__":
-    unittest.main()
