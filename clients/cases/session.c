@@ -10,15 +10,20 @@
 #include <string.h>
 #include <unistd.h>
 
-enum { MOST_WORDS = 40, MOST_ACLS = 8 };
+enum { MOST_WORDS = 40, MOST_ACLS = 8, LONGEST = 4000 };
+
+/* What is followed: whether there is news of it, and what was printed of it last. */
+struct shown {
+    bool is_news;
+    char told[LONGEST];
+};
 
 static dws_call call;
 static dws_request request;
 static dws_lock lock;
 static dws_subject followed, names;
 static dws_tree tree;
-static bool is_news, is_named, is_shown;
-static char told[4000], told_data[100], told_names[1000];
+static struct shown of_data, of_names, of_tree;
 static int64_t last_token;
 
 static void print_line(const char *text)
@@ -30,13 +35,13 @@ static void print_line(const char *text)
 static void note(dws_session *session, dws_subject *subject)
 {
     (void)session;
-    is_news = is_news || dws_is_good(subject);
+    of_data.is_news = of_data.is_news || dws_is_good(subject);
 }
 
 static void note_names(dws_session *session, dws_subject *subject)
 {
     (void)session;
-    is_named = is_named || dws_is_good(subject);
+    of_names.is_news = of_names.is_news || dws_is_good(subject);
 }
 
 static int compare(const void *one, const void *other)
@@ -124,44 +129,42 @@ static void write_by(dws_session *session, const char *name, const char *path, c
     }
 }
 
-/* Prints the next data that are good, where they are others than before. */
-static void print_next(dws_session *session)
+/* Prints what is written of it next, where that is another thing than before. */
+static void print_next(dws_session *session, struct shown *shown, void (*write)(dws_session *, char *, size_t))
 {
-    char said[sizeof told_data] = "";
+    char said[LONGEST];
     do {
-        while (!is_news && dws_turn(session)) {
+        while (!shown->is_news && dws_turn(session)) {
         }
-        is_news = false;
-        bool is_there = followed.kind == DW_KEPT_FULL;
-        snprintf(said, sizeof said, "%s%s", is_there ? "data " : "none", is_there ? followed.text : "");
-    } while (strcmp(said, told_data) == 0 && !dws_is_over(session));
-    strcpy(told_data, said);
+        shown->is_news = false;
+        write(session, said, sizeof said);
+    } while (strcmp(said, shown->told) == 0 && !dws_is_over(session));
+    strcpy(shown->told, said);
     print_line(said);
 }
 
-/* The same of the names below a node. */
-static void print_listed(dws_session *session)
+static void write_data(dws_session *session, char *room, size_t size)
 {
-    char said[sizeof told_names] = "";
-    do {
-        while (!is_named && dws_turn(session)) {
-        }
-        is_named = false;
-        size_t length = 0;
-        said[0] = 0;
-        for (size_t i = 0; i < names.count && length < sizeof said; i++) {
-            length += (size_t)snprintf(said + length, sizeof said - length, "%s%s", i > 0 ? " " : "", names.names[i]);
-        }
-    } while (strcmp(said, told_names) == 0 && !dws_is_over(session));
-    strcpy(told_names, said);
-    print_line(said);
+    bool is_there = followed.kind == DW_KEPT_FULL;
+    (void)session;
+    snprintf(room, size, "%s%s", is_there ? "data " : "none", is_there ? followed.text : "");
+}
+
+static void write_names(dws_session *session, char *room, size_t size)
+{
+    size_t length = 0;
+    (void)session;
+    room[0] = 0;
+    for (size_t i = 0; i < names.count && length < size; i++) {
+        length += (size_t)snprintf(room + length, size - length, "%s%s", i > 0 ? " " : "", names.names[i]);
+    }
 }
 
 static void take_tree(dws_session *session, dws_tree *shown)
 {
     (void)session;
     (void)shown;
-    is_shown = true;
+    of_tree.is_news = true;
 }
 
 static int compare_nodes(const void *one, const void *other)
@@ -174,6 +177,7 @@ static void write_nodes(char *room, size_t size)
 {
     const dws_node *in_order[100];
     size_t length = 0;
+    room[0] = 0;
     for (size_t i = 0; i < tree.count && i < 100; i++) {
         in_order[i] = &tree.nodes[i];
     }
@@ -189,8 +193,8 @@ static void follow_tree(dws_session *session, const char *path, const char *most
     if (tree.path != NULL) {
         dws_unfollow_tree(session, &tree);
     }
-    is_shown = false;
-    told[0] = 0;
+    of_tree.is_news = false;
+    of_tree.told[0] = 0;
     enum dw_result result = dws_follow_tree(session, &tree, path, most != NULL ? strtoul(most, NULL, 10) : 0, take_tree);
     if (result != DW_OK) {
         dws_write_result(why, sizeof why, result, path);
@@ -198,22 +202,13 @@ static void follow_tree(dws_session *session, const char *path, const char *most
     }
 }
 
-/* Prints what is told of the tree next, where it is another thing than before. */
-static void print_subtree(dws_session *session)
+static void write_tree(dws_session *session, char *room, size_t size)
 {
-    char said[sizeof told] = "";
-    do {
-        while (!is_shown && dws_turn(session)) {
-        }
-        is_shown = false;
-        if (tree.why != 0) {
-            dws_tree_words(session, &tree, said, sizeof said);
-        } else {
-            write_nodes(said, sizeof said);
-        }
-    } while (strcmp(said, told) == 0);
-    strcpy(told, said);
-    print_line(said);
+    if (tree.why != 0) {
+        dws_tree_words(session, &tree, room, size);
+    } else {
+        write_nodes(room, size);
+    }
 }
 
 static void take_lock(dws_session *session, const char *path)
@@ -368,15 +363,15 @@ static bool obey(dws_session *session, char *line)
     } else if (strcmp(name, "follow") == 0) {
         dws_follow(session, &followed, path, note);
     } else if (strcmp(name, "next") == 0) {
-        print_next(session);
+        print_next(session, &of_data, write_data);
     } else if (strcmp(name, "names") == 0) {
         dws_follow_children(session, &names, path, note_names);
     } else if (strcmp(name, "listed") == 0) {
-        print_listed(session);
+        print_next(session, &of_names, write_names);
     } else if (strcmp(name, "tree") == 0) {
         follow_tree(session, path, data);
     } else if (strcmp(name, "subtree") == 0) {
-        print_subtree(session);
+        print_next(session, &of_tree, write_tree);
     } else if (strcmp(name, "lock") == 0) {
         take_lock(session, path);
     } else if (strcmp(name, "contend") == 0) {

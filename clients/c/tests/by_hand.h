@@ -52,8 +52,7 @@ static inline void expect_text(dw_session *session, const char *wanted)
 /* The connection is there, and a server admits the session. Then more actions of the step are the caller's to see. */
 static inline void connect_session(dw_session *session, uint64_t now_ms)
 {
-    struct bytes response;
-    response.length = 0;
+    struct bytes response = NO_BYTES;
     add_connected(&response);
     EXPECT_NUMBER(DW_OK, dw_session_opened(session, now_ms));
     expect_sent(session, 49);

@@ -50,8 +50,7 @@ static void hand_in(dw_session *session, const struct bytes *bytes)
 /* A connection that a server admits. */
 static void connect(dw_session *session)
 {
-    struct bytes response;
-    response.length = 0;
+    struct bytes response = NO_BYTES;
     add_connected(&response);
     EXPECT_NUMBER(DW_OK, dw_session_moment(session, 1));
     EXPECT_NUMBER(0, expect_next(session, DW_KIND_DIAL).place);
@@ -66,12 +65,11 @@ static void connect(dw_session *session)
 /* There is no node, which is kept; then one is made, which is reported. */
 static void follow_an_absent_node(dw_session *session)
 {
-    struct bytes came;
+    struct bytes came = NO_BYTES;
     dw_kept_data kept;
     uint8_t data[8];
     EXPECT_NUMBER(DW_OK, dw_session_exists(session, 1, 1, UINT64_MAX, "/config", 7, true));
     expect_next(session, DW_KIND_SEND);
-    came.length = 0;
     add_header(&came, 1, 5, CODE_NO_NODE);
     add_notice(&came, DW_EVENT_CREATED, "/config");
     hand_in(session, &came);
@@ -91,11 +89,10 @@ static void follow_an_absent_node(dw_session *session)
 /* The revision is 1 at first, and rises by one at a step to which bytes came or which told a state, and at no other. */
 static void expect_revision(dw_session *session)
 {
-    struct bytes came;
+    struct bytes came = NO_BYTES;
     EXPECT_NUMBER(1 + 3, dw_session_revision(session)); /* connecting; bytes twice */
     EXPECT_NUMBER(DW_OK, dw_session_moment(session, 1));
     EXPECT_NUMBER(1 + 3, dw_session_revision(session));
-    came.length = 0;
     add_notice(&came, DW_EVENT_DATA_CHANGED, "/config"); /* which nobody watches any more */
     hand_in(session, &came);
     expect_no_more(session);
@@ -147,10 +144,9 @@ static void expect_lacking(dw_session *session, const struct bytes *wanted)
 static void collect_a_leaf(dw_session *session)
 {
     dw_stat stat = {3, 5, 1000, 2000, 77, 4, 1, 6, 7, 5, 0};
-    struct bytes came, wanted;
+    struct bytes came = NO_BYTES, wanted = NO_BYTES;
     uint8_t room[128];
     size_t count = 1;
-    wanted.length = came.length = 0;
     put_read(&wanted, "/t", DW_SIDE_DATA);
     put_read(&wanted, "/t", DW_SIDE_CHILDREN);
     expect_lacking(session, &wanted);
@@ -174,11 +170,10 @@ static void collect_a_leaf(dw_session *session)
 static void stand_first(dw_session *session)
 {
     dw_stat stat = {6, 6, 0, 0, SESSION, 6, 0, 0, 0, 1, 0};
-    struct bytes came, names, markers;
+    struct bytes came = NO_BYTES, names = NO_BYTES, markers = NO_BYTES;
     int64_t token = 1;
     size_t count = 1;
     char rival[16];
-    came.length = names.length = markers.length = 0;
     EXPECT_NUMBER(DW_OK, dw_session_get_data(session, 1, 11, UINT64_MAX, "/n-0000000000", 13, true));
     add_data(&came, 6, 6, "x", &stat);
     hand_in(session, &came);
@@ -216,8 +211,7 @@ static void put_shown(struct bytes *bytes, enum dw_kept kind, const char *data, 
 /* A node that is not there, one whose data are not read, and names. */
 static void read_once_more(dw_session *session, const dw_stat *read)
 {
-    struct bytes came;
-    came.length = 0;
+    struct bytes came = NO_BYTES;
     EXPECT_NUMBER(DW_OK, dw_session_exists(session, 1, 12, UINT64_MAX, "/no", 3, true));
     EXPECT_NUMBER(DW_OK, dw_session_exists(session, 1, 13, UINT64_MAX, "/yes", 4, true));
     EXPECT_NUMBER(DW_OK, dw_session_get_children(session, 1, 14, UINT64_MAX, "/", 1, true));
@@ -231,10 +225,9 @@ static void read_once_more(dw_session *session, const dw_stat *read)
 static void take_a_snapshot(dw_session *session)
 {
     const dw_stat read = {3, 5, 1000, 2000, 77, 4, 1, 6, 7, 5, 0}, none = {0, 0, 0, 0, 0, 0, 0, 0, 0, 0, 0};
-    struct bytes nodes, parents, wanted;
+    struct bytes nodes = NO_BYTES, parents = NO_BYTES, wanted = NO_BYTES;
     uint8_t room[512];
     size_t count = 1;
-    nodes.length = parents.length = wanted.length = 0;
     read_once_more(session, &read);
     put_text(&nodes, "/t");
     put_text(&nodes, "/no");
@@ -284,10 +277,9 @@ static void hold_first(dw_session *session)
 static void list_names(dw_session *session)
 {
     const dw_stat stat = {0, 0, 0, 0, 0, 0, 0, 0, 0, 0, 0};
-    struct bytes came, wanted;
+    struct bytes came = NO_BYTES, wanted = NO_BYTES;
     uint8_t room[32];
     size_t count = 1;
-    came.length = wanted.length = 0;
     EXPECT_NUMBER(DW_OK, dw_session_get_children(session, 1, 10, UINT64_MAX, "/", 1, false));
     add_names(&came, 5, 6, "right", "left", &stat);
     hand_in(session, &came);
@@ -303,10 +295,9 @@ static void list_names(dw_session *session)
 static void create_a_node(dw_session *session)
 {
     const uint8_t data[] = {'x'};
-    struct bytes came;
+    struct bytes came = NO_BYTES;
     EXPECT_NUMBER(DW_OK, dw_session_create(session, 1, 2, UINT64_MAX, "/n-", 3, data, sizeof data, false, DW_MODE_EPHEMERAL | DW_MODE_SEQUENTIAL));
     expect_next(session, DW_KIND_SEND);
-    came.length = 0;
     add_created(&came, 2, 6, "/n-0000000000");
     hand_in(session, &came);
     dw_output answer = expect_next(session, DW_KIND_ANSWER);
@@ -317,10 +308,9 @@ static void create_a_node(dw_session *session)
 /* A reply for which nobody asked. */
 static void lose_the_connection(dw_session *session)
 {
-    struct bytes came;
+    struct bytes came = NO_BYTES;
     char words[128];
     size_t length;
-    came.length = 0;
     add_header(&came, 99, 7, 0);
     hand_in(session, &came);
     dw_output drop = expect_next(session, DW_KIND_DROP);

@@ -129,9 +129,8 @@ static void expect_no_look_up(dw_session *session, enum dw_result result, const 
 static void expect_no_snapshot(dw_session *session, enum dw_result result, const char *path, size_t length)
 {
     uint8_t room[ROOM];
-    struct bytes spelled;
+    struct bytes spelled = NO_BYTES;
     size_t count;
-    spelled.length = 0;
     put_buffer(&spelled, path, length);
     memset(room, UNTOUCHED, sizeof room);
     EXPECT_NONE(result, dw_session_snapshot(session, spelled.at, spelled.length, DATA("\0\0\0\2/a"), room, sizeof room, &count));
@@ -279,8 +278,7 @@ static dw_output pass_on_to(dw_session *session, enum dw_kind kind)
 
 static void connect_session(dw_session *session)
 {
-    struct bytes response;
-    response.length = 0;
+    struct bytes response = NO_BYTES;
     add_connected(&response);
     EXPECT_NUMBER(DW_OK, dw_session_open(session, 10000, ADDRESSES, SEED));
     EXPECT_NUMBER(DW_OK, dw_session_moment(session, NOW));
@@ -317,9 +315,8 @@ static void expect_answers_without_reply(dw_session *session)
 /* K3 while the session is closed and after it, K2 for what waits at an expiry. */
 static void expect_ended(dw_session *session)
 {
-    struct bytes came;
+    struct bytes came = NO_BYTES;
     uint64_t first_ms;
-    came.length = 0;
     connect_session(session);
     EXPECT_NUMBER(DW_OK, dw_session_close(session, NOW, 7, NEVER));
     EXPECT_NUMBER(DW_OK, dw_session_get_data(session, NOW, 8, NEVER, TEXT("/a"), false));

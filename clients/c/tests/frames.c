@@ -6,6 +6,8 @@
 
 enum { SYNC_CONNECTED = 3, PASSWORD_LENGTH = 16 };
 
+const struct bytes NO_BYTES = {.length = 0};
+
 static void put(struct bytes *bytes, const void *from, size_t length)
 {
     EXPECT(length <= sizeof bytes->at - bytes->length);

@@ -21,6 +21,8 @@ struct bytes {
     size_t length;
 };
 
+extern const struct bytes NO_BYTES;
+
 void put_int(struct bytes *bytes, int32_t number);
 void put_long(struct bytes *bytes, int64_t number);
 void put_buffer(struct bytes *bytes, const void *from, size_t length);

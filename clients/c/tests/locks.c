@@ -180,10 +180,9 @@ static bool is_cut_at(int32_t type)
 /* Serves a request. Whether the connection goes on. */
 static bool serve_request(int32_t type, const uint8_t *request)
 {
-    struct bytes came;
+    struct bytes came = NO_BYTES;
     bool is_cut = is_cut_at(type);
     frames += type != TYPE_PING;
-    came.length = 0;
     if (!is_cut || manner == AFTER) {
         do_request(&came, type, request);
     }

@@ -68,8 +68,7 @@ static void open_with(bool (*log_in)(dws_session *, dws_sasl *, void *), void *c
 
 static void hear_token(int32_t xid, const char *token)
 {
-    struct bytes body;
-    body.length = 0;
+    struct bytes body = NO_BYTES;
     put_text(&body, token);
     hear_request(xid, TYPE_LOG_IN, &body);
 }

@@ -52,8 +52,7 @@ static void put_readable(struct bytes *bytes)
 /* The record that a server takes: CreateRequest, and in a CreateTTLRequest the milliseconds after it. */
 static void hear_creation(int32_t xid, int32_t operation, const char *path, int32_t flags, int64_t ttl_ms)
 {
-    struct bytes body;
-    body.length = 0;
+    struct bytes body = NO_BYTES;
     put_text(&body, path);
     put_text(&body, "one");
     put_readable(&body);
@@ -234,10 +233,9 @@ static void tell_ephemerals(void)
         {"/app", "/a", "/app/a", {"/app/a", "/app/ab"}, {"/a", "/ab"}},
     };
     for (size_t i = 0; i < sizeof rows / sizeof rows[0]; i++) {
-        struct bytes body;
+        struct bytes body = NO_BYTES;
         open_below(rows[i].chroot);
         const dws_call *call = dws_get_ephemerals(session, &request, rows[i].prefix);
-        body.length = 0;
         put_text(&body, rows[i].sent);
         hear_request(1, DW_OPERATION_GET_EPHEMERALS, &body);
         size_t begin = begin_answer(&came, 1, 0);
@@ -258,10 +256,9 @@ static void tell_ephemerals(void)
 /* How many nodes are below one, and whom the server knows the session by: a request of no bytes. */
 static void tell_of_servers(void)
 {
-    struct bytes body;
+    struct bytes body = NO_BYTES;
     open_below("/app");
     dws_get_all_children_number(session, &request, "/");
-    body.length = 0;
     put_text(&body, "/app");
     hear_request(1, DW_OPERATION_GET_ALL_CHILDREN_NUMBER, &body);
     size_t begin = begin_answer(&came, 1, 0);
@@ -453,8 +450,7 @@ static void answer_nothing(void)
 static void shorten_replies(void)
 {
     dws_node_read reads[7];
-    struct bytes came;
-    came.length = 0;
+    struct bytes came = NO_BYTES;
     add_reads(&came, 1);
     for (size_t length = 20; length < came.length - 4; length++) { /* the end of a multi has four bytes that say nothing */
         struct bytes cut = came;
@@ -554,11 +550,10 @@ static void mix_types(void)
 static void go_on_after(int64_t zxid)
 {
     static dws_call get;
-    struct bytes connected;
+    struct bytes connected = NO_BYTES;
     accept_line();
     hear();
     EXPECT_NUMBER(zxid, dws_read_long(out.at + 4));
-    connected.length = 0;
     add_connected(&connected);
     answer_at_once(&connected);
     dws_get(session, &get, "/a", false);
@@ -570,8 +565,7 @@ static void go_on_after(int64_t zxid)
 /* The connection ends after each byte of a transaction that is sent, and of its reply. Without the whole reply it is lost, and never asked again. */
 static void cut_transactions(bool is_quick)
 {
-    struct bytes came;
-    came.length = 0;
+    struct bytes came = NO_BYTES;
     add_set(&came, 1);
     for (size_t sent = 0; sent <= came.length; sent += is_quick ? 29 : 1) {
         struct bytes part = came;

@@ -75,8 +75,7 @@ static void spell_transaction(dws_request *call)
 
 static void hear_transaction(int32_t xid)
 {
-    struct bytes body;
-    body.length = 0;
+    struct bytes body = NO_BYTES;
     put_type(&body, DWS_OF_CHECK, 0);
     put_text(&body, "/a");
     put_int(&body, 3);
@@ -355,8 +354,7 @@ static void show_paths(void)
 
 static void expect_credentials(const char *words)
 {
-    struct bytes body;
-    body.length = 0;
+    struct bytes body = NO_BYTES;
     put_int(&body, 0);
     put_text(&body, "digest");
     put_text(&body, words);
@@ -501,8 +499,7 @@ static void see_mark(dws_session *s, dws_subject *subject)
 static void bar(void)
 {
     static dws_subject node;
-    struct bytes came, data;
-    came.length = data.length = 0;
+    struct bytes came = NO_BYTES, data = NO_BYTES;
     add_data(&data, 1, 5, "one", &STAT);
     add_header(&came, -4, 0, -115);
     begin_session();

@@ -63,7 +63,7 @@ static void be_suspended(void)
 {
     enum { HOUR_MS = 3600000 };
     struct pollfd polled;
-    struct bytes came;
+    struct bytes came = NO_BYTES;
     begin_session();
     turn(0);
     let_pass(100);
@@ -72,7 +72,6 @@ static void be_suspended(void)
     dws_get(session, &get, "/a", false);
     hear_request(1, TYPE_GET, NULL);
     dws_wanted(session, &polled);
-    came.length = 0;
     add_data(&came, 1, 5, "one", &STAT);
     EXPECT(send(line, came.at, came.length, MSG_NOSIGNAL) == (ssize_t)came.length);
     suspended_ms += HOUR_MS;
@@ -126,14 +125,13 @@ static void expect_new_connection(void)
 /* What was not written is forgotten with its connection: a call that it has no room for, and a ping that is due when it ends. */
 static void forget_unsent(void)
 {
-    struct bytes connected;
+    struct bytes connected = NO_BYTES;
     begin_session();
     is_blocked = true;
     dws_set(session, &set, "/a", "one", 3, -1);
     turn(0);
     expect_new_connection();
     EXPECT(set.is_answered && set.why == DW_OUTCOME_LOST);
-    connected.length = 0;
     add_connected(&connected);
     answer_at_once(&connected);
     let_pass(GRANTED_MS / 3 + 100);

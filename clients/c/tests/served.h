@@ -278,8 +278,7 @@ static inline void accept_line(void)
 /* Takes the next connection, and admits the session, in this version of the protocol. */
 static inline void admit_by(int32_t version)
 {
-    struct bytes connected, spelled;
-    connected.length = spelled.length = 0;
+    struct bytes connected = NO_BYTES, spelled = NO_BYTES;
     accept_line();
     hear();
     add_connected(&connected);
@@ -382,18 +381,6 @@ static inline void answer_place(int32_t xid, int64_t zxid)
 static inline void answer_names(int32_t xid, int64_t zxid, const char *first, const char *second)
 {
     ANSWER(add_names, xid, zxid, first, second, &STAT);
-}
-
-static inline void answer_none(int32_t xid, int64_t zxid)
-{
-    ANSWER(add_header, xid, zxid, CODE_NO_NODE);
-}
-
-/* The next request is a sync, which is answered. */
-static inline void answer_sync(int32_t xid)
-{
-    hear_request(xid, DW_OPERATION_SYNC, NULL);
-    ANSWER(add_created, xid, 7, "/l"); /* its answer has a path too */
 }
 
 static inline void notice(int32_t event, const char *path)
