@@ -42,68 +42,7 @@ EOF
 # there, they pass nothing on and end nothing, as where a cable is out. Where NAME.close is there, each is closed for as many seconds as that
 # says, right after its client has sent something; and then the file is gone.
 start_ways() {
-    python3 - "$folder/$1" "${@:2}" <<'EOF' &
-import asyncio, os, sys
-
-name, target, count, own = sys.argv[1], *map(int, sys.argv[2:])
-
-
-class Way:
-    async def open(self, own):
-        self.listener = await asyncio.start_server(self.enter, "127.0.0.1", own)
-        self.port = self.listener.sockets[0].getsockname()[1]
-        self.connections = []
-        self.is_heard = asyncio.Event()
-
-    async def enter(self, reader, writer):
-        try:
-            server_reader, server_writer = await asyncio.open_connection("127.0.0.1", target)
-        except ConnectionError:
-            return writer.close()
-        self.connections += [writer, server_writer]
-        await asyncio.gather(self.pass_on(reader, server_writer, True), self.pass_on(server_reader, writer, False))
-
-    async def pass_on(self, reader, writer, is_client):
-        try:
-            while data := await reader.read(65536):
-                while os.path.exists(name + ".hold"):
-                    await asyncio.sleep(0.05)
-                writer.write(data)
-                await writer.drain()
-                if is_client:
-                    self.is_heard.set()
-        except ConnectionError:
-            pass
-        writer.close()
-
-    async def close(self, seconds):
-        self.is_heard.clear()
-        await self.is_heard.wait()
-        await asyncio.sleep(0.02)
-        self.listener.close()
-        for writer in self.connections:
-            writer.transport.abort()
-        await asyncio.sleep(seconds)
-        await self.open(self.port)
-
-
-async def main():
-    ways = [Way() for _ in range(count)]
-    for way in ways:
-        await way.open(own)
-    with open(name + ".new", "w") as file:
-        print(*(way.port for way in ways), file=file)
-    os.rename(name + ".new", name + ".port")
-    while True:
-        await asyncio.sleep(0.1)
-        if os.path.exists(name + ".close"):
-            seconds = float(open(name + ".close").read())
-            await asyncio.gather(*(way.close(seconds) for way in ways))
-            os.remove(name + ".close")
-
-
-asyncio.run(main())
-EOF
+    python3 clients/crowd/ways.py "$folder/$1" "${@:2}" &
     begun[$1]=$!
     within 20 test -e "$folder/$1.port" || fail "no way $1"
 }
@@ -336,16 +275,9 @@ try_long_outage() {
     end_crowd
 }
 
-# Three servers, of which the third is cut off from the leader, and hangs back without knowing. Sessions are of the server that began them
-# alone, so where that is killed, the leader says that they have expired, and the server that hangs back begins another one for whoever
-# has seen nothing. It has to begin none for who has.
-try_lagging_follower() {
-    local -a ports held
-    local lines since refused
-    have_servers
-    set_crowd "$1"
-    read -ra ports < <(free_ports 11)
-    lines="localSessionsEnabled=true
+# Three servers, of which the third has a way to the leader that can be cut.
+start_lagging_servers() {
+    local lines="localSessionsEnabled=true
 syncLimit=60
 server.1=127.0.0.1:${ports[3]}:${ports[6]}
 server.2=127.0.0.1:${ports[4]}:${ports[7]}
@@ -360,6 +292,18 @@ server.3=127.0.0.1:${ports[5]}:${ports[8]}"
     start_server three
     within 60 serves "${ports[2]}" || fail "the third server does not serve"
     [[ $(mode_of "${ports[1]}") == leader ]] || fail "the second server does not lead"
+}
+
+# The third server is cut off from the leader, and hangs back without knowing. Sessions are of the server that began them alone, so if that is
+# killed, the leader says that they have expired, and the server that hangs back begins another one for whoever has seen nothing. It has to begin
+# none for who has.
+try_lagging_follower() {
+    local -a ports held
+    local since refused
+    have_servers
+    set_crowd "$1"
+    read -ra ports < <(free_ports 11)
+    start_lagging_servers
     outside "${ports[0]}" create /follow 1
     begin_crowd "127.0.0.1:${ports[0]},127.0.0.1:${ports[1]},127.0.0.1:${ports[10]}" 20
     within 60 have_shown 20 1 || fail "20 clients are not shown the node"
