@@ -63,6 +63,18 @@ impl<'a> Actions<'a> {
         Ok(Some(Action::of(&self.machine.handle, &flat)?))
     }
 
+    /// Hands each action to this function as the library spells it.
+    pub(crate) fn for_each_flat(
+        self,
+        mut take: impl FnMut(&Handle, &ffi::Output) -> Result<(), UnknownNumber>,
+    ) -> Result<(), Fault> {
+        let mut flat = ffi::Output::default();
+        while self.machine.handle.next(&mut flat)? {
+            take(&self.machine.handle, &flat)?;
+        }
+        Ok(())
+    }
+
     /// The machine, for look-ups between two actions.
     pub fn machine(&self) -> &Machine {
         self.machine
@@ -270,7 +282,7 @@ impl fmt::Display for Refusal {
 }
 
 impl<'a> Action<'a> {
-    fn of(handle: &'a Handle, flat: &ffi::Output) -> Result<Action<'a>, UnknownNumber> {
+    pub(crate) fn of(handle: &'a Handle, flat: &ffi::Output) -> Result<Action<'a>, UnknownNumber> {
         let ticket = flat.ticket;
         let bytes = Bytes::of(handle, flat);
         Ok(match flat.kind {

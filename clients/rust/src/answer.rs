@@ -4,10 +4,12 @@ use crate::acl::{Acl, Id};
 use crate::buffer::TextList;
 use crate::chroot::Chroot;
 use crate::error::ErrorKind;
-use crate::fault::{Code, NoReply};
+use crate::fault::{Code, NoReply, UnknownNumber};
+use crate::ffi::{self, Handle};
 use crate::multi_read::ReadAnswer;
 use crate::node::Stat;
-use crate::output::{Brought, Reply};
+use crate::numbers::outcome;
+use crate::output::{Brought, Bytes};
 use crate::transaction::Change;
 
 /// The answer to a call. Fields that its call does not ask for are empty.
@@ -64,10 +66,22 @@ impl Answer {
     }
 }
 
-/// The answer to a call, from the library's reply.
-pub(crate) fn answer_of(outcome: Result<Reply<'_>, NoReply>, chroot: &Chroot) -> Outcome {
-    let reply = outcome?;
-    let mut found = Answer::of(&reply.result?, chroot);
-    found.zxid = reply.zxid;
-    Ok(found)
+/// The answer to a call, as the library spells it.
+pub(crate) fn answer_of(
+    handle: &Handle,
+    flat: &ffi::Output,
+    chroot: &Chroot,
+) -> Result<Outcome, UnknownNumber> {
+    if flat.detail != outcome::REPLIED {
+        return NoReply::try_from(flat.detail).map(|reason| Err(reason.into()));
+    }
+    let brought = Brought::of(handle, flat, Bytes::of(handle, flat))?;
+    Ok(match brought {
+        Ok(brought) => {
+            let mut found = Answer::of(&brought, chroot);
+            found.zxid = flat.zxid;
+            Ok(found)
+        }
+        Err(code) => Err(code.into()),
+    })
 }

@@ -8,7 +8,8 @@ use crate::events::Event;
 use crate::fault::{Code, Fault, NoReply};
 use crate::machine::State;
 use crate::node::{NodeEvent, Side};
-use crate::output::{GivenUp, Text};
+use crate::numbers::kind;
+use crate::output::{Bytes, GivenUp, Text};
 use crate::stats::ConnectionEnd;
 use std::collections::VecDeque;
 use std::mem;
@@ -128,31 +129,35 @@ impl Dispatcher {
     }
 
     /// Sorts the actions of a step.
-    pub(crate) fn dispatch(&mut self, mut actions: Actions<'_>) -> Result<(), Fault> {
-        while let Some(action) = actions.next()? {
-            self.dispatch_one(action);
-        }
-        Ok(())
+    pub(crate) fn dispatch(&mut self, actions: Actions<'_>) -> Result<(), Fault> {
+        actions.for_each_flat(|handle, flat| {
+            match flat.kind {
+                kind::SEND => Bytes::of(handle, flat).append_to(&mut self.frames),
+                kind::ANSWER => {
+                    let outcome = answer_of(handle, flat, &self.chroot)?;
+                    self.answer(flat.ticket, outcome);
+                }
+                _ => self.dispatch_one(&Action::of(handle, flat)?),
+            }
+            Ok(())
+        })
     }
 
-    fn dispatch_one(&mut self, action: Action<'_>) {
-        match action {
-            Action::Send(frame) => frame.append_to(&mut self.frames),
-            Action::Answer { ticket, outcome } => {
-                self.answer(ticket, answer_of(outcome, &self.chroot));
-            }
+    fn dispatch_one(&mut self, action: &Action<'_>) {
+        match *action {
             Action::TimedOut { ticket, was_sent } => {
                 self.answer(ticket, Err(self.reason_of_timeout(was_sent)));
             }
             Action::Report { path, side, event } => self.report(path, side, event),
             Action::State(state) => self.change_state(state),
-            Action::Drop(given_up) => {
+            Action::Drop(ref given_up) => {
                 self.update().cause = Some(ConnectionEnd::of(&given_up.cause));
-                self.push_event(dropped(&given_up));
+                self.push_event(dropped(given_up));
             }
             Action::Dial { place, within } => self.update().dial = Some((place, within)),
             Action::HangUp => self.hang_up(),
-            Action::Renewed => {}
+            // `dispatch` takes the first two.
+            Action::Send(_) | Action::Answer { .. } | Action::Renewed => {}
             Action::Shown { ticket } => self.update_subject(ticket, SubjectUpdate::Good),
             Action::Refused { ticket, reason } => {
                 self.update_subject(ticket, SubjectUpdate::Refused(reason));

@@ -11,7 +11,7 @@ use std::io;
 use std::net::SocketAddr;
 use std::sync::Arc;
 use std::thread;
-use std::time::Duration;
+use std::time::{Duration, Instant};
 
 /// The most bytes that one read is asked for.
 const PIECE: usize = 65_536;
@@ -42,6 +42,8 @@ pub(crate) struct Driver {
     addresses: Addresses,
     incoming: Option<Box<dyn Incoming>>,
     room: Vec<u8>,
+    /// When the clock was looked at last, after what was waited for.
+    looked: Instant,
 }
 
 impl Driver {
@@ -52,6 +54,7 @@ impl Driver {
             addresses: Addresses::new(order),
             incoming: None,
             room: vec![0; PIECE],
+            looked: Instant::now(),
         }
     }
 
@@ -64,7 +67,8 @@ impl Driver {
         let _end = StopsSession(Arc::clone(&self.shared));
         loop {
             let plan = self.shared.plan(NEVER);
-            match self.execute(plan) {
+            let now = self.look();
+            match self.execute(now, plan) {
                 _ if plan == Plan::Stop => return,
                 Err(Fault::NoMemory) => thread::sleep(WAIT_FOR_MEMORY),
                 // After a halt the driver rests, and each caller gets the fault.
@@ -76,20 +80,37 @@ impl Driver {
     /// Does the next task, until this moment at most.
     pub(crate) fn turn(&mut self, until: Moment) -> Result<(), Fault> {
         let plan = self.shared.plan(until);
-        self.execute(plan)
+        let now = self.look();
+        self.execute(now, plan)
     }
 
-    fn execute(&mut self, plan: Plan) -> Result<(), Fault> {
+    /// The same after a step at this moment, which is now still, without another look at the clock.
+    pub(crate) fn turn_at(&mut self, now: Moment, until: Moment) -> Result<(), Fault> {
+        let plan = self.shared.plan(until);
+        self.execute(now, plan)
+    }
+
+    /// When the last turn ended.
+    pub(crate) fn looked(&self) -> Instant {
+        self.looked
+    }
+
+    /// Looks at the clock.
+    fn look(&mut self) -> Moment {
+        self.looked = Instant::now();
+        self.shared.clock().at(self.looked)
+    }
+
+    fn execute(&mut self, now: Moment, plan: Plan) -> Result<(), Fault> {
         match plan {
-            Plan::Stop | Plan::Rest(_) => Ok(()),
-            Plan::Tick => self.shared.with(Engine::tick),
-            Plan::Dial => self.dial(),
-            Plan::Listen(until) => self.listen(until),
-            Plan::HandIn => {
-                let now = self.shared.clock().now();
-                self.shared.with(|engine| engine.hand_in(now, &[]))
-            }
+            Plan::Listen(until) => return self.listen(now, until),
+            Plan::Stop | Plan::Rest(_) => {}
+            Plan::Tick => self.shared.with(Engine::tick)?,
+            Plan::Dial => self.dial()?,
+            Plan::HandIn => self.shared.with(|engine| engine.hand_in(now, &[]))?,
         }
+        self.look();
+        Ok(())
     }
 
     /// Dials the server that is to be dialled.
@@ -123,8 +144,7 @@ impl Driver {
     }
 
     /// Hands in what the connection brings next. If something was due before, it catches up.
-    fn listen(&mut self, until: Moment) -> Result<(), Fault> {
-        let now = self.shared.clock().now();
+    fn listen(&mut self, now: Moment, until: Moment) -> Result<(), Fault> {
         let mut wait = until.saturating_duration_since(now).min(LONGEST_WAIT);
         if self.shared.writes_on() {
             wait = wait.min(WAIT_FOR_ROOM);
@@ -138,12 +158,10 @@ impl Driver {
     /// Hands in all that the connection has, and then the moment before the last read. So a late session does not take a server for silent
     /// that has answered.
     fn catch_up(&mut self) -> Result<(), Fault> {
-        let clock = self.shared.clock();
-        let mut now = clock.now();
+        let mut now = self.look();
         for _ in 0..MOST_PIECES {
-            now = clock.now();
             match self.receive(Duration::ZERO)? {
-                Received::Bytes { .. } => {}
+                Received::Bytes { .. } => now = self.look(),
                 Received::Nothing => break,
                 Received::End => return Ok(()),
             }
@@ -170,7 +188,7 @@ impl Driver {
             return Ok(Received::End);
         };
         let read = incoming.read(&mut self.room, wait);
-        let (room, now) = (&self.room, self.shared.clock().now());
+        let (now, room) = (self.look(), &self.room);
         self.shared.with(|engine| {
             let is_late = engine.is_late(now);
             match read {

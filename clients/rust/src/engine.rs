@@ -5,11 +5,15 @@ mod calls;
 mod connection;
 pub(crate) mod contenders;
 mod credentials;
+mod deadline;
 mod steps;
 mod subjects;
 mod trees;
 
+pub(crate) use self::deadline::NEVER;
+
 use self::contenders::Contenders;
+use self::deadline::Deadline;
 use self::subjects::Subjects;
 use crate::chroot::Chroot;
 use crate::credentials::{Credential, Credentials};
@@ -25,7 +29,7 @@ use crate::pending::PendingCalls;
 use crate::recording::Recorder;
 use crate::saved::SavedSession;
 use crate::stats::{ConnectionEnd, Observation, Stats, Tally};
-use crate::ticket::Slot;
+use crate::ticket::{AskedCall, CallResult, Slot};
 use crate::tree_view::{FollowedTree, TreeCopy};
 use std::collections::BTreeMap;
 use std::mem;
@@ -38,9 +42,6 @@ const LOOK_ROUND: Duration = Duration::from_millis(250);
 
 /// The most reasons in the message that no server was found.
 const MOST_REASONS: usize = 16;
-
-/// The moment that never comes.
-pub(crate) const NEVER: Moment = Moment::from_millis(u64::MAX);
 
 /// The driver's next task.
 #[derive(Clone, Copy, Debug, PartialEq, Eq)]
@@ -107,11 +108,22 @@ impl EngineOptions {
     }
 }
 
+/// What is handed out once the lock of an engine is released.
+pub(crate) struct News {
+    /// The calls whose answers are to be told.
+    pub(crate) answered: Vec<Arc<Slot>>,
+    /// Whether those that wait for events or updates have something new to look at.
+    pub(crate) wakes_all: bool,
+    /// The copies of trees that are to be read and shown.
+    pub(crate) tree_copies: Vec<TreeCopy>,
+    /// What the observer is to be told.
+    pub(crate) seen: Vec<Observation>,
+}
+
 /// A machine, its connection, and the calls that wait.
 pub(crate) struct Engine {
     machine: Machine,
-    /// When something is due, as the machine had it after its last step.
-    deadline: Moment,
+    deadline: Deadline,
     asked_timeout: Duration,
     limits: Limits,
     renews: bool,
@@ -158,7 +170,7 @@ impl Engine {
         let machine = options.machine()?;
         let chroot = options.hosts.root().clone();
         let mut engine = Engine {
-            deadline: machine.deadline().unwrap_or(NEVER),
+            deadline: Deadline::default(),
             machine,
             asked_timeout: options.timeout,
             limits: options.limits,
@@ -216,7 +228,7 @@ impl Engine {
         if let Some(recorder) = &mut self.recorder {
             recorder.begin(self.asked_timeout, Some(saved.as_bytes()));
         }
-        self.note_deadline();
+        self.deadline.forget();
         self.places.begin_again();
         if matches!(self.phase, Phase::Ended(_) | Phase::Unauthorized) {
             self.contenders.clear();
@@ -255,7 +267,7 @@ impl Engine {
     /// Forgets all stale answers.
     pub(crate) fn forget_stale(&mut self) {
         self.machine.forget_stale();
-        self.note_deadline();
+        self.deadline.forget();
     }
 
     /// Other hosts. Hosts with another chroot are handed back.
@@ -281,7 +293,7 @@ impl Engine {
         let (now, added) = (self.now(), self.hosts.len() - kept);
         let actions = self.machine.set_addresses(now, kept, added, is_listed);
         let taken = actions.and_then(|actions| self.dispatcher.dispatch(actions));
-        self.note_deadline();
+        self.deadline.forget();
         // A session that moves leaves no server for a missing answer.
         self.dispatcher.lacks_no_answer();
         self.settle(now, taken)
@@ -421,36 +433,52 @@ impl Engine {
         self.dispatcher.next_event()
     }
 
+    /// What is to be handed out without the lock, if there is something.
+    pub(crate) fn take_news(&mut self) -> Option<News> {
+        let wakes_all = self.wakes_all();
+        let has_calls = self.calls.has_answered();
+        let is_rest = self.tree_copies.is_empty() && !self.tally.has_seen();
+        if !wakes_all && !has_calls && is_rest {
+            return None;
+        }
+        Some(News {
+            answered: self.take_answered(),
+            wakes_all,
+            tree_copies: mem::take(&mut self.tree_copies),
+            seen: self.tally.take_seen(),
+        })
+    }
+
     /// Whether those that wait for events or updates have something new to look at.
-    pub(crate) fn takes_news(&mut self) -> bool {
-        let is_news = self.takes_tree_news() | self.subjects.takes_updates();
+    fn wakes_all(&mut self) -> bool {
+        let is_news =
+            (!self.trees.is_empty() && self.takes_tree_news()) | self.subjects.takes_updates();
         let is_news = self.contenders.takes_news() | is_news;
         self.dispatcher.takes_news() | is_news | self.is_over()
     }
 
-    /// The calls whose answers are to be told, without the lock.
-    pub(crate) fn take_answered(&mut self) -> Vec<Arc<Slot>> {
+    /// The calls whose answers are to be told.
+    fn take_answered(&mut self) -> Vec<Arc<Slot>> {
         let answered = self.calls.take_answered();
         if !answered.is_empty() {
-            self.count(&answered, Instant::now());
+            let now = Instant::now();
+            for slot in &answered {
+                slot.with_ending(|ending| self.tally.note_call(slot.call(), ending, now));
+            }
         }
         answered
     }
 
-    /// Counts calls that have ended by now.
-    fn count(&mut self, answered: &[Arc<Slot>], now: Instant) {
-        for slot in answered {
-            let (kind, outcome, took) = slot.came(now);
-            self.tally.stats.note_answer(kind, outcome, took);
-            if self.tally.is_observed {
-                self.tally.tell(slot.observed(now));
-            }
-        }
+    /// Whether the call has ended that a session without a thread has asked, and that was not taken.
+    pub(crate) fn is_alone_answered(&self) -> bool {
+        self.calls.is_alone_answered()
     }
 
-    /// The observations for the observer.
-    pub(crate) fn take_seen(&mut self) -> Vec<Observation> {
-        self.tally.take_seen()
+    /// How the call ends that a session without a thread has asked, if it has ended by now.
+    pub(crate) fn take_alone(&mut self, call: &AskedCall, now: Instant) -> Option<CallResult> {
+        let ending = self.calls.take_alone(call)?;
+        self.tally.note_call(call, &ending, now);
+        Some(ending)
     }
 
     /// The session has an observer.
@@ -469,19 +497,9 @@ impl Engine {
         stats
     }
 
-    /// The copies of trees that are to be read and shown.
-    pub(crate) fn take_tree_copies(&mut self) -> Vec<TreeCopy> {
-        mem::take(&mut self.tree_copies)
-    }
-
     /// The first moment at which something is due, as the machine has it.
     fn deadline(&self) -> Moment {
-        self.deadline
-    }
-
-    /// The machine has made a step, or is another one.
-    fn note_deadline(&mut self) {
-        self.deadline = self.machine.deadline().unwrap_or(NEVER);
+        self.deadline.of(&self.machine)
     }
 
     /// The first moment at which something is due, also for calls that the machine does not know.
@@ -491,7 +509,8 @@ impl Engine {
 
     /// Whether something is due on the connection already.
     pub(crate) fn is_late(&self, now: Moment) -> bool {
-        self.outbox.is_some() && self.due() <= now
+        let is_soon = !self.deadline.is_after(now) || self.credentials.deadline() <= now;
+        is_soon && self.outbox.is_some() && self.due() <= now
     }
 
     /// Whether there is a connection.
@@ -666,7 +685,7 @@ mod tests {
 
     fn ask<T>(engine: &mut Engine, request: Request<T>) -> Arc<Slot> {
         let slot = Slot::new(request.path, &request.call);
-        let now = engine.clock.at(slot.asked_at());
+        let now = engine.clock.at(slot.call().at());
         engine.ask(now, request.call, request.limit, &slot);
         slot
     }

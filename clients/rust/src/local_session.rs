@@ -20,7 +20,7 @@ use crate::session_methods::{calls, look_ups, watch, Caller};
 use crate::shared::Shared;
 use crate::snapshot::Snapshot;
 use crate::stats::Stats;
-use crate::ticket::Slot;
+use crate::ticket::AskedCall;
 use crate::tree::{LocalTree, MOST_NODES};
 use crate::tree_snapshot::TreeSnapshot;
 use crate::view::View;
@@ -134,13 +134,19 @@ impl LocalSession {
     }
 
     fn call_once<T>(&mut self, request: Request<T>) -> Result<T, Error> {
-        let slot = Slot::new(request.path, &request.call);
-        let now = self.inner().clock().at(slot.asked_at());
+        let asked = AskedCall::now(request.path, &request.call);
+        let now = self.inner().clock().at(asked.at());
         self.driver.catch_up_if_late(now)?;
-        self.inner()
-            .with(|engine| engine.ask(now, request.call, request.limit, &slot));
+        let is_answered = self.inner().with(|engine| {
+            engine.ask_alone(now, request.call, request.limit, asked.path());
+            engine.is_alone_answered()
+        });
+        if !is_answered {
+            self.driver.turn_at(now, NEVER)?;
+        }
         loop {
-            if let Some(ending) = slot.take() {
+            let now = self.driver.looked();
+            if let Some(ending) = self.inner().take_alone(&asked, now) {
                 return (request.read)(ending);
             }
             self.driver.turn(NEVER)?;

@@ -108,7 +108,7 @@ pub enum Brought<'a> {
 
 impl<'a> Brought<'a> {
     /// What it brings, or the error of the server.
-    fn of(
+    pub(crate) fn of(
         handle: &'a Handle,
         flat: &ffi::Output,
         bytes: Bytes<'a>,

@@ -1,6 +1,6 @@
 //! The engine and its lock, as the threads of a session share them, and the threads and futures that wait for it.
 
-use crate::engine::{Engine, Plan};
+use crate::engine::{Engine, News, Plan};
 use crate::events::Event;
 use crate::fault::Fault;
 use crate::moment::{Clock, Moment};
@@ -8,7 +8,7 @@ use crate::notify::Notify;
 use crate::outbox::{Outbox, Writer, Written};
 use crate::request::Request;
 use crate::stats::{Observation, Observer};
-use crate::ticket::{CallLimit, ExpireCalls, Slot, Ticket};
+use crate::ticket::{AskedCall, CallLimit, CallResult, ExpireCalls, Slot, Ticket};
 use std::collections::HashMap;
 use std::mem;
 use std::panic::{catch_unwind, resume_unwind, AssertUnwindSafe};
@@ -84,30 +84,45 @@ impl Shared {
         result
     }
 
+    /// How the call ends that a session without a thread has asked, if it has ended by now.
+    pub(crate) fn take_alone(&self, call: &AskedCall, now: Instant) -> Option<CallResult> {
+        let mut engine = self.lock();
+        let ending = engine.take_alone(call, now)?;
+        self.hand_out(engine);
+        Some(ending)
+    }
+
     /// Releases the engine, so that a woken thread can have it, then writes frames and hands out answers.
     fn hand_out(&self, mut engine: MutexGuard<'_, Engine>) {
-        let answered = engine.take_answered();
-        let (outbox, tree_copies) = (engine.take_to_write(), engine.take_tree_copies());
-        let (is_news, seen) = (engine.takes_news(), engine.take_seen());
+        let outbox = engine.take_to_write();
+        let news = engine.take_news();
         drop(engine);
-        let observed = self.observe(&seen);
+        let observed = news.as_ref().map(|news| self.observe(&news.seen));
         if let Some(outbox) = outbox {
             self.write(&outbox, self.writer, Duration::ZERO);
         }
-        for slot in answered {
-            slot.tell();
+        if let Some(news) = news {
+            self.tell(news);
         }
-        if is_news {
-            self.notify_all();
-        }
-        for copy in &tree_copies {
-            copy.show();
-            self.wake();
-        }
-        if let Err(panic) = observed {
+        if let Some(Err(panic)) = observed {
             if !thread::panicking() {
                 resume_unwind(panic);
             }
+        }
+    }
+
+    /// Wakes those that wait for news.
+    fn tell(&self, news: News) {
+        for slot in news.answered {
+            slot.tell();
+        }
+        if news.wakes_all {
+            self.notify_all();
+        }
+        for copy in news.tree_copies {
+            copy.show();
+            drop(copy); // it counts as a handle of its tree
+            self.wake();
         }
     }
 
@@ -305,7 +320,7 @@ impl ExpireCalls for Shared {
 /// Asks a request of a session: the ticket for its answer.
 pub(crate) fn ask<T>(shared: &Arc<Shared>, request: Request<T>) -> Ticket<T> {
     let slot = Slot::new(request.path, &request.call);
-    let now = shared.clock().at(slot.asked_at());
+    let now = shared.clock().at(slot.call().at());
     let wait = shared.with(|engine| engine.ask(now, request.call, request.limit, &slot));
     if wait.is_to_wake {
         shared.wake();

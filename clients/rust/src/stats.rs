@@ -5,10 +5,11 @@ use crate::fault::{Code, NoReply};
 use crate::output::Cause;
 use crate::raw::RawCall;
 use crate::request::{Call, CoreCall};
+use crate::ticket::{AskedCall, CallResult};
 use std::fmt::{self, Write as _};
 use std::mem;
 use std::sync::Arc;
-use std::time::Duration;
+use std::time::{Duration, Instant};
 
 /// Names of the variants of an enum, as metrics have them, in their order.
 macro_rules! named {
@@ -488,9 +489,23 @@ impl Tally {
         }
     }
 
+    /// A call has ended so, by now.
+    pub(crate) fn note_call(&mut self, call: &AskedCall, ending: &CallResult, now: Instant) {
+        let (kind, outcome, took) = call.came(ending, now);
+        self.stats.note_answer(kind, outcome, took);
+        if self.is_observed {
+            self.tell(call.observed(ending, now));
+        }
+    }
+
     /// The observer is to be told.
-    pub(crate) fn tell(&mut self, seen: Observation) {
+    fn tell(&mut self, seen: Observation) {
         self.seen.push(seen);
+    }
+
+    /// Whether the observer is to be told something.
+    pub(crate) fn has_seen(&self) -> bool {
+        !self.seen.is_empty()
     }
 
     /// What the observer is to be told.

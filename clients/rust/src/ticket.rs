@@ -37,32 +37,24 @@ impl Stage {
 /// How a call ends.
 pub(crate) type CallResult = Result<Answer, Error>;
 
-/// Where the answer to a call is put.
+/// A call that is asked: what it is about, and when that was.
 #[derive(Debug)]
-pub(crate) struct Slot {
+pub(crate) struct AskedCall {
     path: String,
     has_node: bool,
     kind: CallKind,
-    asked_at: Instant,
-    stage: Mutex<Stage>,
-    answered: Notify,
+    at: Instant,
 }
 
-impl Slot {
-    /// Of this call, which is asked now at this path.
-    pub(crate) fn new(path: String, call: &Call) -> Arc<Slot> {
-        Arc::new(Slot {
+impl AskedCall {
+    /// This call, which is asked now at this path.
+    pub(crate) fn now(path: String, call: &Call) -> AskedCall {
+        AskedCall {
             path,
             has_node: call.has_node(),
             kind: CallKind::of(call),
-            asked_at: Instant::now(),
-            stage: Mutex::default(),
-            answered: Notify::default(),
-        })
-    }
-
-    fn stage(&self) -> MutexGuard<'_, Stage> {
-        self.stage.lock().unwrap_or_else(PoisonError::into_inner)
+            at: Instant::now(),
+        }
     }
 
     /// How the call ends with this outcome, after this search for a server where there was one.
@@ -70,54 +62,37 @@ impl Slot {
         outcome.map_err(|kind| {
             let error = Error::about(self.node(), kind);
             match search {
-                Some(search) => error.after(search, self.asked_at.elapsed()),
+                Some(search) => error.after(search, self.at.elapsed()),
                 None => error,
             }
         })
     }
 
-    /// Puts the answer there, after this search for a server if there was one. Nobody takes it before it is told.
-    pub(crate) fn put(&self, outcome: Outcome, search: Option<&Search>) {
-        let ending = self.ending(outcome, search);
-        self.stage().ending = Some(ending);
+    /// What the call was about, what has come of it by this ending, and the time since it was asked.
+    pub(crate) fn came(
+        &self,
+        ending: &CallResult,
+        now: Instant,
+    ) -> (CallKind, CallOutcome, Duration) {
+        let outcome = CallOutcome::of(ending.as_ref().err().map(Error::kind));
+        (self.kind, outcome, now.saturating_duration_since(self.at))
     }
 
-    /// What the call was about, what has come of it by the answer that is not told yet, and the time since it was asked.
-    pub(crate) fn came(&self, now: Instant) -> (CallKind, CallOutcome, Duration) {
-        let stage = self.stage();
-        let ending = stage.ending.as_ref();
-        let error = ending.and_then(|ending| ending.as_ref().err());
-        let outcome = CallOutcome::of(error.map(Error::kind));
-        let took = now.saturating_duration_since(self.asked_at);
-        (self.kind, outcome, took)
-    }
-
-    /// What is observed of the call by that answer.
-    pub(crate) fn observed(&self, now: Instant) -> Observation {
-        let (kind, outcome, took) = self.came(now);
-        let stage = self.stage();
-        let ending = stage.ending.as_ref();
-        let error = ending.and_then(|ending| ending.as_ref().err());
-        let found = ending.and_then(|ending| ending.as_ref().ok());
+    /// What is observed of the call by that ending.
+    pub(crate) fn observed(&self, ending: &CallResult, now: Instant) -> Observation {
+        let (kind, outcome, took) = self.came(ending, now);
+        let path = self.node().map(String::from);
+        let (code, zxid) = match ending {
+            Ok(found) => (None, found.zxid),
+            Err(error) => (error.code(), 0),
+        };
         Observation::Answered {
             kind,
-            path: self.node().map(String::from),
+            path,
             outcome,
-            code: error.and_then(Error::code),
-            zxid: found.map_or(0, |found| found.zxid),
+            code,
+            zxid,
             took,
-        }
-    }
-
-    /// The answer may be taken: wakes who waits for it.
-    pub(crate) fn tell(&self) {
-        let mut stage = self.stage();
-        stage.is_told = true;
-        let waker = stage.waker.take();
-        drop(stage);
-        self.answered.notify_all();
-        if let Some(waker) = waker {
-            waker.wake();
         }
     }
 
@@ -130,9 +105,59 @@ impl Slot {
         self.has_node.then_some(self.path.as_str())
     }
 
-    /// When the call was asked.
-    pub(crate) fn asked_at(&self) -> Instant {
-        self.asked_at
+    /// When that was.
+    pub(crate) fn at(&self) -> Instant {
+        self.at
+    }
+}
+
+/// Where the answer to a call is put.
+#[derive(Debug)]
+pub(crate) struct Slot {
+    call: AskedCall,
+    stage: Mutex<Stage>,
+    answered: Notify,
+}
+
+impl Slot {
+    /// Of this call, which is asked now at this path.
+    pub(crate) fn new(path: String, call: &Call) -> Arc<Slot> {
+        Arc::new(Slot {
+            call: AskedCall::now(path, call),
+            stage: Mutex::default(),
+            answered: Notify::default(),
+        })
+    }
+
+    pub(crate) fn call(&self) -> &AskedCall {
+        &self.call
+    }
+
+    fn stage(&self) -> MutexGuard<'_, Stage> {
+        self.stage.lock().unwrap_or_else(PoisonError::into_inner)
+    }
+
+    /// Puts the answer there, after this search for a server if there was one. Nobody takes it before it is told.
+    pub(crate) fn put(&self, outcome: Outcome, search: Option<&Search>) {
+        let ending = self.call.ending(outcome, search);
+        self.stage().ending = Some(ending);
+    }
+
+    /// Looks at the answer that is put there and is not told yet.
+    pub(crate) fn with_ending<R>(&self, look: impl FnOnce(&CallResult) -> R) -> Option<R> {
+        self.stage().ending.as_ref().map(look)
+    }
+
+    /// The answer may be taken: wakes who waits for it.
+    pub(crate) fn tell(&self) {
+        let mut stage = self.stage();
+        stage.is_told = true;
+        let waker = stage.waker.take();
+        drop(stage);
+        self.answered.notify_all();
+        if let Some(waker) = waker {
+            waker.wake();
+        }
     }
 
     pub(crate) fn answered(&self) -> bool {
@@ -268,7 +293,7 @@ impl<T> Ticket<T> {
                 return ending;
             }
             if until.is_some_and(|until| until <= Instant::now()) {
-                return self.slot.ending(Err(ErrorKind::TimedOut), None);
+                return self.slot.call.ending(Err(ErrorKind::TimedOut), None);
             }
             self.limit.expire();
         }

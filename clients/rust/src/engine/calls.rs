@@ -39,16 +39,39 @@ impl Engine {
         limit: Option<Duration>,
         slot: &Arc<Slot>,
     ) -> Wait {
+        let ticket = self.calls.begin(Arc::clone(slot));
+        self.ask_by(now, ticket, call, limit, slot.call().path())
+    }
+
+    /// The same, at this path, of a session that asks one call at a time. Its answer waits to be taken.
+    pub(crate) fn ask_alone(
+        &mut self,
+        now: Moment,
+        call: Call,
+        limit: Option<Duration>,
+        path: &str,
+    ) {
+        let ticket = self.calls.begin_alone();
+        self.ask_by(now, ticket, call, limit, path);
+    }
+
+    fn ask_by(
+        &mut self,
+        now: Moment,
+        ticket: u64,
+        call: Call,
+        limit: Option<Duration>,
+        path: &str,
+    ) -> Wait {
         let until = self.limit_of(&call, limit, now);
         let wait = Wait {
             until,
             is_to_wake: self.outbox.is_none(),
         };
-        let ticket = self.calls.begin(Arc::clone(slot));
         let of_backlog = || self.refusal_of_backlog(&call);
         let put = match self.refusal_of_all().or_else(of_backlog) {
             Some(refusal) => Err(refusal),
-            None => self.put(self.before_due(now), ticket, until, slot.path(), call),
+            None => self.put(self.before_due(now), ticket, until, path, call),
         };
         if let Err(kind) = put {
             self.calls.end(ticket, Err(kind));
@@ -101,7 +124,7 @@ impl Engine {
         if matches!(call, CoreCall::Close) {
             self.closing = Some(ticket);
         }
-        self.step(now, |machine, now| {
+        self.plain_step(now, until, |machine, now| {
             call.ask(machine, now, ticket, until, &path)
         })?;
         Ok(())
@@ -118,7 +141,7 @@ impl Engine {
         let body = call.spell(path, &self.chroot)?;
         let operation = call.operation();
         self.calls.is_read_by(ticket, call);
-        self.step(now, |machine, now| {
+        self.plain_step(now, until, |machine, now| {
             machine.raw(now, ticket, Some(until), operation, &body)
         })?;
         Ok(())

@@ -1,6 +1,6 @@
 //! The connection: attempts to make one, what it brings, and its end.
 
-use super::{Attempt, Engine, Phase};
+use super::{Attempt, Engine, Phase, NEVER};
 use crate::connection::Outgoing;
 use crate::fault::Fault;
 use crate::machine::Machine;
@@ -79,7 +79,7 @@ impl Engine {
         };
         let actions = self.machine.bytes(now, &came);
         let taken = actions.and_then(|actions| self.dispatcher.dispatch(actions));
-        self.note_deadline();
+        self.note_plain_step(now, NEVER);
         // Nothing is due at this moment, so the machine does not leave for a missing answer.
         self.dispatcher.lacks_no_answer();
         if taken.is_err() {

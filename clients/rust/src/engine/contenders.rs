@@ -84,6 +84,10 @@ impl Contenders {
         mem::take(&mut self.is_news)
     }
 
+    pub(crate) fn is_empty(&self) -> bool {
+        self.all.is_empty()
+    }
+
     /// Notes what is told of the contender of this ticket.
     pub(crate) fn update(&mut self, ticket: u64, update: ContenderUpdate) {
         self.is_news = true;

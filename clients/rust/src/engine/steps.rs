@@ -20,7 +20,7 @@ impl Engine {
 
     /// The same, at this moment. If something is due by then, it is the last moment before: the server's answer may be there, unread.
     pub(super) fn before_due(&self, now: Moment) -> Moment {
-        if self.outbox.is_some() {
+        if self.outbox.is_some() && !self.deadline.is_after(now) {
             return now.min(self.deadline().before());
         }
         now
@@ -33,12 +33,42 @@ impl Engine {
     {
         let actions = step(&mut self.machine, now);
         let taken = actions.and_then(|actions| self.dispatcher.dispatch(actions));
-        self.note_deadline();
+        self.deadline.forget();
         self.settle(now, taken)
+    }
+
+    /// The same of a call that waits to this moment at most, or of bytes.
+    pub(super) fn plain_step<F>(&mut self, now: Moment, until: Moment, step: F) -> Result<(), Fault>
+    where
+        F: for<'a> FnOnce(&'a mut Machine, Moment) -> Result<Actions<'a>, Fault>,
+    {
+        let actions = step(&mut self.machine, now);
+        let taken = actions.and_then(|actions| self.dispatcher.dispatch(actions));
+        self.note_plain_step(now, until);
+        self.settle(now, taken)
+    }
+
+    /// The machine has taken a call that waits to this moment at most, or bytes.
+    pub(super) fn note_plain_step(&mut self, now: Moment, until: Moment) {
+        if self.dispatcher.update.is_some() {
+            return self.deadline.forget();
+        }
+        let timeout = self.machine.timeout();
+        self.deadline.note_plain_step(now, timeout, until);
     }
 
     /// Does what the machine has said at a step, in its order. It closes the connection if the machine says so, or has halted.
     pub(super) fn settle(&mut self, now: Moment, taken: Result<(), Fault>) -> Result<(), Fault> {
+        let is_plain = self.dispatcher.update.is_none() && self.recorder.is_none();
+        if is_plain && taken.is_ok() && !self.is_over() && self.contenders.is_empty() {
+            self.send();
+            return self.hand_out_answers();
+        }
+        self.settle_all(now, taken)
+    }
+
+    /// The same after a step that has changed the session, or failed, or is recorded.
+    fn settle_all(&mut self, now: Moment, taken: Result<(), Fault>) -> Result<(), Fault> {
         if let Some(recorder) = &mut self.recorder {
             recorder.at(now);
         }
@@ -53,10 +83,7 @@ impl Engine {
             self.take_on(now, update);
         }
         self.send();
-        if self.end_answered() {
-            self.ending = Some(ConnectionEnd::Unreadable);
-            self.end()?;
-        }
+        self.hand_out_answers()?;
         for (place, code) in update.map_or_else(Vec::new, |update| update.credentials) {
             self.credential_answered(place, code);
         }
@@ -159,6 +186,15 @@ impl Engine {
             self.phase = phase;
             self.hang_up();
         }
+    }
+
+    /// Hands out answers. Where one does not parse, the connection ends.
+    fn hand_out_answers(&mut self) -> Result<(), Fault> {
+        if self.end_answered() {
+            self.ending = Some(ConnectionEnd::Unreadable);
+            return self.end();
+        }
+        Ok(())
     }
 
     /// Hands out answers. Whether one does not parse, so that the connection has to end: its call may have happened.
