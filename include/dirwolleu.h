@@ -33,6 +33,8 @@
  *   - each call is answered once or times out once, and each subject that is followed is kept good, or is being read, or its
  *     turn has not come (960 others are being read, or 1,024 calls are on their way; no call is sent while it could be read), or its read was
  *     refused and is made again, or no server has accepted the connection;
+ *   - what is followed by a ticket is what the program follows by it and what DW_KIND_MEMBER_ADDED has told of it and DW_KIND_MEMBER_REMOVED has not
+ *     taken back, and nothing else, unless one step has both; and the trees are those that the program follows;
  *   - a contender that holds, by dw_session_held, does so by a listing that its session was answered, if the tickets are as that function says;
  *   - each function returns, whatever bytes a server sends.
  * If memory runs out within a step, that an answer is good, that nothing is kept after an end, and that functions return still hold. The rest is proved of
