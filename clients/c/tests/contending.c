@@ -6,7 +6,10 @@
 
 #include <string.h>
 
-enum { SIDES = 3, TIMEOUT_MS = 9000, TICKET = 7, LISTING = 8, MOST_ROUNDS = 4000, REQUESTS = 12, ROOM = 1 << 16 };
+enum { SIDES = 3, TIMEOUT_MS = 9000, TICKET = 7, LISTING = 8, TREE = 9, SUBJECT = 10, MOST_MEMBERS = 64, MOST_ROUNDS = 4000, REQUESTS = 12, ROOM = 1 << 16 };
+
+#define FIRST_NODE (1ULL << 63) /* of the tickets of trees' nodes, and of those of contenders' calls */
+#define FIRST_OWN (3ULL << 62)
 
 static const char DIRECTORY[] = "/locks/job", GUIDS[SIDES][33] = {
     "00112233445566778899aabbccddeeff", "ffeeddccbbaa99887766554433221100", "0f1e2d3c4b5a69788796a5b4c3d2e1f0"};
@@ -26,6 +29,8 @@ static int64_t last_token;
 static int most = 1; /* hold at once */
 static int left; /* after this number of requests the connection of the first side is cut, if it is not below 0 */
 static uint8_t room[ROOM];
+static uint64_t members[MOST_MEMBERS], last_member; /* of the tree of the first side, by tickets that rise */
+static size_t member_count;
 
 static void expect_ok(enum dw_result result)
 {
@@ -58,6 +63,25 @@ static void note(struct side *side, const dw_output *output)
     }
 }
 
+/* A side of a node is taken on by a ticket that no other had and no call of a contender has, and who is let go was there. */
+static void note_member(const dw_output *output)
+{
+    size_t place = 0;
+    EXPECT_NUMBER(TREE, (int)output->tree);
+    if (output->kind == DW_KIND_MEMBER_ADDED) {
+        EXPECT(output->ticket == TREE ? member_count == 0 : output->ticket >= FIRST_NODE && output->ticket > last_member);
+        EXPECT(output->ticket < FIRST_OWN && member_count < MOST_MEMBERS);
+        last_member = output->ticket == TREE ? last_member : output->ticket;
+        members[member_count++] = output->ticket;
+        return;
+    }
+    while (place < member_count && members[place] != output->ticket) {
+        place++;
+    }
+    EXPECT(place < member_count);
+    members[place] = members[--member_count];
+}
+
 /* Does what was said. Whether there was something. */
 static bool do_all(struct side *side)
 {
@@ -75,6 +99,8 @@ static bool do_all(struct side *side)
             EXPECT_NUMBER(LISTING, output.ticket);
             side->names = output.names;
             side->is_answered = true;
+        } else if (output.kind == DW_KIND_MEMBER_ADDED || output.kind == DW_KIND_MEMBER_REMOVED) {
+            note_member(&output);
         } else if (output.kind >= DW_KIND_WAITS) {
             note(side, &output);
         }
@@ -280,6 +306,31 @@ static void mix_names(void)
     mix(DW_NAMING_CURATOR_READER, DW_NAMING_KAZOO);
 }
 
+/* A session that calls, follows a subject and a tree with its place, and holds, meets the premise of `held_for_life`: its tickets are below those of
+ * contenders' calls. What was told of the tree is what is let go with it. */
+static void follow_beside(void)
+{
+    do_all(&sides[0]);
+    expect_ok(dw_session_follow_tree(&sides[0].session, now_ms, TREE, "/locks", 6, MOST_MEMBERS));
+    do_all(&sides[0]);
+    expect_ok(dw_session_follow_names(&sides[0].session, now_ms, SUBJECT, DIRECTORY, strlen(DIRECTORY)));
+    contend(&sides[0], DW_NAMING_KAZOO);
+    go_on_until(&sides[0], DW_KIND_HOLDS);
+    contend(&sides[1], DW_NAMING_KAZOO);
+    go_on_until(&sides[1], DW_KIND_WAITS);
+    EXPECT_NUMBER(2, count_names(&sides[0]));
+    EXPECT(member_count > 4);
+    give_up(&sides[0]);
+    go_on_until(&sides[1], DW_KIND_HOLDS);
+    EXPECT_NUMBER(1, count_names(&sides[0]));
+    give_up(&sides[1]);
+    do_all(&sides[0]);
+    expect_ok(dw_session_unfollow_tree(&sides[0].session, now_ms, TREE));
+    do_all(&sides[0]);
+    EXPECT_NUMBER(0, (int)member_count);
+    expect_ok(dw_session_unfollow(&sides[0].session, now_ms, SUBJECT));
+}
+
 static void refuse(void)
 {
     dw_session none = {0};
@@ -328,6 +379,7 @@ int main(void)
     read_together();
     lease();
     mix_names();
+    follow_beside();
     close_session();
     for (int i = 0; i < SIDES; i++) {
         dw_session_free(&sides[i].session);

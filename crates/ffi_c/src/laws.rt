@@ -39,11 +39,11 @@ pub fn held_for_life()
 {}
 
 /// Whoever took a session's handle of zeros, used it by the functions of this library alone, one after the other and whatever they
-/// answered, and has a session in it within whose steps memory never ran out, has one that follows by each ticket what was told: what the
-/// program follows by it, and what of a tree was told to be taken on by it, and not let go since; nothing else, in this order (`told`). That
-/// is so of a ticket by which in no step both happen, as of one that a program uses for its subjects alone, or for trees alone (`apart`). And
-/// the session has the trees that were asked for, with their roots and bounds, and no other. By `sound_for_life` each of these is kept good,
-/// or is being read, or why not.
+/// answered, and has a session in it within whose steps memory never ran out, has one that follows by each ticket what was told: what
+/// the program follows by it, and what of a tree was told to be taken on by it, and not let go since; nothing else, in this order
+/// (`told`). That is so of a ticket by which in no step both happen, as of one that a program uses for its subjects alone, or for trees
+/// alone (`apart`). And the session has the trees that were asked for, with their roots and bounds, and no other. By `sound_for_life`
+/// each of these is kept good, or is being read, or why not.
 pub fn told_for_life()
     ensures told { ToldForLife }
     ensures apart { OneHandIsApart }
