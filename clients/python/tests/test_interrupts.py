@@ -236,7 +236,7 @@ class EndTest(InterruptedCase):
         self.is_armed = True
         with self.on_alarm(self.interrupt):
             with self.assertRaises(KeyboardInterrupt):
-                signal.setitimer(signal.ITIMER_REAL, 0.2)
+                signal.setitimer(signal.ITIMER_REAL, 1)
                 client.create("/a")
         partner.do("up")
         client.create("/b")
