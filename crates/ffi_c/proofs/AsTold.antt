@@ -1,6 +1,6 @@
 -- What a session follows, use by use: what was asked for and told, and the trees that were asked for.
-use Rattle.std.proofs.Common.{◌≡◌, ◌∷◌, ℕ, zero, suc, ℤ, pos, negsuc, true, false, List, [], Option, Some, None, inl, inr, refl, sym, ap, subst, ◌∙◌}
-use Rattle.std.proofs.Common.{true≢false}
+use Rattle.std.proofs.Common.{◌≡◌, ◌∷◌, ℕ, zero, suc, ℤ, pos, negsuc, true, false, List, [], Option, Some, None}
+use Rattle.std.proofs.Common.{inl, inr, refl, sym, ap, subst, ◌∙◌, true≢false}
 use Rattle.std.specs.Prelude.{Result, Ok, Err, unsigned_abs}
 use Rattle.std.specs.declared.alloc.Global.{Global}
 use Rattle.zk_nodes.specs.Path.{Text}

@@ -33,8 +33,8 @@ use Rattle.zk_agent.specs.declared.action.Action.TheVariants as action
 use Rattle.zk_agent.specs.declared.agent.Agent.{Agent}
 use Rattle.zk_agent.specs.declared.input.AgentInput.{AgentInput}
 use Rattle.zk_agent.specs.declared.input.AgentInput.TheVariants as input
-use Rattle.zk_agent.specs.Agents.{Trail, Move, Hears, Hands, Renews, Follows, Unfollows, Asks, GivesUp, Tires, Opened, Ended, HungUp, Closes}
-use Rattle.zk_agent.specs.Agents.{Addressed, Decides, Tends, Presents, Does, HearsSo, LeavesWhere, LetsGoWhere}
+use Rattle.zk_agent.specs.Agents.{Trail, Move, Hears, Hands, Renews, Follows, Unfollows, Asks, GivesUp, Tires, Opened, Ended, HungUp}
+use Rattle.zk_agent.specs.Agents.{Closes, Addressed, Decides, Tends, Presents, Does, HearsSo, LeavesWhere, LetsGoWhere}
 use Rattle.zk_agent.specs.Agents.{bytes_at, given_of, is_given, judging_in, leaves_with, left_at, moves_of, opened_at, papers_in, trail_of}
 use Rattle.zk_agent.specs.Calls.{answers, closings, endings, handed, hears, tells, tells_all}
 use Rattle.zk_agent.specs.Credentials.{unwritten}
@@ -237,7 +237,8 @@ module _ {A : Type 0} where
         other : has its subject ≡ true → has ticket subject ≡ false
         other e = subst (λ n. (n == ticket) ≡ false) (sym (eqb-true subject.ticket its e)) apart
 
-        first : (b : Bool) → map aim_of left ≡ map aim_of all → map aim_of (cond b (subject ∷ left) left) ≡ map aim_of (cond b (subject ∷ all) all)
+        first : (b : Bool) → map aim_of left ≡ map aim_of all
+            → map aim_of (cond b (subject ∷ left) left) ≡ map aim_of (cond b (subject ∷ all) all)
         first true rest = ap (λ t. aim_of subject ∷ t) rest
         first false rest = rest
 
@@ -335,7 +336,8 @@ module _ {A : Type 0} where
 
   tells_one : (move : Move) (old new : Trail A) → Does old move new → trees_in new.told ≡ trees_in old.told ++ tends_of move
   tells_one (Hears now given) old new does =
-      still old new (leaves_told does.hears.heard.is_lost now does.between new does.leaves ∙ heard_told now given old does.between does.hears)
+      still old new
+      (leaves_told does.hears.heard.is_lost now does.between new does.leaves ∙ heard_told now given old does.between does.hears)
   tells_one (Hands now its asked) old new does = still old new (heard_told now (turns.Call its asked) old new does)
   tells_one Renews old new does =
       still old new (told_more (old.told ++ endings ending.Expired old.line) (Begins ∷ []) new.told does.told refl

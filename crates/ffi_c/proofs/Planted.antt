@@ -131,7 +131,8 @@ module _ {A : Type 0} where
   behind_or_not false tree = refl
 
   notes_one : (one : Action A) (trees : List (Tree A)) → plants_in (noted_in trees one) ≡ plants_in trees
-  notes_one (action.Shown ticket) trees = noted_like (noted_shown ticket) (λ tree. behind_or_not (has_ticket ticket tree.members.items) tree) trees
+  notes_one (action.Shown ticket) trees =
+      noted_like (noted_shown ticket) (λ tree. behind_or_not (has_ticket ticket tree.members.items) tree) trees
   notes_one (action.Report path side event) trees =
       noted_like (noted_report (string_bytes path)) (λ tree. behind_or_not (starts_with nat_eq (string_bytes path) tree.root) tree) trees
   notes_one _ trees = refl

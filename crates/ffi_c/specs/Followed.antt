@@ -1,5 +1,6 @@
 -- What a session follows, by its tickets and in its trees: what was asked for and told, use by use.
-use Rattle.std.specs.Prelude.{◌≡◌, ◌⊎◌, ◌==◌, ◌++◌, ◌∷◌, ⊤, ℕ, zero, pos, Bool, true, false, List, [], map, fold, Option, Some, if◌then◌else◌}
+use Rattle.std.specs.Prelude.{◌≡◌, ◌⊎◌, ◌==◌, ◌++◌, ◌∷◌, ⊤, ℕ, zero, pos, Bool, true, false, List, []}
+use Rattle.std.specs.Prelude.{map, fold, Option, Some, if◌then◌else◌}
 use Rattle.std.specs.List.{filter, AllByRecursion}
 use Rattle.zk_nodes.specs.Path.{Text}
 use Rattle.zk_nodes.specs.declared.side.Side.{Side}
@@ -122,8 +123,8 @@ pub record IsAsTold (uses : List Used) (session : Device) : Type 0 where
       → followed_by ticket session.agent.asker.follower.subjects.items ≡ known ticket uses
   pub trees : plants_in session.agent.trees.all.items ≡ planted uses
 
--- THE law of what a session follows: whoever made it by these functions alone, whatever they answered, and has one within whose steps memory
--- never ran out, has one that follows what was told.
+-- THE law of what a session follows: whoever made it by these functions alone, whatever they answered, and has one within whose steps
+-- memory never ran out, has one that follows what was told.
 abbrev pub ToldForLife : Type 0
 ToldForLife = (uses : List Used) (session : Device) → IsLife uses → held_after uses ≡ Some session → session.is_over ≡ false
     → IsAsTold uses session
