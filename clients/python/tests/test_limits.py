@@ -86,7 +86,7 @@ class LimitRules(BothCase):
         asked = list[Asked]()
         server = self.serve(self.ends, self.refuses, self.answers(RAISED, asked))
         client = self.client(server.host, longest_answer=RAISED, longest_request=RAISED)
-        within(lambda: client.stats().expiries == 1)
+        within(lambda: client.stats().expiries == 1 and client.connected)
         for dials in (3, 4):
             self.assertEqual(len(client.get("/a", timeout=WAIT)[0]), RAISED - OF_ANSWER)
             client.set("/a", bytes(RAISED - OF_SET), timeout=WAIT)
