@@ -399,8 +399,7 @@ run_stopped() {
     stop_servers
 }
 
-# Whether a watch that has left the server at this port is connected elsewhere. What it prints till then, attempts that fail too, is passed
-# over.
+# Whether a watch that has left the server at this port is connected elsewhere. What it prints till then is passed over, failed attempts too.
 is_back() {
     local at
     at=$(port_of "$1")
