@@ -1,6 +1,0 @@
--- Which history logs tell.
-pub mod Changes
-pub mod Following
-pub mod UntoldText
-pub mod Made
-pub mod Ended
