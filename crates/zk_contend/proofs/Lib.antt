@@ -11,6 +11,7 @@ pub mod Wishes
 pub mod Watches
 pub mod Acls
 pub mod Listings
+pub mod Waiting
 pub mod Rolls
 pub mod Stirring
 pub mod Moments

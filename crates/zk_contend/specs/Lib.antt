@@ -12,4 +12,5 @@ pub mod Tickets
 pub mod Collections
 pub mod Nodes
 pub mod Listings
+pub mod Waiting
 pub mod inner

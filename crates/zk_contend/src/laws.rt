@@ -7,6 +7,7 @@ ghost use Rattle.zk_contend.specs.Leases.{AmongStays, LeaseIsTrue, OneIsFirst};
 ghost use Rattle.zk_contend.specs.Listings.{ListingsAreHeard};
 ghost use Rattle.zk_contend.specs.Nodes.{GivenUpAsks, NothingIsLeft, OneIsThere};
 ghost use Rattle.zk_contend.specs.Standings.{HeldIsTrue};
+ghost use Rattle.zk_contend.specs.Waiting.{WaitsQuietly};
 
 use std::alloc::Allocator;
 
@@ -36,6 +37,13 @@ pub fn listings_are_heard<A: Allocator>()
 /// watch.
 pub fn rivals<A: Allocator>()
     ensures { WatchesOne A }
+{}
+
+/// While a contender waits it asks for nothing but reads of its place and of those for which it waits, and for one of these only if the
+/// client does not show it ([`rivals`]); until one of them is reported deleted, or is read and not there or not for this session, memory
+/// runs out, or it is given up or its session is over. So no other change in the directory has it ask anything: there is no herd.
+pub fn waits_quietly<A: Allocator>()
+    ensures { WaitsQuietly A }
 {}
 
 /// Through any calls, losses, reports, expiries and failures of memory: while a contender knows its place, no other node of it is there
