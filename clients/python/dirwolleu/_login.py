@@ -57,12 +57,14 @@ class Login:
         return frames[:end]
 
     def take(self, data: bytes) -> Progress:
-        """Bytes came. What does not read is for the session to judge. Raises `Failed`."""
+        """Bytes came. What does not read before the server has accepted the session is for the session to judge. Raises `Failed`."""
         self._came += data
         frames = b""
         while len(self._came) >= 4:
             end = 4 + int.from_bytes(self._came[:4], "big", signed=True)
             if not 4 <= end <= _LONGEST:
+                if self._kept:
+                    raise Failed("the server sends what is no frame")
                 return self._end(frames)
             if len(self._came) < end:
                 break
@@ -83,9 +85,8 @@ class Login:
             return b""
         try:
             token = self._answer(frame[4:])
-        except Malformed:
-            self._kept += frame
-            return None
+        except Malformed as error:
+            raise Failed("the server's answer does not read") from error
         return None if token is None else self._ask(token)
 
     def _is_accepted(self, frame: bytes) -> bool:

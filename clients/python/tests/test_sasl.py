@@ -11,7 +11,7 @@ from support import PASSWORD, TIMEOUT, WAIT, Asked, PartnerCase, Peer, buffer, f
 
 import dirwolleu
 from dirwolleu import aio
-from dirwolleu._login import Login
+from dirwolleu._login import Failed, Login
 from dirwolleu.kazoo.client import KazooClient
 from dirwolleu.kazoo.exceptions import AuthFailedError as KazoosAuthFailedError
 from dirwolleu.sasl import _DigestMd5, digest_md5
@@ -177,6 +177,17 @@ class SaslTest(PartnerCase):
         written = b"".join(sends)
         self.assertEqual(struct.unpack(">iiii", written[:16]), (12, -1001, LOG_IN, 0))
         self.assertEqual(struct.unpack(">ii", written[20:28]), (-1002, LOG_IN))
+
+    def test_what_does_not_read_ends_the_log_in(self) -> None:
+        connected = struct.pack(">iiiq", 36, 0, 6000, 7) + PASSWORD
+        for came, words in (
+            (b"\xff" * 8, "the server sends what is no frame"),
+            (framed(struct.pack(">iqi", -1001, 0, 0) + b"\0\0\0\7x"), "the server's answer does not read"),
+        ):
+            login = Login(digest_md5("app", "secret"))
+            login.take(connected)
+            with self.subTest(words), self.assertRaisesRegex(Failed, words):
+                login.take(came)
 
     def test_a_session_that_is_over_needs_no_log_in(self) -> None:
         connections = []
