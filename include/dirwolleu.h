@@ -158,12 +158,12 @@ enum dw_side DW_AS_INT32 { DW_SIDE_DATA = 1, DW_SIDE_CHILDREN = 2 };
 /* A reply, or why there is none: K1 to K7. */
 enum dw_outcome DW_AS_INT32 {
   DW_OUTCOME_REPLIED = 0,
-  DW_OUTCOME_LOST = 1, /* the connection was: the call may or may not have happened. With those below, nothing was sent */
+  DW_OUTCOME_LOST = 1, /* the connection was: the call may or may not have happened. With those below, nothing has changed */
   DW_OUTCOME_EXPIRED = 2, /* the session has expired */
   DW_OUTCOME_CLOSED = 3, /* it is closed, or a call that closes it waits */
   DW_OUTCOME_NOT_CONNECTED = 4,
   DW_OUTCOME_TOO_MANY_WATCHES = 5, /* 65,536 paths of the side are watched, with the reads that wait */
-  DW_OUTCOME_TOO_LARGE = 6, /* the request is longer than the session may send */
+  DW_OUTCOME_TOO_LARGE = 6, /* the request, or the answer to a read, is longer than the session allows */
   DW_OUTCOME_TOO_MANY_PENDING = 7 /* 1,024 calls wait */
 };
 
@@ -180,7 +180,7 @@ enum dw_cause DW_AS_INT32 {
 enum dw_refusal DW_AS_INT32 {
   DW_REFUSAL_CODE = 1, /* by the server, with a code */
   DW_REFUSAL_TOO_MANY_WATCHES = 2, /* 65,536 paths of the side are watched */
-  DW_REFUSAL_TOO_LARGE = 3, /* the path is too long for a request */
+  DW_REFUSAL_TOO_LARGE = 3, /* the request or its answer is longer than the session allows */
   DW_REFUSAL_CLOSED = 4, /* the session is being closed */
   DW_REFUSAL_NUMBERS_USED_UP = 5, /* of a contender: the directory has had 2,147,483,647 names */
   DW_REFUSAL_MIXED_NAMES = 6 /* of a contender: a name of another family is there. Give it up: no place of its own stays */
@@ -220,7 +220,8 @@ enum dw_code DW_AS_INT32 {
  *   DW_KIND_RENEWED   the session has expired, with its ephemeral nodes, and another one begins. What is followed is read again.
  *   DW_KIND_SHOWN     what is kept of the subject with this ticket is good: look it up. It was not, or its path was reported since.
  *   DW_KIND_REFUSED   a read of the subject with this ticket was refused: refusal says why, with the code of DW_REFUSAL_CODE. It is read
- *                     again after a second, and this is told once for each new reason.
+ *                     again after a second, and over each new connection, which an answer that is too long ends again: let such a one go.
+ *                     This is told once for each new reason.
  * It says these of trees, each in its place among the others:
  *   DW_KIND_MEMBER_ADDED  a side of a node is followed for the tree with the ticket tree, by this ticket: side; the text is the path.
  *   DW_KIND_MEMBER_REMOVED    what this ticket follows for that tree is followed no more: there is no such node, or the tree is followed no more.
@@ -299,7 +300,7 @@ enum dw_result dw_session_resume(dw_session *handle, int32_t timeout_ms, size_t 
 
 /* The same as dw_session_open, with limits of its own for the payloads of frames, in bytes: the most that comes, at least 4,194,304, and the most that
  * is sent, at least 1,048,575, which are those of every other session. Neither may be above 1,073,741,823. Raise them together with the servers'
- * jute.maxbuffer: a payload that is longer than the first ends the connection, and a request that is longer than the second is DW_OUTCOME_TOO_LARGE.
+ * jute.maxbuffer: a payload that is longer than the first ends the connection: the read that it answers is DW_OUTCOME_TOO_LARGE, as a request longer than the second is.
  * Also DW_NO_SUCH_LIMITS. */
 enum dw_result dw_session_open_with_limits(dw_session *handle, int32_t timeout_ms, size_t addresses, uint64_t seed,
                                            size_t incoming, size_t outgoing);
@@ -696,7 +697,7 @@ static inline const char *dw_outcome_words(enum dw_outcome outcome) {
   case DW_OUTCOME_CLOSED: return "the session is closed";
   case DW_OUTCOME_NOT_CONNECTED: return "no server has accepted the session";
   case DW_OUTCOME_TOO_MANY_WATCHES: return "65536 paths are watched";
-  case DW_OUTCOME_TOO_LARGE: return "the request is longer than the session may send";
+  case DW_OUTCOME_TOO_LARGE: return "the request or its answer is longer than the session allows";
   case DW_OUTCOME_TOO_MANY_PENDING: return "1024 calls wait for their reply";
   }
   return "there is no reply, for a reason that the header does not have";

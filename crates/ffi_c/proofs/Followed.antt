@@ -22,6 +22,7 @@ use Rattle.zk_follow.specs.declared.progress.Progress.{Progress}
 use Rattle.zk_follow.specs.Following.{due_again, fresh, news_in, taken, told_of as heard_of, unfollowed, AreVisited, IsVisited, Visits}
 use Rattle.zk_follow.proofs.Finding.{visit_keeps}
 use Rattle.zk_follow.proofs.Hearing.{all_same_path, all_same_side, all_same_ticket}
+use Rattle.zk_follow.specs.Refusing.{too_long_for}
 use Rattle.zk_calls.specs.declared.entry.Entry.{Entry}
 use Rattle.zk_calls.specs.declared.entry.Ended.{Ended as Ended_call}
 use Rattle.zk_calls.specs.declared.entry.Ending.{Ending}
@@ -39,7 +40,9 @@ use Rattle.zk_agent.specs.Agents.{bytes_at, given_of, is_given, judging_in, leav
 use Rattle.zk_agent.specs.Calls.{answers, closings, endings, handed, hears, tells, tells_all}
 use Rattle.zk_agent.specs.Credentials.{unwritten}
 use Rattle.zk_agent.specs.Telling.{Told, Says, HangsUp, Begins, Introduces, TellsTree, action_view, closed_told, due_told, ended_told}
+use Rattle.zk_agent.specs.Overlong.{refused_by, too_long_in, with_too_long}
 use Rattle.zk_agent.specs.Telling.{judged_told, news_told, told_by}
+use Rattle.zk_agent.proofs.Oversized.{refused_same}
 use Rattle.ffi_device.specs.Chains.{IsOwn, IsOwnAnswer, Part, TellsAllBut, TookAll}
 use Rattle.ffi_device.specs.Happenings.{Happening, happening}
 use Rattle.ffi_device.specs.Happenings as happens
@@ -165,6 +168,11 @@ module _ {A : Type 0} where
   mapped_like f same (subject ∷ subjects) =
       ap (λ one. one ∷ map key (map f subjects)) (same subject) ∙ ap (λ t. key subject ∷ t) (mapped_like f same subjects)
 
+  refused_like : (now : ℕ) (found : Option ℕ) (subjects : List (Subject A)) → map key (refused_by now found subjects) ≡ map key subjects
+  refused_like now None subjects = refl
+  refused_like now (Some its) subjects =
+      mapped_like (too_long_for now its) (refused_same key (λ subject progress. refl) now its) subjects
+
   visit_side : (now : ℕ) (subject new : Subject A) → IsVisited now subject new → new.side ≡ subject.side
   visit_side now subject new visited = by visited.3
     where
@@ -270,6 +278,7 @@ module _ {A : Type 0} where
     heard_same : (now : ℕ) (given : Input) (old new : Trail A) → HearsSo now given old new → followed_in new ≡ followed_in old
     heard_same now given old new does =
         followed_like ticket old.subjects new.subjects (ap (map key) does.takes.subjects
+        ∙ refused_like now (too_long_in does.takes.given) (map (heard_of new.view) does.takes.stepped)
         ∙ mapped_like (heard_of new.view) (λ subject. refl) does.takes.stepped
         ∙ visited_like now (does.takes.steps.first ++ does.takes.steps.second) old.subjects does.takes.stepped does.takes.steps.count
         does.takes.steps.visited)
@@ -319,10 +328,11 @@ module _ {A : Type 0} where
       ∙ told_more (old.told ++ said) (map news_told (flat_map (news_in new.view does.takes.given) does.takes.stepped)) does.told
       does.takes.told
       (no_trees news_told (λ one. refl) (flat_map (news_in new.view does.takes.given) does.takes.stepped))
-      ∙ told_more old.told said (old.told ++ said) refl (none_tells_all (handed given old.line) does.takes.given)
+      ∙ told_more old.told said (old.told ++ said) refl
+      (none_tells_all (handed given old.line) (with_too_long (handed given old.line) does.takes.given))
     where
       said : List Told
-      said = tells_all (handed given old.line) does.takes.given
+      said = tells_all (handed given old.line) (with_too_long (handed given old.line) does.takes.given)
 
   leaves_told : (is_lost : Bool) (now : ℕ) (old new : Trail A) → LeavesWhere is_lost now old new → trees_in new.told ≡ trees_in old.told
   leaves_told true now old new does = heard_told now turns.Cut old new does

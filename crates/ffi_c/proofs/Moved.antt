@@ -37,9 +37,11 @@ use Rattle.zk_agent.specs.Agents.{bytes_at, given_of, is_given, judging_in, leav
 use Rattle.zk_agent.specs.Calls.{endings, tells_all}
 use Rattle.zk_agent.specs.Credentials.{unwritten}
 use Rattle.zk_agent.specs.Calls as calls
+use Rattle.zk_agent.specs.Overlong.{too_long_in, with_too_long}
 use Rattle.zk_agent.specs.Replies.{is_lost}
 use Rattle.zk_agent.specs.Telling.{Told, Says, HangsUp, Begins, Introduces, TellsTree, closed_told, due_told, ended_told, judged_told}
 use Rattle.zk_agent.specs.Telling.{news_told, told_by}
+use Rattle.zk_agent.proofs.Oversized.{ahead}
 use Rattle.zk_trees.specs.Tending.{shifted, LetsGo, TakesOn, TreeTold}
 use Rattle.zk_dialler.specs.Dialling.{is_open}
 use Rattle.ffi_device.specs.Chains.{first_own}
@@ -101,6 +103,11 @@ told_all line (output ∷ given) before =
     ∙ ap (λ t. fold reported t (tells_all (calls.hears line output) given)) (told_one line output before)
     ∙ told_all (calls.hears line output) given (cond (is_report output) (output ∷ before) before)
 
+-- no report stands ahead of what the client says
+none_ahead : {A : Type 0} (line : List (Entry A)) (given before : List Output) → back before (with_too_long line given) ≡ back before given
+none_ahead line given before =
+    ahead (λ first. back before (first ++ given) ≡ back before given) refl (λ ticket. refl) line (too_long_in given)
+
 let_go_told : {A : Type 0} (is_there : Bool) (timeout now : ℕ) (old new : Dialler A) (before after : List Told) (base : List Output)
     → LetsGoWhere is_there timeout now old new before after → fold reported base after ≡ fold reported base before
 let_go_told true timeout now old new before after base goes =
@@ -152,9 +159,10 @@ module _ {A : Type 0} (timeout : ℤ) (base : List Output) (IsAsked : ℕ → Qu
         sits.stands;
     asks = does.timeout ∙ sits.asks;
     told = let_go_told _ _ now _ new.dialler does.told new.told base does.lets_go ∙ ap (fold reported base) does.takes.told
-        ∙ fold_more reported base (old.told ++ tells_all line given) _ ∙ none_of news_told (λ news before. refl)
-        (flat_map (news_in new.view given) does.takes.stepped) (fold reported base (old.told ++ tells_all line given))
-        ∙ fold_more reported base old.told (tells_all line given) ∙ told_all line given (fold reported base old.told)
+        ∙ fold_more reported base (old.told ++ tells_all line (with_too_long line given)) _ ∙ none_of news_told (λ news before. refl)
+        (flat_map (news_in new.view given) does.takes.stepped) (fold reported base (old.told ++ tells_all line (with_too_long line given)))
+        ∙ fold_more reported base old.told (tells_all line (with_too_long line given))
+        ∙ told_all line (with_too_long line given) (fold reported base old.told) ∙ none_ahead line given (fold reported base old.told)
         ∙ ap (λ t. back t given) sits.told
         ∙ ap (back (reports_in (outputs_of chapter.items))) (sym (heard_said now input old new does))
         ∙ sym (reports_added (heard_turns now input old new does) chapter.items);
@@ -437,8 +445,8 @@ module _ {A : Type 0} where
 
   hears_first : (now : ℕ) (input : Input) (old new : Trail A) → HearsSo now input old new → AreToldBelow new.told → AreToldBelow old.told
   hears_first now input old new does all =
-      each_first old.told (tells_all (calls.handed input old.line) does.takes.given)
-      (each_first (old.told ++ tells_all (calls.handed input old.line) does.takes.given) _
+      each_first old.told (tells_all (calls.handed input old.line) (with_too_long (calls.handed input old.line) does.takes.given))
+      (each_first (old.told ++ tells_all (calls.handed input old.line) (with_too_long (calls.handed input old.line) does.takes.given)) _
       (subst AreToldBelow does.takes.told (let_go_first _ _ now _ new.dialler does.told new.told does.lets_go all)))
 
   leaves_first : (is_lost : Bool) (now : ℕ) (old new : Trail A) → LeavesWhere is_lost now old new → AreToldBelow new.told

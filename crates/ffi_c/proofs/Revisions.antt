@@ -43,8 +43,10 @@ use Rattle.zk_agent.specs.Agents.{Trail, Move, Hears, Hands, Renews, Follows, Un
 use Rattle.zk_agent.specs.Agents.{Closes, Addressed, Decides, Tends, Presents, Does, HearsSo, IsLed, LeavesWhere, LetsGoWhere, given_of}
 use Rattle.zk_agent.specs.Agents.{is_given, leaves_with, left_at, moves_of, opened_at, trail_of}
 use Rattle.zk_agent.specs.Calls.{endings, handed, hears, tells, tells_all}
+use Rattle.zk_agent.specs.Overlong.{too_long_in, with_too_long}
 use Rattle.zk_agent.specs.Telling.{Told, Says, HangsUp, Begins, Introduces, TellsTree, action_view, due_told, judged_told, news_told}
 use Rattle.zk_agent.specs.Telling.{told_by}
+use Rattle.zk_agent.proofs.Oversized.{ahead}
 use Rattle.ffi_device.specs.Chains.{Part, TookAll}
 use Rattle.ffi_device.specs.Happenings.{Happening as What, happening, is_bytes}
 use Rattle.ffi_device.specs.Revisions.{is_another}
@@ -261,6 +263,12 @@ states_told line (output ∷ given) e =
     let parts = parted (tells line output) (tells_all (hears line output) given) e in
     ap (λ b. b || list_any is_state given) (state_told line output parts.0) ∙ states_told (hears line output) given parts.1
 
+-- no state stands ahead of what the client says
+states_ahead : {A : Type 0} (line : List (Entry A)) (given : List Output)
+    → list_any is_state (with_too_long line given) ≡ list_any is_state given
+states_ahead line given =
+    ahead (λ first. list_any is_state (first ++ given) ≡ list_any is_state given) refl (λ ticket. refl) line (too_long_in given)
+
 let_go_told : {A : Type 0} (is_there : Bool) (timeout now : ℕ) (old new : Dialler A) (before after : List Told)
     → LetsGoWhere is_there timeout now old new before after → is_told after ≡ false → is_told before ≡ false
 let_go_told true timeout now old new before after goes e = (parted before (HangsUp ∷ []) (sym (ap is_told goes.1) ∙ e)).0
@@ -303,12 +311,13 @@ heard now input old new does own led = record {
       let given = does.takes.given in
       let news = map news_told (flat_map (news_in new.view given) does.takes.stepped) in
       let all = let_go_told _ _ now _ new.dialler does.told new.told does.lets_go e in
-      let told = parted (old.told ++ tells_all line given) news (sym (ap is_told does.takes.told) ∙ all) in
-      let parts = parted old.told (tells_all line given) told.0 in
+      let told = parted (old.told ++ tells_all line (with_too_long line given)) news (sym (ap is_told does.takes.told) ∙ all) in
+      let parts = parted old.told (tells_all line (with_too_long line given)) told.0 in
       let reads = reads_own does.takes.steps.calls (reads_are old.subjects does.takes.steps.calls does.takes.steps.reads) in (
         parts.0,
         turns_quiet (heard_turns now input old new does) led.0 led.1 old.view new.view does.takes.steps.chain led.2 (tt, (own, reads))
-            (ap (list_any is_state) (heard_said now input old new does) ∙ states_told line given parts.1),
+            (ap (list_any is_state) (heard_said now input old new does) ∙ sym (states_ahead line given)
+            ∙ states_told line (with_too_long line given) parts.1),
       );
 }
 

@@ -13,13 +13,14 @@ use Rattle.zk_conversation.specs.Questions.{Question, question_of}
 use Rattle.zk_conversation.specs.Views.{call_view}
 use Rattle.zk_turns.specs.Meaning.{Among}
 use Rattle.zk_turns.specs.Sent.{outputs_of}
-use Rattle.zk_turns.specs.Turns.{Answer, Call, Drop, Enters, Input, Item, Outcome, Output, Replied, Report, Send, Turn, Turned}
+use Rattle.zk_turns.specs.Turns.{Answer, Call, Drop, Enters, Input, Item, Outcome, Output, Replied, Report, Send, TooLarge, Turn, Turned}
 use Rattle.zk_turns.specs.Turns as turns
 use Rattle.zk_dialler.specs.declared.dialler.Dialler.{Dialler}
 use Rattle.zk_dialler.specs.declared.dialler.DialDue.{DialDue}
 use Rattle.zk_dialler.specs.declared.dialler.DialDue.TheVariants.{Dial, GiveUp}
 use Rattle.zk_follow.specs.declared.news.News.{News}
 use Rattle.zk_follow.specs.declared.subject.Subject.{Subject}
+use Rattle.zk_follow.specs.Refusing.{too_long_for}
 use Rattle.zk_follow.specs.Following.{news_in, read_of, taken, told_of, unfollowed, AreReads, AreVisited}
 use Rattle.zk_follow.proofs.Finding.{visit_keeps}
 use Rattle.zk_follow.proofs.Hearing.{all_same_ticket}
@@ -31,7 +32,9 @@ use Rattle.zk_calls.specs.Lines.{after_answer, answered, ended, ended_of, first_
 use Rattle.zk_calls.specs.Lines.{settles, waits_turn, with_first}
 use Rattle.zk_agent.specs.Agents.{Trail, HearsSo, LetsGoWhere}
 use Rattle.zk_agent.specs.Calls.{answers, closings, endings, handed, hears, hears_all, tells, tells_all}
+use Rattle.zk_agent.specs.Overlong.{refused_by, too_long_in, with_too_long}
 use Rattle.zk_agent.specs.Telling.{Told, Says, HangsUp, Begins, closed_told, due_told, ended_told, news_told}
+use Rattle.zk_agent.proofs.Oversized.{ahead, refused_same}
 use Rattle.ffi_device.specs.Chains.{first_own}
 use Rattle.ffi_c.specs.Pasts.{Chapter, with_turns}
 use Rattle.ffi_c.proofs.Heard.{each_both, AsksSo, ItemAsks}
@@ -125,15 +128,20 @@ due_said said None = tt
 due_said said (Some (Dial place within)) = (tt, tt)
 due_said said (Some GiveUp) = (tt, tt)
 
-tells_said : {A : Type 0} (said : List Output) (entries : List (Entry A)) (output : Output) → Among output said
-    → AllByRecursion (IsSaid said) (tells entries output)
-tells_said said entries (Answer ticket outcome) among =
+answer_said : {A : Type 0} (said : List Output) (entries : List (Entry A)) (ticket : ℕ) (outcome : Outcome)
+    → IsSaid said (Says (Answer ticket outcome)) → AllByRecursion (IsSaid said) (tells entries (Answer ticket outcome))
+answer_said said entries ticket outcome is =
     each_both (IsSaid said) (answers ticket outcome entries) (endings (ending.LostOf ticket) (answered ticket outcome entries))
     (by (settles ticket outcome entries)) (endings_said said (ending.LostOf ticket) (answered ticket outcome entries))
   where
     by : (b : Bool) → AllByRecursion (IsSaid said) (cond b (Says (Answer ticket outcome) ∷ []) [])
-    by true = (output_said said (Answer ticket outcome) among, tt)
+    by true = (is, tt)
     by false = tt
+
+tells_said : {A : Type 0} (said : List Output) (entries : List (Entry A)) (output : Output) → Among output said
+    → AllByRecursion (IsSaid said) (tells entries output)
+tells_said said entries (Answer ticket outcome) among =
+    answer_said said entries ticket outcome (output_said said (Answer ticket outcome) among)
 tells_said said entries (Enters state) among =
     each_both (IsSaid said) (endings ending.Lost entries) (Says (Enters state) ∷ []) (endings_said said ending.Lost entries) (tt, tt)
 tells_said said entries (Send bytes) among = (tt, tt)
@@ -148,6 +156,16 @@ all_tells_said said entries (output ∷ given) among =
     (tells_said said entries output (among output (inl refl)))
     (all_tells_said said (hears entries output) given (λ other is. among other (inr is)))
 
+-- and that an answer is too long, which is no reply, ahead of that
+ahead_said : {A : Type 0} (said : List Output) (entries : List (Entry A)) (given : List Output)
+    → ((output : Output) → Among output given → Among output said)
+    → AllByRecursion (IsSaid said) (tells_all entries (with_too_long entries given))
+ahead_said said entries given among =
+    ahead (λ first. AllByRecursion (IsSaid said) (tells_all entries (first ++ given))) (all_tells_said said entries given among)
+    (λ ticket. each_both (IsSaid said) (tells entries (Answer ticket TooLarge)) (tells_all (hears entries (Answer ticket TooLarge)) given)
+    (answer_said said entries ticket TooLarge tt) (all_tells_said said (hears entries (Answer ticket TooLarge)) given among))
+    entries (too_long_in given)
+
 -- ---- subjects
 
 abbrev pub IsLow : {A : Type 0} → Subject A → Type 0
@@ -158,6 +176,13 @@ pub mapped_low : {A : Type 0} (f : Subject A → Subject A) → ((subject : Subj
 mapped_low f same [] low = tt
 mapped_low f same (subject ∷ subjects) low =
     (subst (λ t. t < first_own) (sym (same subject)) low.0, mapped_low f same subjects low.1)
+
+pub refused_low : {A : Type 0} (now : ℕ) (found : Option ℕ) (subjects : List (Subject A)) → AllByRecursion IsLow subjects
+    → AllByRecursion IsLow (refused_by now found subjects)
+refused_low now None subjects low = low
+refused_low {A} now (Some ticket) subjects low =
+    mapped_low (too_long_for now ticket)
+    (refused_same (λ (subject : Subject A). subject.ticket) (λ subject progress. refl) now ticket) subjects low
 
 pub unfollowed_low : {A : Type 0} (ticket : ℕ) (subjects : List (Subject A)) → AllByRecursion IsLow subjects
     → AllByRecursion IsLow (unfollowed ticket subjects)
@@ -317,17 +342,19 @@ module _ {A : Type 0} (IsAsked : ℕ → Question → Type 0) (Lasts : Chapter �
     turns = add_asks IsAsked made chapter.items
         (tt, (asks, reads_ask old.subjects does.takes.steps.calls was.subjects does.takes.steps.reads)) was.turns;
     line = subst (AllByRecursion (EntryAsks IsAsked)) (sym does.takes.line)
-        (all_hear IsAsked given (handed input old.line) (handed_asks IsAsked input old.line was.line));
-    subjects = subst (AllByRecursion IsLow) (sym does.takes.subjects) (mapped_low (told_of new.view) (λ subject. refl) does.takes.stepped
+        (all_hear IsAsked (with_too_long line given) (handed input old.line) (handed_asks IsAsked input old.line was.line));
+    subjects = subst (AllByRecursion IsLow) (sym does.takes.subjects)
+        (refused_low now (too_long_in given) (map (told_of new.view) does.takes.stepped)
+        (mapped_low (told_of new.view) (λ subject. refl) does.takes.stepped
         (visited_low now (does.takes.steps.first ++ does.takes.steps.second) old.subjects does.takes.stepped does.takes.steps.count
-        does.takes.steps.visited was.subjects));
+        does.takes.steps.visited was.subjects)));
     told = let_go_said _ _ now _ new.dialler does.told new.told said does.lets_go
-        (subst (AreSaid said) (sym does.takes.told) (said_more said (old.told ++ tells_all line given) news
-        (said_more said old.told (tells_all line given)
+        (subst (AreSaid said) (sym does.takes.told) (said_more said (old.told ++ tells_all line (with_too_long line given)) news
+        (said_more said old.told (tells_all line (with_too_long line given))
         (all_said_on (outputs_of chapter.items) said (said_before made chapter.items) old.told was.told)
-        (all_tells_said said line given among)) (no_reply said news_told (λ one. tt) stepped)));
-    lasts = λ none. kept.lasts made chapter (was.lasts (none_before old.told (tells_all line given)
-        (none_before (old.told ++ tells_all line given) news
+        (ahead_said said line given among)) (no_reply said news_told (λ one. tt) stepped)));
+    lasts = λ none. kept.lasts made chapter (was.lasts (none_before old.told (tells_all line (with_too_long line given))
+        (none_before (old.told ++ tells_all line (with_too_long line given)) news
         (sym (ap (list_any begins) does.takes.told) ∙ let_go_none _ _ now _ new.dialler does.told new.told does.lets_go none))));
   }
     where

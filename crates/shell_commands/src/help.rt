@@ -108,7 +108,8 @@ Printed, each line at once, with the seconds since the watch began before it:
   PATH names N NAME.. PZXID MARK last ZXID
   PATH names none last ZXID     What is kept of the names below it
   PATH refused code N WORDS     A read was refused, and is tried again a second later; told once for each
-                                reason. K5 or K6 in place of code N: no server was asked
+                                reason. K5 in place of code N: no server was asked. K6: its answer is
+                                longer than a session allows
   bound N a tree has more nodes: no more of it are watched
                                 N is that of --most
   halt                          Memory ran out in the client

@@ -253,7 +253,7 @@ code_words (negsuc n) =
 abbrev pub why_text : Refusal → List ℕ
 why_text (Code code) = codes " refused code" ++ (spaced (signed_decimal code) ++ spaced (code_words code))
 why_text TooManyWatches = codes " refused K5 too many paths are watched"
-why_text TooLarge = codes " refused K6 the path is too long"
+why_text TooLarge = codes " refused K6 the answer is too long"
 why_text SessionClosed = codes " refused K3 the session is being closed"
 
 -- the path of the subject that has a ticket
@@ -349,7 +349,7 @@ code_members code = number_members (codes "code") code ++ reason_members (code_w
 abbrev pub why_members : Refusal → List json.Token
 why_members (Code code) = code_members code
 why_members TooManyWatches = fault_members (codes "K5") (codes "too many paths are watched")
-why_members TooLarge = fault_members (codes "K6") (codes "the path is too long")
+why_members TooLarge = fault_members (codes "K6") (codes "the answer is too long")
 why_members SessionClosed = fault_members (codes "K3") (codes "the session is being closed")
 
 -- the session's number, and the timeout that was granted

@@ -84,7 +84,7 @@ fn put_why<A: Allocator + Copy>(writer: &mut Writer<A>, why: Refusal) -> Result<
     match why {
         Refusal::Code(code) => put_code(writer, code),
         Refusal::TooManyWatches => put_coded(writer, "K5", "too many paths are watched"),
-        Refusal::TooLarge => put_coded(writer, "K6", "the path is too long"),
+        Refusal::TooLarge => put_coded(writer, "K6", "the answer is too long"),
         Refusal::SessionClosed => put_coded(writer, "K3", "the session is being closed"),
     }
 }

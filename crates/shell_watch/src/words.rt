@@ -171,7 +171,7 @@ fn push_refusal<A: Allocator + Copy>(
             push_spaced(text, code_words(code))
         }
         Refusal::TooManyWatches => text.push_str(" refused K5 too many paths are watched"),
-        Refusal::TooLarge => text.push_str(" refused K6 the path is too long"),
+        Refusal::TooLarge => text.push_str(" refused K6 the answer is too long"),
         Refusal::SessionClosed => text.push_str(" refused K3 the session is being closed"),
     }
 }

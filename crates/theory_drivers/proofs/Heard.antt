@@ -24,8 +24,10 @@ use Rattle.zk_calls.specs.declared.entry.Ending.TheVariants as ending
 use Rattle.zk_calls.specs.Lines.{answered, ended, ended_of, settles}
 use Rattle.zk_agent.specs.Agents.{is_connected, noted, row_after, HearsSo, LetsGoWhere, Trail}
 use Rattle.zk_agent.specs.Calls.{answers, closings, endings, handed, hears, tells, tells_all}
+use Rattle.zk_agent.specs.Overlong.{too_long_in, with_too_long}
 use Rattle.zk_agent.specs.Replies.{heard_in, is_lost, is_over}
 use Rattle.zk_agent.specs.Telling.{Told, Says, HangsUp, closed_told, ended_told, news_told}
+use Rattle.zk_agent.proofs.Oversized.{ahead}
 use Rattle.zk_driver.specs.Driving.{carried, ChannelView}
 use Rattle.theory_serving.specs.Shown.{connected, sent_in, EndsNothing, Shown}
 use Rattle.theory_serving.specs.Wires.{is_up}
@@ -99,6 +101,12 @@ tells_sent channel entries (Enters state ∷ outputs) =
 tells_sent channel entries (Report path side event ∷ outputs) = tells_sent channel entries outputs
 tells_sent channel entries (Drop fault ∷ outputs) = tells_sent channel entries outputs
 
+-- nothing is sent ahead of what the client says
+sends_ahead : {A : Type 0} (channel : ChannelView) (line : List (Entry A)) (outputs : List Output)
+    → sends channel (with_too_long line outputs) ≡ sends channel outputs
+sends_ahead channel line outputs =
+    ahead (λ first. sends channel (first ++ outputs) ≡ sends channel outputs) refl (λ ticket. refl) line (too_long_in outputs)
+
 -- ---- a trail, over a connection as it was before it
 
 abbrev pub left_by : {A : Type 0} → ChannelView → Trail A → ChannelView
@@ -123,10 +131,11 @@ module _ {A : Type 0} (channel : ChannelView) (now : ℕ) (input : Input) (old n
   told_before : fold carried channel hears.told ≡ sends (left_by channel old) given
   told_before =
       ap (fold carried channel) hears.takes.told
-      ∙ fold-append carried channel (old.told ++ tells_all (handed_line) given) (map news_told news)
-      ∙ news_keep (fold carried channel (old.told ++ tells_all handed_line given)) news
-      ∙ fold-append carried channel old.told (tells_all handed_line given)
-      ∙ tells_sent (left_by channel old) handed_line given
+      ∙ fold-append carried channel (old.told ++ tells_all handed_line (with_too_long handed_line given)) (map news_told news)
+      ∙ news_keep (fold carried channel (old.told ++ tells_all handed_line (with_too_long handed_line given))) news
+      ∙ fold-append carried channel old.told (tells_all handed_line (with_too_long handed_line given))
+      ∙ tells_sent (left_by channel old) handed_line (with_too_long handed_line given)
+      ∙ sends_ahead (left_by channel old) handed_line given
     where
       handed_line : List (Entry A)
       handed_line = handed input old.line

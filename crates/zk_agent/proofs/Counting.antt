@@ -36,6 +36,7 @@ use Rattle.zk_agent.specs.Agents.{given_of, judging_in, leaves_with, left_at, mo
 use Rattle.zk_agent.specs.Agents.{is_given, opened_at}
 use Rattle.zk_agent.specs.Credentials.{unwritten}
 use Rattle.zk_agent.specs.Calls.{answers, closings, endings, handed, hears, hears_all, how_many, tells, tells_all}
+use Rattle.zk_agent.specs.Overlong.{with_too_long}
 use Rattle.zk_agent.specs.Telling.{Told, Says, HangsUp, Begins, Introduces, TellsTree, closed_told, due_told, ended_told, is_end_of}
 use Rattle.zk_agent.specs.Telling.{judged_told, news_told}
 
@@ -282,16 +283,17 @@ module _ {A : Type 0} (ticket : ℕ) where
   heard_same now input old new does =
       let takes = does.takes in
       let line = handed input old.line in
-      let said = tells_all line takes.given in
+      let said = tells_all line (with_too_long line takes.given) in
       let news = map news_told (flat_map (news_in new.view takes.given) takes.stepped) in
-      let left : how_many ticket new.line ≡ how_many ticket (hears_all line takes.given) = ap (how_many ticket) takes.line in
+      let left : how_many ticket new.line ≡ how_many ticket (hears_all line (with_too_long line takes.given)) =
+      ap (how_many ticket) takes.line in
       let told : how_many_ended ticket does.told ≡ how_many_ended ticket ((old.told ++ said) ++ news) =
       ap (how_many_ended ticket) takes.told in
       let last = let_go_same _ new.view.saved.session.timeout now _ new.dialler does.told new.told does.lets_go in
       let a = count_append (is_end_of ticket) (old.told ++ said) news in
       let b = count_append (is_end_of ticket) old.told said in
       let none = no_news ticket (flat_map (news_in new.view takes.given) takes.stepped) in
-      let all = all_heard_or_left takes.given line in
+      let all = all_heard_or_left (with_too_long line takes.given) line in
       let as_many = as_many_handed input old.line in omega (arith, left, told, last, a, b, none, all, as_many)
 
   left_same : (is_lost : Bool) (now : ℕ) (old new : Trail A) → LeavesWhere is_lost now old new → total new ≡ total old

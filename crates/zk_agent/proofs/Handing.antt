@@ -17,12 +17,14 @@ use Rattle.zk_agent.specs.Agents.{Comes, Hands, LetsGo, Trail, is_connected, not
 use Rattle.zk_agent.specs.inner.Agents.{HandsOver, Sends}
 use Rattle.zk_agent.specs.inner.Calls.{IsAsked, IsDone}
 use Rattle.zk_agent.specs.Calls.{IsInTime}
+use Rattle.zk_agent.specs.Overlong.{with_too_long}
 use Rattle.zk_agent.specs.Replies.{is_back}
 use Rattle.zk_agent.specs.Telling.{Told}
 use Rattle.zk_agent.specs.Waits.{waited_after}
 use Rattle.zk_agent.proofs.Closing.{call_so}
 use Rattle.zk_agent.proofs.Lines.{fewer_wait, handed_asked, still_in_time}
 use Rattle.zk_agent.proofs.Moves.{nothing, one, taken_by, trail_eq}
+use Rattle.zk_agent.proofs.Oversized.{none_back}
 use Rattle.zk_agent.proofs.Turning.{steps_away}
 
 -- what counts as handed over waits for its reply
@@ -91,11 +93,12 @@ sends_one {A} now old between new heard connected followed hands same_view same_
       comes = one now (Hands now hands.0 hands.1) old new refl refl
           (taken_by now input old new between (first_handed old.line) heard
           (connected, hands.2, followed) refl takes same_view same_subjects same_line same_timeout goes waits);
-      limits = still_in_time now old.line new.line takes.given line;
+      limits = still_in_time now old.line new.line (with_too_long (first_handed old.line) takes.given) line;
       ends = λ state final is.
           call_so state final now old.view hands.0 hands.1 old.subjects between.view takes.given takes.stepped takes.steps
           (sym (ap (λ (v : View). v.standing.state) same_view) ∙ is);
-      more = λ e. fewer_wait (hands.0, hands.1) old.line new.line takes.given hands.2 line (sym says ∙ is_not_back heard.goes_back e);
+      more = λ e. fewer_wait (hands.0, hands.1) old.line new.line (with_too_long (first_handed old.line) takes.given) hands.2 line
+          (none_back (first_handed old.line) takes.given (sym says ∙ is_not_back heard.goes_back e));
       none = λ e. subst (λ v. IsDone v new.line) (sym same_view)
           (inr (steps_away now old.view hands.0 hands.1 old.subjects between.view takes.given takes.stepped takes.steps
           (sym says ∙ goes_back_is heard.goes_back e)));

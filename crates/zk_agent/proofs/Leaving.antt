@@ -7,6 +7,7 @@ use Rattle.zk_dialler.specs.Dialling.{has_come, Ends}
 use Rattle.zk_agent.specs.Agents.{ends_of, HearsSo, Tires, Trail}
 use Rattle.zk_agent.specs.inner.Agents.{Tired}
 use Rattle.zk_agent.specs.Calls.{IsAway, IsInTime}
+use Rattle.zk_agent.specs.Overlong.{with_too_long}
 use Rattle.zk_agent.specs.Telling.{HangsUp}
 use Rattle.zk_agent.specs.Waits.{nothing_waits}
 use Rattle.zk_agent.proofs.Closing.{cut_so}
@@ -39,13 +40,15 @@ left_late {A} now old between after new late ends hangs hears last =
     record {
       comes = one now (Tires now) old new refl refl
           (record { late = late; between = between; ends = ends; hangs = hangs; after = after; hears = hears; last = last });
-      limits = λ all. heard_still now between.line new.line takes.given (line ∙ takes.line) (subst (All (IsInTime now)) (sym was_line) all);
+      limits = λ all.
+          heard_still now between.line new.line (with_too_long between.line takes.given) (line ∙ takes.line)
+          (subst (All (IsInTime now)) (sym was_line) all);
       ends = λ state final is.
           sym (ap (λ (v : View). v.standing.state) was_view)
           ∙ cut_so state final now between.view between.subjects after.view takes.given takes.stepped takes.steps
           (sym (ap (λ (v : View). v.standing.state) view) ∙ is);
       done = λ done.
           inr (subst IsAway (sym view) (cut_away now between.view between.subjects after.view takes.given takes.stepped takes.steps));
-      none = λ none. line ∙ takes.line ∙ none_heard between.line takes.given (was_line ∙ none);
+      none = λ none. line ∙ takes.line ∙ none_heard between.line (with_too_long between.line takes.given) (was_line ∙ none);
       answers = ap (λ (t : Trail A). has_come now (ends_of t)) last;
     }

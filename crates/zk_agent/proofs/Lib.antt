@@ -10,6 +10,7 @@ pub mod Keeping
 pub mod Leaving
 pub mod Lines
 pub mod Moves
+pub mod Oversized
 pub mod Passing
 mod Resting
 pub mod Saying

@@ -27,8 +27,10 @@ use Rattle.zk_calls.specs.Lines.{after_answer, answered, ended, first_handed, fi
 use Rattle.zk_calls.specs.Lines.{goes_back, is_ended, left, next_call, waits_turn}
 use Rattle.zk_agent.specs.Calls.{hears, hears_all, IsInTime, IsPending, IsServed}
 use Rattle.zk_agent.specs.inner.Calls.{how_many_wait, IsAsked, IsDone}
+use Rattle.zk_agent.specs.Overlong.{with_too_long}
 use Rattle.zk_agent.specs.Replies.{is_back}
 use Rattle.zk_agent.proofs.Keeping.{all_heard_left, all_of, each_held, of_all, Held, Quiet}
+use Rattle.zk_agent.proofs.Oversized.{silent_without}
 use Rattle.zk_agent.proofs.Turning.{steps_pending, steps_sent}
 
 count_cons : {X : Type 0} (p : X → Bool) (x : X) (xs : List X) → count_by p (x ∷ xs) ≡ cond (p x) 1 0 + count_by p xs
@@ -84,26 +86,29 @@ module _ {A : Type 0} (view : View) (ticket : ℕ) (asked : Asked_call) where
 -- where a call counts as handed over the client waits for its reply: after an input, and after a call was handed over
 pub still_asked : {A : Type 0} (now : ℕ) (view : View) (input : Input) (old : List (Subject A)) (after : View) (given : List Output)
     (new : List (Subject A)) (line new_line : List (Entry A))
-    → Steps now view input old after given new → new_line ≡ hears_all line given → All (IsAsked view) line → All (IsAsked after) new_line
+    → Steps now view input old after given new → new_line ≡ hears_all line (with_too_long line given)
+    → All (IsAsked view) line → All (IsAsked after) new_line
 still_asked now view input old after given new line new_line steps is all =
     subst (All (IsAsked after)) (sym is)
-    (of_all (IsAsked after) (hears_all line given)
-    (each_held (Quiet (IsPending view) given) (IsAsked after)
-    (λ entry quiet sent. let was = quiet sent in steps_pending entry now view input old after given new steps was.1 was.0)
-    (hears_all line given) (all_heard_left (IsPending view) given line (all_of (IsAsked view) line all))))
+    (of_all (IsAsked after) (hears_all line (with_too_long line given))
+    (each_held (Quiet (IsPending view) (with_too_long line given)) (IsAsked after)
+    (λ entry quiet sent. let was = quiet sent in
+    steps_pending entry now view input old after given new steps (silent_without entry.ticket line given was.1) was.0)
+    (hears_all line (with_too_long line given))
+    (all_heard_left (IsPending view) (with_too_long line given) line (all_of (IsAsked view) line all))))
 
 pub handed_asked : {A : Type 0} (now : ℕ) (view : View) (ticket : ℕ) (asked : Asked_call) (old : List (Subject A)) (after : View)
     (given : List Output) (new : List (Subject A))
     (line new_line : List (Entry A)) → Steps now view (Call ticket asked) old after given new → next_call line ≡ Some (ticket, asked)
-    → new_line ≡ hears_all (first_handed line) given
+    → new_line ≡ hears_all (first_handed line) (with_too_long (first_handed line) given)
     → All (IsAsked view) line → All (IsAsked after) new_line
 handed_asked {A} now view ticket asked old after given new line new_line steps next is all =
     subst (All (IsAsked after)) (sym is)
-    (of_all (IsAsked after) (hears_all (first_handed line) given)
-    (each_held (Quiet (IsOrHands view ticket asked) given) (IsAsked after)
-    (λ entry quiet sent. let was = quiet sent in by entry was.1 was.0)
-    (hears_all (first_handed line) given)
-    (all_heard_left (IsOrHands view ticket asked) given (first_handed line)
+    (of_all (IsAsked after) (hears_all (first_handed line) (with_too_long (first_handed line) given))
+    (each_held (Quiet (IsOrHands view ticket asked) (with_too_long (first_handed line) given)) (IsAsked after)
+    (λ entry quiet sent. let was = quiet sent in by entry (silent_without entry.ticket (first_handed line) given was.1) was.0)
+    (hears_all (first_handed line) (with_too_long (first_handed line) given))
+    (all_heard_left (IsOrHands view ticket asked) (with_too_long (first_handed line) given) (first_handed line)
     (handed_held view ticket asked line next (all_of (IsAsked view) line all)))))
   where
     by : (entry : Entry A) → Silent entry.ticket given → IsOrHands view ticket asked entry → IsPending after entry

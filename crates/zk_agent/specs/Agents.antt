@@ -37,6 +37,7 @@ use Rattle.zk_agent.specs.declared.input.AgentInput.TheVariants as happens
 use Rattle.zk_agent.specs.declared.replies.Heard.{Heard}
 use Rattle.zk_agent.specs.Calls.{closings, endings, handed, hears_all, tells_all}
 use Rattle.zk_agent.specs.Credentials.{judging_of, papers_of, unwritten, with_credential, with_judging, Judging, Papers}
+use Rattle.zk_agent.specs.Overlong.{refused_by, too_long_in, with_too_long}
 use Rattle.zk_agent.specs.Replies.{heard_in}
 use Rattle.zk_agent.specs.Telling.{Told, HangsUp, Begins, Introduces, TellsTree, due_told, is_end_of, judged_told, news_told, told_by}
 use Rattle.zk_agent.specs.Waits.{Waited, ends_at, heard_input, nothing_waits, waited_after, waited_of}
@@ -120,16 +121,19 @@ MayHear now (turns.Call ticket asked) old =
 MayHear now _ old = ⊤
 
 -- The client takes an input at a moment, and subjects are read. What it says is told, in order, and then what there is to tell of the
--- subjects. The line, which is this one once the client takes the input, hears the answers, in the same order.
+-- subjects. The line, which is this one once the client takes the input, hears the answers, in the same order. Where an answer is too
+-- long, its call is answered so ahead of that, and at last a subject of its ticket is refused.
 pub record TakesSo {A : Type 0} (now : ℕ) (input : Input) (old_view : View) (old_subjects : List (Subject A))
     (old_line : List (Entry A)) (old_told : List Told)
     (new_view : View) (new_subjects : List (Subject A)) (new_line : List (Entry A)) (new_told : List Told) (says : Heard) : Type 0 where
   pub given : List Output
   pub stepped : List (Subject A)
   pub steps : Steps now old_view input old_subjects new_view given stepped
-  pub subjects : new_subjects ≡ map (told_of new_view) stepped
-  pub line : new_line ≡ hears_all old_line given
-  pub told : new_told ≡ (old_told ++ tells_all old_line given) ++ map news_told (flat_map (news_in new_view given) stepped)
+  pub subjects : new_subjects ≡ refused_by now (too_long_in given) (map (told_of new_view) stepped)
+  pub line : new_line ≡ hears_all old_line (with_too_long old_line given)
+  pub told : new_told
+      ≡ (old_told ++ tells_all old_line (with_too_long old_line given))
+      ++ map news_told (flat_map (news_in new_view given) stepped)
   pub heard : says ≡ heard_in given
 
 -- So it hears an input. A connection is hung up where it is over with that.

@@ -3,6 +3,7 @@
 pub mod Agents
 pub mod Calls
 pub mod Credentials
+pub mod Overlong
 pub mod Renewal
 pub mod Replies
 pub mod Telling

@@ -60,7 +60,8 @@ pub enum Action<A: Allocator = Global> {
     Shown {
         ticket: u64,
     },
-    /// A read of the subject was refused, and not for the reason that was told last. It is read again after a second.
+    /// A read of the subject was refused, and not for the reason that was told last. It is read again after a second; where its answer is
+    /// too long once more, after a minute.
     Refused {
         ticket: u64,
         why: Refusal,

@@ -10,10 +10,12 @@ ghost use Rattle.zk_calls.specs.Lines.{left};
 ghost use Rattle.zk_agent.specs.inner.Agents.{HandsOver};
 ghost use Rattle.zk_agent.specs.Agents.{TakesSo};
 ghost use Rattle.zk_agent.specs.Calls.{endings, hears_all, tells_all};
+ghost use Rattle.zk_agent.specs.Overlong.{too_long_in, with_too_long};
 ghost use Rattle.zk_agent.specs.Telling.{news_told, told_by};
 
 use crate::action::{Action, push_news};
-use crate::calls::{end_calls, push_outputs};
+use crate::calls::{end_calls, push_all};
+use crate::overlong::{refuse, too_long_in};
 use crate::replies::{Heard, heard_in};
 use std::alloc::{AllocError, Allocator};
 use std::mem;
@@ -21,25 +23,28 @@ use zk_calls::{Ending, Line};
 use zk_client::{Input, Output};
 use zk_follow::{Follower, FollowerStop};
 
-/// Tells what the client has said, and then what there is to tell of the subjects. The line hears the answers. The room of the outputs is
-/// given back.
+/// Tells what the client has said, ahead of it whose answer is too long, and then what there is to tell of the subjects. The line hears the
+/// answers. The room of the outputs is given back.
 fn report<A: Allocator + Copy>(
     alloc: A,
     follower: &mut Follower<A>,
     line: &mut Line<A>,
     outputs: Vec<Output<A>, A>,
+    too_long: Option<u64>,
     actions: &mut Vec<Action<A>, A>,
 ) -> Result<Vec<Output<A>, A>, AllocError>
-    ensures told { OnOk result
-        (told_by actions.new.items ≡ (told_by actions.old.items ++ tells_all line.old.entries.items (said outputs.items))
+    requires { too_long ≡ too_long_in (said outputs.items) }
+    ensures told { OnOk result (told_by actions.new.items
+        ≡ (told_by actions.old.items ++ tells_all line.old.entries.items (with_too_long line.old.entries.items (said outputs.items)))
         ++ map news_told (flat_map (news_in (view_of follower.old.client) (said outputs.items)) follower.old.subjects.items)) }
-    ensures line { OnOk result (line.new.entries.items ≡ hears_all line.old.entries.items (said outputs.items)) }
+    ensures line { OnOk result
+        (line.new.entries.items ≡ hears_all line.old.entries.items (with_too_long line.old.entries.items (said outputs.items))) }
     ensures subjects { OnOk result (follower.new.subjects.items ≡ map (told_of (view_of follower.old.client)) follower.old.subjects.items) }
     ensures client { follower.new.client ≡ follower.old.client }
 {
     let mut news = Vec::new(alloc);
     follower.report_all(outputs.as_slice(), &mut news)?;
-    let room = push_outputs(line, outputs, actions)?;
+    let room = push_all(line, outputs, too_long, actions)?;
     push_news(news.as_slice(), actions)?;
     Ok(room)
 }
@@ -63,7 +68,9 @@ pub(crate) fn advance<A: Allocator + Copy>(
     let mut outputs = mem::replace(room, Vec::new(alloc));
     follower.step_into(now, input, &mut outputs)?;
     let heard = heard_in(outputs.as_slice());
-    *room = report(alloc, follower, line, outputs, actions)?;
+    let too_long = too_long_in(outputs.as_slice());
+    *room = report(alloc, follower, line, outputs, too_long, actions)?;
+    refuse(follower, now, too_long);
     Ok(heard)
 }
 

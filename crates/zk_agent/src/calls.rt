@@ -1,9 +1,10 @@
 //! What becomes of the calls of a program.
 
-ghost use Rattle.std.specs.Prelude.{◌≡◌, ◌++◌, ◌∷◌, [], map, OnOk};
+ghost use Rattle.std.specs.Prelude.{◌≡◌, ◌++◌, ◌∷◌, [], map, OnOk, Some};
 ghost use Rattle.zk_client.specs.Views.{outcome_view, output_view, said};
 ghost use Rattle.zk_calls.specs.Lines.{answered, left};
 ghost use Rattle.zk_agent.specs.Calls.{answers, closings, endings, hears, hears_all, tells, tells_all};
+ghost use Rattle.zk_agent.specs.Overlong.{answer_of, too_long_in, with_too_long};
 ghost use Rattle.zk_agent.specs.Telling.{action_view, closed_told, ended_told, told_by, Says};
 
 use crate::action::{Action, push};
@@ -126,8 +127,42 @@ fn push_output<A: Allocator + Copy>(
     }
 }
 
+/// The call of this ticket, whose answer is too long, is answered so if it is a read.
+fn push_one<A: Allocator + Copy>(
+    line: &mut Line<A>,
+    ticket: u64,
+    actions: &mut Vec<Action<A>, A>,
+) -> Result<(), AllocError>
+    ensures line { OnOk result
+        (line.new.entries.items ≡ hears_all line.old.entries.items (answer_of line.old.entries.items (Some ticket))) }
+    ensures told { OnOk result (told_by actions.new.items
+        ≡ told_by actions.old.items ++ tells_all line.old.entries.items (answer_of line.old.entries.items (Some ticket))) }
+{
+    if line.is_asked_again(ticket) {
+        let outcome = Outcome::TooLarge;
+        return push_output(line, Output::Answer { ticket, outcome }, actions);
+    }
+    Ok(())
+}
+
+/// The same, if there is such a call.
+fn push_too_long<A: Allocator + Copy>(
+    line: &mut Line<A>,
+    too_long: Option<u64>,
+    actions: &mut Vec<Action<A>, A>,
+) -> Result<(), AllocError>
+    ensures line { OnOk result (line.new.entries.items ≡ hears_all line.old.entries.items (answer_of line.old.entries.items too_long)) }
+    ensures told { OnOk result (told_by actions.new.items
+        ≡ told_by actions.old.items ++ tells_all line.old.entries.items (answer_of line.old.entries.items too_long)) }
+{
+    match too_long {
+        Some(ticket) => push_one(line, ticket, actions),
+        None => Ok(()),
+    }
+}
+
 /// Adds what a program is told of what the client says, in order. The line hears the answers. The room of the outputs is given back.
-pub(crate) fn push_outputs<A: Allocator + Copy>(
+fn push_outputs<A: Allocator + Copy>(
     line: &mut Line<A>,
     outputs: Vec<Output<A>, A>,
     actions: &mut Vec<Action<A>, A>,
@@ -141,4 +176,21 @@ pub(crate) fn push_outputs<A: Allocator + Copy>(
         push_output(line, output, actions)?;
     }
     Ok(left.into_vec())
+}
+
+/// The same, ahead of which that call is answered whose answer is too long.
+pub(crate) fn push_all<A: Allocator + Copy>(
+    line: &mut Line<A>,
+    outputs: Vec<Output<A>, A>,
+    too_long: Option<u64>,
+    actions: &mut Vec<Action<A>, A>,
+) -> Result<Vec<Output<A>, A>, AllocError>
+    requires { too_long ≡ too_long_in (said outputs.items) }
+    ensures line { OnOk result
+        (line.new.entries.items ≡ hears_all line.old.entries.items (with_too_long line.old.entries.items (said outputs.items))) }
+    ensures told { OnOk result (told_by actions.new.items
+        ≡ told_by actions.old.items ++ tells_all line.old.entries.items (with_too_long line.old.entries.items (said outputs.items))) }
+{
+    push_too_long(line, too_long, actions)?;
+    push_outputs(line, outputs, actions)
 }

@@ -10,7 +10,8 @@
 //! seen zxid, so that no server which is behind it admits it.
 //!
 //! Calls of the program wait in one line, in the order of asking, until the client can take them; each is answered once, or times out. A
-//! read whose reply is lost with its connection is asked again, in its place; a write is not.
+//! read whose reply is lost with its connection is asked again, in its place; a write is not. A reply that is too long ends the connection:
+//! its call is answered [`TooLarge`](zk_client::Outcome::TooLarge), and is not asked again.
 //!
 //! After a close nothing is asked for and nothing is due: a call is answered at once that the session is closed.
 //!
@@ -35,6 +36,7 @@ mod idle;
 mod input;
 mod introducing;
 mod moments;
+mod overlong;
 mod renewal;
 mod replies;
 mod sending;
@@ -46,4 +48,5 @@ pub use action::Action;
 pub use agent::{Agent, Settings};
 pub use credential::Credential;
 pub use input::AgentInput;
+pub use overlong::the_first_waits;
 pub use renewal::admits_nothing_older;

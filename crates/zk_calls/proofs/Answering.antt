@@ -1,6 +1,6 @@
 -- What becomes of one call, by its place: a call is found there by its ticket, so what is done to the line is done to that place.
 use Rattle.std.proofs.Common.{◌≡◌, ◌<◌, ◌+◌, ◌++◌, ℕ, Bool, true, false, cond, not, List, [], ◌∷◌, Some, None, length, get_or, set, map}
-use Rattle.std.proofs.Common.{take, sym, ap, ◌∙◌, arith}
+use Rattle.std.proofs.Common.{Option, take, sym, ap, ◌∙◌, arith}
 use Rattle.std.specs.List.{position, remove}
 use Rattle.std.specs.Option.{option_map}
 use Rattle.std.proofs.lemmas.Grind.{common_steps}
@@ -13,7 +13,7 @@ use Rattle.zk_calls.specs.declared.entry.Entry.{Entry}
 use Rattle.zk_calls.specs.declared.entry.Ending.{Ending}
 use Rattle.zk_calls.specs.declared.entry.Ending.TheVariants.{LostOf}
 use Rattle.zk_calls.specs.Lines.{after_answer, answered, ended, ended_of, first_handed, goes_back, is_ended, next_call, settles}
-use Rattle.zk_calls.specs.Lines.{settles_one}
+use Rattle.zk_calls.specs.Lines.{is_asked_again, is_read, settles_one}
 use Rattle.zk_calls.specs.Lines.{waits_turn}
 use Rattle.zk_calls.proofs.Places.{found_at, is_first, none_passes, not_found, removed_at, set_at, unchanged}
 
@@ -74,6 +74,24 @@ module _ {A : Type 0} (ticket : ℕ) (outcome : Outcome) (entries : List (Entry 
   nobody_told =
       ap (λ b. cond b (Some outcome) None) (sym
       (ap (settles_one outcome) (not_found (is_ended (LostOf ticket)) entries (none_passes (is_ended (LostOf ticket)) entries at))))
+
+-- ---- whether a call is asked again
+
+abbrev again_by : {A : Type 0} → Option (Entry A) → Bool
+again_by found = elim found [ None ↦ false | Some entry ↦ is_read (call_view entry.call) ]
+
+pub asked_again_there : {A : Type 0} (ticket : ℕ) (entries : List (Entry A)) (place : ℕ)
+    → position (is_ended (LostOf ticket)) entries ≡ Some place
+    → (entry : Entry A) → entry ≡ get_or entries place entry → is_read (call_view entry.call) ≡ is_asked_again ticket entries
+asked_again_there {A} ticket entries place at entry is =
+    ap (λ (e : Entry A). is_read (call_view e.call)) is
+    ∙ sym (ap again_by
+    (found_at (is_ended (LostOf ticket)) entries place entry (is_first (is_ended (LostOf ticket)) entries place entry at)))
+
+pub none_asked_again : {A : Type 0} (ticket : ℕ) (entries : List (Entry A))
+    → position (is_ended (LostOf ticket)) entries ≡ None → false ≡ is_asked_again ticket entries
+none_asked_again ticket entries at =
+    sym (ap again_by (not_found (is_ended (LostOf ticket)) entries (none_passes (is_ended (LostOf ticket)) entries at)))
 
 -- ---- the call whose turn it is
 

@@ -98,6 +98,11 @@ after_answer outcome entry = if goes_back (call_view entry.call) outcome then re
 abbrev pub answered : {A : Type 0} → (ticket : ℕ) → Outcome → List (Entry A) → List (Entry A)
 answered ticket outcome entries = with_first (is_ended (LostOf ticket)) (after_answer outcome) entries
 
+-- whether the call of this ticket that was handed over is asked again where its reply is lost
+abbrev pub is_asked_again : {A : Type 0} → (ticket : ℕ) → List (Entry A) → Bool
+is_asked_again ticket entries =
+    elim (first_where (is_ended (LostOf ticket)) entries) [ None ↦ false | Some entry ↦ is_read (call_view entry.call) ]
+
 -- whether it is settled, so that its asker is told
 abbrev pub settles_one : {A : Type 0} → Outcome → Option (Entry A) → Bool
 settles_one outcome None = false

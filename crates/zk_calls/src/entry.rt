@@ -56,7 +56,7 @@ fn is_raw_read(operation: RawOperation) -> bool
 }
 
 /// Whether a call changes nothing, so that it may be asked twice.
-fn is_read<A: Allocator>(call: &Call<A>) -> bool
+pub(crate) fn is_read<A: Allocator>(call: &Call<A>) -> bool
     ensures { result ≡ is_read (call_view call.now) }
 {
     match call {

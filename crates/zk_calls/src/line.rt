@@ -6,12 +6,12 @@ ghost use Rattle.std.specs.List.{position};
 ghost use Rattle.std.proofs.Props.{props};
 ghost use Rattle.zk_conversation.specs.Views.{call_view};
 ghost use Rattle.zk_client.specs.Views.{outcome_view};
-ghost use Rattle.zk_calls.specs.Lines.{answered, ended, ended_of, first_handed, first_limit, is_ended, left, next_call, settles};
-ghost use Rattle.zk_calls.specs.Lines.{waits_turn};
+ghost use Rattle.zk_calls.specs.Lines.{answered, ended, ended_of, first_handed, first_limit, is_asked_again, is_ended, left, next_call};
+ghost use Rattle.zk_calls.specs.Lines.{settles, waits_turn};
 ghost use Rattle.zk_calls.specs.Orders.{in_order, is_below, AreHanded, AreLimits};
 
 use crate::ending::{release, remove, told_of};
-use crate::entry::{Ended, Ending, Entry, has_come};
+use crate::entry::{Ended, Ending, Entry, has_come, is_read};
 use crate::limits::Limits;
 use crate::order::{place_of, tickets_rise};
 use crate::turn::{copied_at, hand, place_of_next, settle};
@@ -132,6 +132,16 @@ impl<A: Allocator + Copy> Line<A> {
         let next = self.copied_at(place)?;
         self.hand(place);
         Ok(Some(next))
+    }
+
+    /// Whether the call of this ticket that was handed over is asked again where its reply is lost: it changes nothing.
+    pub fn is_asked_again(&self, ticket: u64) -> bool
+        ensures { result ≡ is_asked_again ticket self.now.entries.items }
+    {
+        match place_of(&self.entries, self.tickets_rise, ticket) {
+            Some(place) => is_read(&self.entries[place].call),
+            None => false,
+        }
     }
 
     /// The client answers a call of this ticket: the first of those that were handed over. What its asker is to be told: nothing where

@@ -8,9 +8,9 @@ use Rattle.zk_turns.specs.View.{View}
 use Rattle.zk_follow.specs.declared.progress.Progress.{Progress}
 use Rattle.zk_follow.specs.declared.progress.Progress.TheVariants.{Due, Reading, Refused}
 use Rattle.zk_follow.specs.declared.subject.Subject.{Subject}
-use Rattle.zk_follow.specs.Following.{again_at, first_again, first_of, is_among, is_due, AreQuietBut}
+use Rattle.zk_follow.specs.Following.{again_at, first_again, first_of, is_among, is_due, AreStillBut}
 use Rattle.zk_follow.specs.inner.Resting.{AreDueBut}
-use Rattle.zk_follow.proofs.Resting.{parts_of, quiet_parts}
+use Rattle.zk_follow.proofs.Still.{still_due}
 
 -- ---- the first of moments
 
@@ -158,9 +158,8 @@ module _ {A : Type 0} where
           way false e =
               ap (λ m. first_of first m) (again_due (get_or subjects k d).progress (due k d within e)) ∙ none_after first
 
-  -- who is quiet is due
+  -- who is still is due
   pub due_but : (view : View) (count : ℕ) (subjects : List (Subject A)) (awake : List ℕ) → length subjects ≤ count
-      → AreQuietBut view count subjects awake → AreDueBut subjects awake
-  due_but view count subjects awake all rest k d within away =
-      (parts_of view (get_or subjects k d) (quiet_parts view (get_or subjects k d)
-      (rest k d (omega (arith, within, all)) away)).0).due
+      → AreStillBut view count subjects awake → AreDueBut subjects awake
+  due_but view count subjects awake all still k d within away =
+      still_due view (get_or subjects k d) (still k d (omega (arith, within, all)) away)

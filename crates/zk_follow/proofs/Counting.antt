@@ -1,7 +1,7 @@
 -- How many subjects count as being read: those at places in order are gone over, a visit changes the count by the read that it asks, and
 -- for each that counts so a read is on its way.
 use Rattle.std.proofs.Common.{◌≡◌, ◌≤◌, ◌<◌, ◌+◌, ◌∙◌, ℕ, zero, suc, Bool, true, false, cond, List, [], ◌∷◌, length, get_or, map, set, take}
-use Rattle.std.proofs.Common.{refl, sym, ap, subst, arith}
+use Rattle.std.proofs.Common.{refl, sym, ap, subst, arith, inl, inr, ◌⊎◌}
 use Rattle.std.specs.Prelude.{All}
 use Rattle.std.specs.List.{count_by, list_any}
 use Rattle.std.proofs.lemmas.List.{take_all}
@@ -37,6 +37,13 @@ rested_reading (Refused why until) = refl
 pub one_more : (b : Bool) (reads after : ℕ) → reads < MOST_READS → after ≡ reads + cond b 1 0 → after ≤ MOST_READS
 one_more true reads after room is = omega (arith, room, is)
 one_more false reads after room is = omega (arith, room, is)
+
+-- the count is as it was, or there was room for what was asked
+pub room_more : {X : Type 0} (before reads after : ℕ) → (reads ≡ before) ⊎ (reads ≤ MOST_READS)
+    → (X × (after ≡ reads)) ⊎ (after ≤ MOST_READS) → (after ≡ before) ⊎ (after ≤ MOST_READS)
+room_more before reads after was (inr few) = inr few
+room_more before reads after (inl same) (inl kept) = inl (kept.1 ∙ same)
+room_more before reads after (inr room) (inl kept) = inr (subst (λ n. n ≤ MOST_READS) (sym kept.1) room)
 
 pub no_fewer : (b : Bool) (reads after : ℕ) → after ≡ reads + cond b 1 0 → reads ≤ after
 no_fewer true reads after is = omega (arith, is)

@@ -31,7 +31,7 @@ names_still : (kept : Option (Kept Names)) → is_marked_good (without_stale kep
 names_still None = refl
 names_still (Some kept) = names_by_mark kept.answer kept.mark
 
-shown_still : (cache : Cache) (side : Side) (path : Text) → is_shown (forgotten cache) side path ≡ is_shown cache side path
+pub shown_still : (cache : Cache) (side : Side) (path : Text) → is_shown (forgotten cache) side path ≡ is_shown cache side path
 shown_still cache Data path = kept_still is_whole (cache.nodes path)
 shown_still cache Child path =
     ap (λ (is : Bool). is || is_kept says_none ((forgotten cache).nodes path)) (names_still (cache.children path))

@@ -106,7 +106,7 @@ none_own {A} subjects (one ∷ more) e = by one.waiting refl (none_own subjects 
 
 -- ---- a step
 
-same_side : {A : Type 0} (now : ℕ) (subject new : Subject A) → IsVisited now subject new → new.side ≡ subject.side
+pub same_side : {A : Type 0} (now : ℕ) (subject new : Subject A) → IsVisited now subject new → new.side ≡ subject.side
 same_side {A} now subject new visited = by visited.3
   where
     by : Visits now visited.0 subject visited.1 visited.2 new → new.side ≡ subject.side

@@ -13,6 +13,7 @@ use Rattle.zk_turns.specs.View.{View}
 use Rattle.zk_follow.specs.declared.subject.Subject.{Subject}
 use Rattle.zk_follow.specs.Following.{is_among, is_quiet, AreQuietBut}
 use Rattle.zk_follow.proofs.Finding.{unless}
+use Rattle.zk_follow.proofs.Still.{among_both}
 use Rattle.zk_follow.proofs.Placing.{among_before, among_last}
 
 -- a mark that is set stays so
@@ -142,6 +143,15 @@ left_asleep awake marks slice count place size within is marked is_awake asleep 
     )
 
 -- ---- the same of what a follower has
+
+-- who waited is awake
+pub poured_quiet : {A : Type 0} (view : View) (count : ℕ) (subjects : List (Subject A)) → count ≤ length subjects
+    → (awake waiting all : List ℕ)
+    → ((at : ℕ) → at < length subjects → (is_among at awake || is_among at waiting) ≡ true → is_among at all ≡ true)
+    → AreQuietBut view count subjects (awake ++ waiting) → AreQuietBut view count subjects all
+poured_quiet view count subjects within awake waiting all has quiet k d fits none =
+    quiet k d fits (unless (is_among k (awake ++ waiting)) (is_among k all)
+    (λ e. has k (omega (arith, fits, within)) (sym (among_both k awake waiting) ∙ e)) none)
 
 pub quiet_stay : {A : Type 0} (view : View) (gone : List ℕ) (count counted : ℕ) (subjects slice : List (Subject A))
     (awake places left : List ℕ) (new rest : List (Subject A)) (size : ℕ) (some : List ℕ) → counted ≡ count

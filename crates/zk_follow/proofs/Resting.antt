@@ -1,10 +1,8 @@
 -- A subject that rests stays as it is by a visit, where outputs say nothing of it, and there is nothing more to tell of it.
-use Rattle.std.proofs.Common.{◌≡◌, ◌≢◌, ◌<◌, ◌+◌, suc, ℕ, Bool, true, false, not, cond, ◌&&◌, ◌||◌, List, [], ◌∷◌, Option}
+use Rattle.std.proofs.Common.{◌≡◌, ℕ, Bool, true, false, not, cond, ◌&&◌, ◌||◌, List, [], ◌∷◌, Option}
 use Rattle.std.proofs.Common.{Some, None}
-use Rattle.std.proofs.Common.{inl, length, get_or, refl, sym, ap, subst, ◌∙◌, arith}
-use Rattle.std.proofs.lemmas.List.{get_or_default}
-use Rattle.std.proofs.lemmas.Bool.Decides.{Decides-eqb}
-use Rattle.std.specs.Prelude.{◌==◌, bytes_eq}
+use Rattle.std.proofs.Common.{inl, refl, sym, ap, ◌∙◌}
+use Rattle.std.specs.Prelude.{◌==◌}
 use Rattle.std.specs.List.{list_any}
 use Rattle.zk_nodes.specs.Path.{Text}
 use Rattle.zk_nodes.specs.declared.side.Side.{Side}
@@ -13,23 +11,20 @@ use Rattle.zk_watches.specs.Lists.{side_has}
 use Rattle.zk_turns.specs.Turns.{Output, Answer, Enters, Report, Turn}
 use Rattle.zk_turns.specs.View.{View, Cache}
 use Rattle.zk_turns.specs.Rule.{RuleAt}
-use Rattle.zk_client.specs.declared.output.Output.{Output as Made}
-use Rattle.zk_client.specs.Views.{output_view, said}
 use Rattle.zk_follow.specs.declared.news.News.{News}
 use Rattle.zk_follow.specs.declared.news.News.TheVariants.{Shown, Refused as Denied}
 use Rattle.zk_follow.specs.declared.progress.Progress.{Progress}
 use Rattle.zk_follow.specs.declared.progress.Progress.TheVariants.{Due, Reading, Refused}
 use Rattle.zk_follow.specs.declared.subject.Subject.{Subject}
-use Rattle.zk_follow.specs.Following.{answered, heard, heard_all, is_kept, is_report_of, is_reported, is_shown, news_about, news_in}
-use Rattle.zk_follow.specs.Following.{says_none, taken}
+use Rattle.zk_follow.specs.Following.{answered, heard, heard_all, is_kept, is_reported, is_shown, news_about, news_in}
+use Rattle.zk_follow.specs.Following.{says_none}
 use Rattle.zk_follow.specs.Following.{is_quiet, told_after, told_of, was_shown, woken, woken_progress, IsCounted, IsFollowed}
 use Rattle.zk_follow.specs.inner.Following.{Asks}
-use Rattle.zk_follow.specs.inner.Places.{is_heard_by, AreSameBut}
+use Rattle.zk_follow.specs.inner.Places.{is_heard_by}
 use Rattle.zk_follow.specs.Owning.{AreOwn}
 use Rattle.zk_follow.specs.inner.Owning.{is_of}
 use Rattle.zk_follow.specs.Following.{holds, is_due, is_resting, IsVisited}
-use Rattle.zk_follow.specs.inner.Resting.{is_about, is_report, tells_fields, AreAtRest, AreDueBut, AreLeft}
-use Rattle.zk_follow.specs.inner.Resting.{AreUnmoved}
+use Rattle.zk_follow.specs.inner.Resting.{is_about, is_report, tells_fields}
 use Rattle.zk_follow.proofs.Forgetting.{after_forgetting, holds_still}
 use Rattle.zk_follow.proofs.Owning.{IsOwnInput}
 use Rattle.zk_follow.proofs.Staying.{and_parts, or_false, Stays, stays_at}
@@ -74,7 +69,7 @@ rests_by view subject parts =
     ∙ ap (λ b. b && holds view.cache subject.side subject.path) parts.stays.0
     ∙ parts.stays.1
 
-due_is : (progress : Progress) → is_due progress ≡ true → progress ≡ Due
+pub due_is : (progress : Progress) → is_due progress ≡ true → progress ≡ Due
 due_is Due e = refl
 due_is Reading e = absurd cc
 due_is (Refused why until) e = absurd cc
@@ -138,22 +133,6 @@ module _ {A : Type 0} (now : ℕ) (view : View) (subject : Subject A) (rest : is
 -- A visit that asks nothing may leave a subject as it is.
 pub not_visited : {A : Type 0} (now : ℕ) (view : View) (subject : Subject A) → IsVisited now subject subject
 not_visited now view subject = (view, [], view, inl (refl, refl, inl refl))
-
--- Who is left is as it was once it has taken what was said, and rests.
-pub left_unmoved : {A : Type 0} (now : ℕ) (view : View) (outputs : List Output) (subjects : List (Subject A)) (places : List ℕ)
-    → AreLeft view outputs subjects places → AreUnmoved now outputs subjects places
-left_unmoved now view outputs subjects places left k d within none =
-    let rests = left k d within none in unmoved now view (get_or subjects k d) rests.0 outputs rests.1
-
-pub left_rests : {A : Type 0} (view : View) (outputs : List Output) (subjects new : List (Subject A)) (places : List ℕ)
-    → length new ≡ length subjects → AreLeft view outputs subjects places → AreSameBut places subjects new → AreAtRest view new places
-left_rests {A} view outputs subjects new places size left same k d within none =
-    subst (λ (s : Subject A). is_resting view s ≡ true) (sym (same k d none)) (left k d (omega (arith, within, size)) none).0
-
--- Who rests is due.
-pub rest_due : {A : Type 0} (view : View) (subjects : List (Subject A)) (places : List ℕ)
-    → AreAtRest view subjects places → AreDueBut subjects places
-rest_due view subjects places rest k d within none = (parts_of view (get_or subjects k d) (rest k d within none)).due
 
 -- ---- from view to view
 

@@ -1,21 +1,22 @@
 -- Places in order are gone over one after the other: between two of them there is none.
 use Rattle.std.proofs.Common.{◌≡◌, ◌≢◌, ◌≤◌, ◌<◌, ◌+◌, ◌++◌, ◌∙◌, ℕ, zero, suc, Bool, true, false, List, [], ◌∷◌, length, get_or, set}
-use Rattle.std.proofs.Common.{drop, map, take, refl, sym, ap, subst, arith, append_assoc, ◌-◌}
+use Rattle.std.proofs.Common.{drop, map, take, refl, sym, ap, subst, arith, append_assoc, inl, inr, ◌-◌, ◌||◌, ◌⊎◌}
 use Rattle.std.specs.Prelude.{◌==◌, nat_lt, All}
 use Rattle.std.specs.List.{flat_map}
-use Rattle.std.proofs.lemmas.List.{append-nil, get_or_default, get_or-set_other, set-get_or}
+use Rattle.std.proofs.lemmas.List.{append-nil, get_or_default, get_or-set_other, get_or-set_same, length-set, set-get_or}
 use Rattle.std.proofs.lemmas.List.Edits.{map_over_more}
-use Rattle.std.proofs.lemmas.List.Folds.{list_any_at, list_any_none}
+use Rattle.std.proofs.lemmas.List.Folds.{list_any_at, list_any_more, list_any_none}
 use Rattle.std.proofs.lemmas.Bool.Decides.{Decides-eqb, nat_tests}
 use Rattle.zk_turns.specs.Turns.{Output}
 use Rattle.zk_turns.specs.View.{View}
 use Rattle.zk_follow.specs.declared.subject.Subject.{Subject}
 use Rattle.zk_follow.specs.Following.{is_among, news_in, told_of, IsCounted, IsFollowed, IsVisited}
-use Rattle.zk_follow.specs.inner.Following.{Asks}
+use Rattle.zk_follow.specs.inner.Following.{AreSeen, Asks}
 use Rattle.zk_follow.specs.inner.Places.{AreSameBut, IsAscending}
-use Rattle.zk_follow.specs.inner.Resting.{AreAtRest, AreTold}
-use Rattle.zk_follow.proofs.Visiting.{more_visited, one_more_visited, same_after, AllBefore, SameFrom, StandsAt, VisitedBefore}
-use Rattle.zk_follow.proofs.Resting.{not_visited, nothing_told, quiet_parts, rest_counted_as, rest_followed, rests_on, told_same}
+use Rattle.zk_follow.specs.inner.Resting.{AreTold}
+use Rattle.zk_follow.proofs.Asking.{others_counted, others_followed}
+use Rattle.zk_follow.proofs.Visiting.{same_after, SameFrom}
+use Rattle.zk_follow.proofs.Still.{still_news, still_told}
 use Rattle.zk_follow.proofs.Telling.{at_seam, flat_more}
 use Rattle.std.proofs.lemmas.Grind.{get_or_default_zero}
 
@@ -50,7 +51,7 @@ module _ (places : List ℕ) (ascend : IsAscending places) where
           let same : get_or places j 0 ≡ get_or places count 0 = ap (λ n. get_or places n 0) is in
           omega (arith, same)
 
-  high : (count j : ℕ) → count ≤ j → j < length places → get_or places count 0 ≤ get_or places j 0
+  pub high : (count j : ℕ) → count ≤ j → j < length places → get_or places count 0 ≤ get_or places j 0
   high count j le within = by (nat_lt count j) refl
     where
       by : (b : Bool) → nat_lt count j ≡ b → get_or places count 0 ≤ get_or places j 0
@@ -106,44 +107,6 @@ walk_to P from to le step p =
     let e : from + (to - from) ≡ to = omega (arith, le) in
     subst P e (walk P from (to - from) (λ k low below. step k low (omega (arith, below, e))) p)
 
--- ---- visits
-
--- Those before a place are followed and were visited, and those from it on are as they were.
-pub record Seam {A : Type 0} (now : ℕ) (view : View) (reads : ℕ) (first subjects : List (Subject A)) (place : ℕ) : Type 0 where
-  pub before : AllBefore place (StandsAt now view reads) subjects
-  pub visited : VisitedBefore place now first subjects
-  pub rest_of : SameFrom place subjects first
-
--- Who is none of the places is as after a visit.
-pub skip : {A : Type 0} (now : ℕ) (old view : View) (reads : ℕ) → Asks old view → (first subjects : List (Subject A))
-    (places : List ℕ) → AreAtRest old first places → (from to : ℕ) → from ≤ to → to ≤ length first
-    → ((k : ℕ) → from ≤ k → k < to → is_among k places ≡ false)
-    → Seam now view reads first subjects from → Seam now view reads first subjects to
-skip {A} now old view reads asks first subjects places left from to le fits none seam = record {
-  before = λ k d below. (each k d below).0;
-  visited = λ k d below. (each k d below).1;
-  rest_of = λ k d after. seam.rest_of k d (omega (arith, le, after));
-}
-  where
-    each : (k : ℕ) (d : Subject A) → k < to
-        → StandsAt now view reads (get_or subjects k d) × IsVisited now (get_or first k d) (get_or subjects k d)
-    each k d below = by (nat_lt k from) refl
-      where
-        by : (b : Bool) → nat_lt k from ≡ b
-            → StandsAt now view reads (get_or subjects k d) × IsVisited now (get_or first k d) (get_or subjects k d)
-        by true e =
-            let earlier : k < from = grind (arith, nat_tests) in
-            (seam.before k d earlier, seam.visited k d earlier)
-        by false e =
-            let later : from ≤ k = grind (arith, nat_tests) in
-            let within : k < length first = omega (arith, below, fits) in
-            let s : Subject A = get_or first k d in
-            let rest = rests_on old view asks s (left k d within (none k later below)) in
-            subst (λ (t : Subject A). StandsAt now view reads t × IsVisited now s t) (sym (seam.rest_of k d later)) (
-              (rest_followed now view s rest reads, rest_counted_as now view s rest),
-              not_visited now view s,
-            )
-
 -- ---- telling
 
 -- Those before a place are changed and what there is of them is added.
@@ -188,48 +151,88 @@ pub same_more : {X : Type 0} (places : List ℕ) (index : ℕ) (first all : List
 same_more places index first all new within same k d none =
     get_or-set_other all (get_or places index 0) k new d (not_at places index k within none) ∙ same k d none
 
-module _ {A : Type 0} (now : ℕ) (first subjects : List (Subject A)) (places : List ℕ) (index : ℕ)
-    (ascend : IsAscending places) (below : All (λ at. at < length first) places) (within : index < length places) where
-  abbrev pub place : ℕ
-  place = get_or places index 0
+-- from the place on that is visited next, where it is so from the one before on
+pub same_at : {X : Type 0} (places : List ℕ) (index : ℕ) (subjects first : List X) → IsAscending places → index < length places
+    → SameFrom (start_of places index) subjects first → SameFrom (get_or places index 0) subjects first
+same_at places index subjects first ascend within same k d le =
+    let low = start_low places ascend index within in
+    same k d (omega (arith, low, le))
 
-  pub is_within : place < length first
-  is_within = below index 0 within
+pub same_next : {X : Type 0} (places : List ℕ) (index : ℕ) (subjects first : List X) (new : X) → IsAscending places → index < length places
+    → SameFrom (start_of places index) subjects first
+    → SameFrom (start_of places (index + 1)) (set subjects (get_or places index 0) new) first
+same_next places index subjects first new ascend within same =
+    subst (λ n. SameFrom n (set subjects (get_or places index 0) new) first) (sym (start_next places index))
+    (same_after subjects first (get_or places index 0) new (same_at places index subjects first ascend within same))
 
-  -- up to the place that is visited next
-  pub at_place : (old view : View) (reads : ℕ) → Asks old view → AreAtRest old first places
-      → Seam now view reads first subjects (start_of places index) → Seam now view reads first subjects place
-  at_place old view reads asks left seam =
-      skip now old view reads asks first subjects places left (start_of places index) place (start_low places ascend index within)
-      (omega (arith, is_within)) (λ k low high. between places ascend index k (omega (arith, within)) low (λ has. high)) seam
-
-  pub visited_more : (old view after : View) (reads more : ℕ) → reads ≤ more → Asks old view → Asks view after
-      → AreAtRest old first places → length subjects ≡ length first → (new : Subject A) → IsFollowed now after more new
-      → IsCounted after new → IsVisited now (get_or subjects place new) new
-      → Seam now view reads first subjects (start_of places index)
-      → Seam now after more first (set subjects place new) (start_of places (index + 1))
-  visited_more old view after reads more le asks further left size new followed counted visited seam =
-      let here = at_place old view reads asks left seam in
-      let fits : place < length subjects = omega (arith, is_within, size) in
-      subst (Seam now after more first (set subjects place new)) (sym (start_next places index)) (record {
-        before = more_visited now view after reads more le further subjects place new fits followed counted here.before;
-        visited = one_more_visited now first subjects place (get_or subjects place new) new is_within fits
-            (get_or_default subjects place new (get_or subjects place new) fits) here.rest_of visited here.visited;
-        rest_of = same_after subjects first place new here.rest_of;
-      })
-
--- after the last place
-pub at_end : {A : Type 0} (now : ℕ) (first subjects : List (Subject A)) (places : List ℕ) (index : ℕ)
-    → IsAscending places → All (λ at. at < length first) places → index ≡ length places
-    → (old view : View) (reads : ℕ) → Asks old view → AreAtRest old first places
-    → Seam now view reads first subjects (start_of places index) → Seam now view reads first subjects (length first)
-at_end now first subjects places index ascend below end old view reads asks left seam =
-    skip now old view reads asks first subjects places left (start_of places index) (length first) (start_within index end)
-    (omega arith) (λ k low high. between places ascend index k (omega (arith, end)) low (λ has. absurd (omega (arith, has, end)))) seam
+-- who is among the places up to this one, and is not this one, is among those before it
+among_earlier : (k : ℕ) (places : List ℕ) (index : ℕ) → index < length places → (k == get_or places index 0) ≡ false
+    → is_among k (take (index + 1) places) ≡ true → is_among k (take index places) ≡ true
+among_earlier k places index within other e =
+    by (is_among k (take index places)) (sym (ap (λ b. is_among k (take index places) || b) other) ∙ sym more ∙ e)
   where
-    start_within : (count : ℕ) → count ≡ length places → start_of places count ≤ length first
-    start_within zero e = omega arith
-    start_within (suc count) e = let fits = below count 0 (omega (arith, e)) in omega (arith, fits)
+    more : is_among k (take (index + 1) places) ≡ (is_among k (take index places) || k == get_or places index 0)
+    more = list_any_more (λ its. k == its) places index 0 within
+
+    by : (a : Bool) → (a || false) ≡ true → a ≡ true
+    by true e = refl
+    by false e = absurd cc
+
+module _ {A : Type 0} (subjects : List (Subject A)) (place : ℕ) (new : Subject A) (fits : place < length subjects) where
+  -- what holds of the new one, and of the others, holds of each
+  by_place : (P : Subject A → Type 0) (k : ℕ) (d : Subject A) → P new → ((k == place) ≡ false → P (get_or subjects k d))
+      → P (get_or (set subjects place new) k d)
+  by_place P k d here there = by (k == place) refl
+    where
+      by : (same : Bool) → (k == place) ≡ same → P (get_or (set subjects place new) k d)
+      by true e =
+          let is : k ≡ place = (Decides-eqb k place).0 e in
+          subst P (sym (ap (λ n. get_or (set subjects place new) n d) is ∙ get_or-set_same subjects place new d fits)) here
+      by false e =
+          let other : k ≢ place = λ is. let t : (k == place) ≡ true = (Decides-eqb k place).1 is in cc in
+          subst P (sym (get_or-set_other subjects place k new d other)) (there e)
+
+  pub counted_more : (view after : View) → Asks view after → IsCounted after new → All (IsCounted view) subjects
+      → All (IsCounted after) (set subjects place new)
+  counted_more view after asks counted before k d within =
+      by_place (IsCounted after) k d counted
+      (λ other. others_counted view after asks (get_or subjects k d)
+      (before k d (omega (arith, within, length-set subjects place new))))
+
+  pub followed_more : (now : ℕ) (old view after : View) (reads_before reads more : ℕ) (first : List (Subject A)) (places : List ℕ)
+      (index : ℕ) → index < length places → place ≡ get_or places index 0 → reads ≤ more → Asks view after
+      → IsFollowed now after more new
+      → ((k : ℕ) (d : Subject A) → k < length first
+      → (is_among k (take index places) ≡ true) ⊎ IsFollowed now old reads_before (get_or first k d)
+      → IsFollowed now view reads (get_or subjects k d))
+      → (k : ℕ) (d : Subject A) → k < length first
+      → (is_among k (take (index + 1) places) ≡ true) ⊎ IsFollowed now old reads_before (get_or first k d)
+      → IsFollowed now after more (get_or (set subjects place new) k d)
+  followed_more now old view after reads_before reads more first places index within at le asks followed before k d inside cases =
+      by_place (IsFollowed now after more) k d followed
+      (λ other. others_followed view after asks now reads more le (get_or subjects k d)
+      (before k d inside (elim cases [
+        | inl among ↦ inl (among_earlier k places index within (sym (ap (λ n. k == n) at) ∙ other) among)
+        | inr was ↦ inr was
+      ])))
+
+  pub seen_more : (now : ℕ) (first : List (Subject A)) (element : Subject A) → place < length first
+      → element ≡ get_or subjects place element → SameFrom place subjects first → IsVisited now element new
+      → AreSeen now first subjects → AreSeen now first (set subjects place new)
+  seen_more now first element within is same visited before k d inside = by (k == place) refl
+    where
+      here : (d : Subject A) → element ≡ get_or first place d
+      here d = is ∙ same place element (omega arith) ∙ get_or_default first place element d within
+
+      by : (equal : Bool) → (k == place) ≡ equal → IsVisited now (get_or first k d) (get_or (set subjects place new) k d)
+      by true e =
+          let at : k ≡ place = (Decides-eqb k place).0 e in
+          subst (λ n. IsVisited now (get_or first n d) (get_or (set subjects place new) n d)) (sym at)
+          (subst (IsVisited now (get_or first place d)) (sym (get_or-set_same subjects place new d fits))
+          (subst (λ subject. IsVisited now subject new) (here d) visited))
+      by false e =
+          let other : k ≢ place = λ equal. let t : (k == place) ≡ true = (Decides-eqb k place).1 equal in cc in
+          subst (IsVisited now (get_or first k d)) (sym (get_or-set_other subjects place k new d other)) (before k d inside)
 
 -- ---- one more is changed, and what there is of it is added
 
@@ -272,11 +275,10 @@ module _ {X Y : Type 0} (f : X → X) (g : X → List Y) (first subjects : List 
       start_within zero e = omega arith
       start_within (suc count) e = let fits = below count 0 (omega (arith, e)) in omega (arith, fits)
 
--- of those that are quiet there is nothing to tell
-pub quiet_still_told : {A : Type 0} (view : View) (outputs : List Output) (first : List (Subject A)) (places : List ℕ)
+-- of those that are still there is nothing to tell
+pub still_told_each : {A : Type 0} (view : View) (outputs : List Output) (first : List (Subject A)) (places : List ℕ)
     → AreTold view outputs first places → (k : ℕ) (d : Subject A) → k < length first → is_among k places ≡ false
     → (told_of view (get_or first k d) ≡ get_or first k d) × (news_in view outputs (get_or first k d) ≡ [])
-quiet_still_told view outputs first places told k d within none =
+still_told_each view outputs first places told k d within none =
     let its = told k d within none in
-    let parts = quiet_parts view (get_or first k d) its.0 in
-    (told_same view (get_or first k d) parts.0 parts.1, nothing_told view (get_or first k d) parts.0 parts.1 outputs its.1)
+    (still_told view (get_or first k d) its.0, still_news view (get_or first k d) outputs its.1 its.0)

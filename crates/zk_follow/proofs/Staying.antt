@@ -229,7 +229,7 @@ module _ {A : Type 0} (foreign : Bool) (all : List (Subject A)) (ticket : ℕ) (
 
   -- ---- a reply to a call of another path
 
-  apart : (its : ℕ) (question : Question) (at : Text)
+  pub apart : (its : ℕ) (question : Question) (at : Text)
       → ((side : Side) (text : Text) → reads side text question ≡ true → text ≡ at)
       → is_read_in all its question ≡ true → is_of all its path ≡ false → bytes_eq at path ≡ false
   apart its question at reads_at own other = by (bytes_eq at path) refl
@@ -250,7 +250,7 @@ module _ {A : Type 0} (foreign : Bool) (all : List (Subject A)) (ticket : ℕ) (
           )
       by false e = refl
 
-  elsewhere : (its : ℕ) (question : Question) (result : Result) → is_own_at all its question ≡ true
+  pub elsewhere : (its : ℕ) (question : Question) (result : Result) → is_own_at all its question ≡ true
       → is_of all its path ≡ false → IsElsewhere path (leaves_data question result)
   elsewhere its (Exists at true) (Found stat) own other = apart its (Exists at true) at (reads_exists at) own other
   elsewhere its (Exists at true) NoNode own other = apart its (Exists at true) at (reads_exists at) own other

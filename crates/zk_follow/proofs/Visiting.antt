@@ -1,11 +1,10 @@
 -- Subjects are visited one after the other: those before are followed, and those after it are as they were.
 use Rattle.std.proofs.Common.{◌≡◌, ◌≢◌, ◌≤◌, ◌<◌, ◌^◌, ◌+◌, ◌++◌, ◌⊎◌, append_assoc, cond, ℕ, ℤ, Bool, true, false, List, [], ◌∷◌, inl, inr}
 use Rattle.std.proofs.Common.{length, get_or, map, set, take, refl, sym, ap, subst, ◌∙◌, arith}
-use Rattle.std.proofs.lemmas.List.{append-nil, get_or_default, get_or-map, get_or-set_same, get_or-set_other, length-map, nil_from_length}
+use Rattle.std.proofs.lemmas.List.{append-nil, get_or-map, get_or-set_other, length-map, nil_from_length}
 use Rattle.std.proofs.Math.Seq.{take-append_seam}
 use Rattle.std.proofs.lemmas.Grind.{flat_map-append}
 use Rattle.std.proofs.lemmas.List.Elements.{All-map}
-use Rattle.std.proofs.lemmas.Bool.Decides.{Decides-eqb}
 use Rattle.std.specs.Prelude.{◌==◌, All, Result, Ok, Err, OnOk, bytes_eq, slice_index_or}
 use Rattle.std.specs.List.{FoldsTo}
 use Rattle.zk_conversation.specs.Results.{NoNode, Refused as Refused_by}
@@ -20,14 +19,13 @@ use Rattle.zk_follow.specs.declared.progress.Progress.{Progress}
 use Rattle.zk_follow.specs.declared.progress.Progress.TheVariants.{Due, Reading, Refused}
 use Rattle.zk_follow.specs.declared.reads.TheConstants.{MOST_READS}
 use Rattle.zk_follow.specs.Following.{heard_all, how_many_reading, outputs_in, due_again, progress_after, read_of, rested_progress, taken}
-use Rattle.zk_follow.specs.Following.{AreFollowed, AreReads, AreVisited, IsAhead, IsCounted, IsFollowed, IsReadOf, IsVisited, Steps, Visits}
+use Rattle.zk_follow.specs.Following.{AreFollowed, AreReads, AreVisited, IsAhead, IsCounted, IsReadOf, IsVisited, Steps, Visits}
 use Rattle.zk_follow.specs.inner.Following.{AreSeen, Asks, Reads}
 use Rattle.zk_follow.specs.inner.Following.{VisitsAnd}
-use Rattle.zk_follow.specs.inner.Places.{AreSameBut}
 use Rattle.zk_follow.specs.Following.{answered, heard}
 use Rattle.zk_follow.proofs.Waiting.{still_going}
 use Rattle.zk_follow.proofs.Hearing.{all_same_path, all_same_side, all_same_ticket, counted_at}
-use Rattle.zk_follow.proofs.Asking.{others_counted, others_followed, woken_ahead}
+use Rattle.zk_follow.proofs.Asking.{woken_ahead}
 
 -- after this and that
 pub asks_on : (view between after : View) → Asks view between → Asks between after → Asks view after
@@ -52,31 +50,6 @@ same_after xs ys index x same k d rest_of =
     let other : k ≢ index = λ e. absurd (omega arith) in
     let later : index ≤ k = omega arith in
     get_or-set_other xs index k x d other ∙ same k d later
-
--- where so many are being read
-abbrev pub StandsAt : {A : Type 0} → ℕ → View → (reads : ℕ) → Subject A → Type 0
-StandsAt now view reads subject = IsFollowed now view reads subject × IsCounted view subject
-
-module _ {A : Type 0} (now : ℕ) (view after : View) (reads more : ℕ) (le : reads ≤ more) (asks : Asks view after) where
-  stands_on : (subject : Subject A) → StandsAt now view reads subject → StandsAt now after more subject
-  stands_on subject stands =
-      (others_followed view after asks now reads more le subject stands.0, others_counted view after asks subject stands.1)
-
-  pub more_visited : (subjects : List (Subject A)) (index : ℕ) (visited : Subject A)
-      → index < length subjects → IsFollowed now after more visited → IsCounted after visited
-      → AllBefore index (StandsAt now view reads) subjects → AllBefore (index + 1) (StandsAt now after more) (set subjects index visited)
-  more_visited subjects index visited within followed counted before k d below = by (k == index) refl
-    where
-      by : (same : Bool) → (k == index) ≡ same → StandsAt now after more (get_or (set subjects index visited) k d)
-      by true e =
-          let is : k ≡ index = (Decides-eqb k index).0 e in
-          subst (StandsAt now after more) (sym
-          (ap (λ n. get_or (set subjects index visited) n d) is ∙ get_or-set_same subjects index visited d within)) (followed, counted)
-      by false e =
-          let other : k ≢ index = λ same. let t : (k == index) ≡ true = (Decides-eqb k index).1 same in cc in
-          let earlier : k < index = omega arith in
-          subst (StandsAt now after more) (sym (get_or-set_other subjects index k visited d other))
-          (stands_on (get_or subjects k d) (before k d earlier))
 
 -- what holds of each of the first list holds of the one that is visited next
 pub holds_next : {X : Type 0} (P : X → Type 0) (subjects first : List X) (index : ℕ) (element : X) → index < length first
@@ -121,29 +94,6 @@ pub not_connected : (timeout : ℤ) (before : View) → (view_at (renewed_start 
 not_connected timeout before e = let f : Idle ≡ Connected = e in absurd cc
 
 -- ---- each was visited
-
-abbrev pub VisitedBefore : {A : Type 0} → (count now : ℕ) → (old new : List (Subject A)) → Type 0
-VisitedBefore {A} count now old new = (k : ℕ) (d : Subject A) → k < count → IsVisited now (get_or old k d) (get_or new k d)
-
-pub one_more_visited : {A : Type 0} (now : ℕ) (first subjects : List (Subject A)) (index : ℕ)
-    (element new : Subject A) → index < length first → index < length subjects
-    → element ≡ get_or subjects index element → SameFrom index subjects first → IsVisited now element new
-    → VisitedBefore index now first subjects → VisitedBefore (index + 1) now first (set subjects index new)
-one_more_visited {A} now first subjects index element new within fits is same visited before k d below = by (k == index) refl
-  where
-    here : element ≡ get_or first index d
-    here = is ∙ same index element (omega arith) ∙ get_or_default first index element d within
-
-    by : (equal : Bool) → (k == index) ≡ equal → IsVisited now (get_or first k d) (get_or (set subjects index new) k d)
-    by true e =
-        let at : k ≡ index = (Decides-eqb k index).0 e in
-        subst (λ n. IsVisited now (get_or first n d) (get_or (set subjects index new) n d)) (sym at)
-        (subst (IsVisited now (get_or first index d)) (sym (get_or-set_same subjects index new d fits))
-        (subst (λ subject. IsVisited now subject new) here visited))
-    by false e =
-        let other : k ≢ index = λ equal. let t : (k == index) ≡ true = (Decides-eqb k index).1 equal in cc in
-        let earlier : k < index = omega arith in
-        subst (IsVisited now (get_or first k d)) (sym (get_or-set_other subjects index k new d other)) (before k d earlier)
 
 -- Those that were visited had taken what was said.
 pub taken_visited : {A : Type 0} (now : ℕ) (outputs : List Output) (old middle new : List (Subject A))
@@ -194,7 +144,7 @@ module _ {A : Type 0} (now : ℕ) (fits : now < 2 ^ 64) where
   heard_ahead [] subject ahead = ahead
   heard_ahead (output ∷ outputs) subject ahead = heard_ahead outputs (heard now subject output) (one_ahead subject output ahead)
 
-  visited_ahead : (subject new : Subject A) → IsAhead now subject.progress → IsVisited now subject new → IsAhead now new.progress
+  pub visited_ahead : (subject new : Subject A) → IsAhead now subject.progress → IsVisited now subject new → IsAhead now new.progress
   visited_ahead subject new ahead visited = by visited.3
     where
       by : Visits now visited.0 subject visited.1 visited.2 new → IsAhead now new.progress
@@ -204,6 +154,12 @@ module _ {A : Type 0} (now : ℕ) (fits : now < 2 ^ 64) where
       ]
       by (inr asked) = subst (λ (s : Subject A). IsAhead now s.progress) (sym asked.4)
           (heard_ahead asked.0.outputs (record subject { progress = Reading }) tt)
+
+  pub seen_ahead : (old new : List (Subject A)) → length new ≡ length old → AreSeen now old new
+      → All (λ subject. IsAhead now subject.progress) old → All (λ subject. IsAhead now subject.progress) new
+  seen_ahead old new size seen ahead k d within =
+      let inside : k < length old = omega (arith, within, size) in
+      visited_ahead (slice_index_or old k d) (slice_index_or new k d) (ahead k d inside) (seen k d inside)
 
   pub all_ahead : (outputs : List Output) (old new : List (Subject A))
       → length new ≡ length old → AreVisited now outputs old new → All (λ subject. IsAhead now subject.progress) new
@@ -224,12 +180,12 @@ pub chain_on : (calls more : List Turn) (view between after : View)
 chain_on [] more view between after same rest = rw same rest
 chain_on (turn ∷ calls) more view between after chain rest = (chain.0, chain.1, chain_on calls more chain.0 between after chain.2 rest)
 
-reads_on : {A : Type 0} (subjects : List (Subject A)) (calls more : List Turn)
+pub reads_on : {A : Type 0} (subjects : List (Subject A)) (calls more : List Turn)
     → AreReads subjects calls → AreReads subjects more → AreReads subjects (calls ++ more)
 reads_on subjects [] more reads rest = rest
 reads_on subjects (turn ∷ calls) more reads rest = (reads.0, reads_on subjects calls more reads.1 rest)
 
-outputs_on : (calls more : List Turn) → outputs_in (calls ++ more) ≡ outputs_in calls ++ outputs_in more
+pub outputs_on : (calls more : List Turn) → outputs_in (calls ++ more) ≡ outputs_in calls ++ outputs_in more
 outputs_on calls more = flat_map-append (λ (turn : Turn). turn.outputs) calls more
 
 room_on : (calls more : List Turn) (reads after : ℕ) → (calls ≡ []) ⊎ (reads ≤ MOST_READS)
@@ -316,11 +272,6 @@ reads_of_taken now outputs old middle view given after given_after reads_after i
 }
 
 -- The same where memory may have run out.
-pub left_by_both : {X E Y : Type 0} (result : Result X E) (places : List ℕ) (old middle new : List Y)
-    → AreSameBut places old middle → OnOk result (AreSameBut places middle new) → OnOk result (AreSameBut places old new)
-left_by_both (Ok x) places old middle new first second = λ k d none. second k d none ∙ first k d none
-left_by_both (Err e) places old middle new first second = tt
-
 pub read_all : {A X E : Type 0} (result : Result X E) (now : ℕ) (outputs : List Output) (old middle : List (Subject A)) (view : View)
     (given : List Output) (after : View) (given_after : List Output) (new : List (Subject A)) → middle ≡ map (taken now outputs) old
     → OnOk result (Reads middle view given after given_after (how_many_reading new))

@@ -377,6 +377,19 @@ abbrev pub AreQuietBut : {A : Type 0} → View → (count : ℕ) → List (Subje
 AreQuietBut {A} view count subjects awake =
     (k : ℕ) (d : Subject A) → k < count → is_among k awake ≡ false → is_quiet view (slice_index_or subjects k d) ≡ true
 
+-- A subject is awaited if it is to be read, and what is kept of it is not good.
+abbrev pub is_awaited : {A : Type 0} → View → Subject A → Bool
+is_awaited view subject = is_due subject.progress && not (is_shown view.cache subject.side subject.path)
+
+-- A step may pass it over, and there is nothing to tell of it: it is quiet; or it is awaited, and that it is good was not told last.
+abbrev pub is_still : {A : Type 0} → View → Subject A → Bool
+is_still view subject = is_quiet view subject || (is_awaited view subject && not (was_shown subject.told))
+
+-- Of the first, as many as `count` says, each is so whose place is not among these.
+abbrev pub AreStillBut : {A : Type 0} → View → (count : ℕ) → List (Subject A) → (awake : List ℕ) → Type 0
+AreStillBut {A} view count subjects awake =
+    (k : ℕ) (d : Subject A) → k < count → is_among k awake ≡ false → is_still view (slice_index_or subjects k d) ≡ true
+
 -- Each is quiet.
 abbrev pub AreQuiet : {A : Type 0} → View → List (Subject A) → Type 0
 AreQuiet view subjects = All (λ subject. is_quiet view subject ≡ true) subjects

@@ -6,7 +6,7 @@ ghost use Rattle.zk_conversation.specs.Questions.{question_of, watched_side};
 ghost use Rattle.zk_conversation.specs.Views.{call_view};
 ghost use Rattle.zk_client.specs.Views.{input_view, outcome_view, output_view, said};
 ghost use Rattle.zk_follow.specs.inner.Owning.{asks_to_watch};
-ghost use Rattle.zk_follow.specs.inner.Resting.{is_about_all, tells_fields};
+ghost use Rattle.zk_follow.specs.inner.Resting.{is_about_all, is_reply, may_show_any, tells_fields};
 
 use std::alloc::Allocator;
 use zk_client::{Call, CallResult, Input, Outcome, Output};
@@ -34,7 +34,7 @@ pub(crate) fn asks_to_watch<A: Allocator>(input: &Input<A>) -> bool
 }
 
 /// Whether an answer has the fields of a node and not its data: where the data are kept and good, they may be so no more.
-pub(crate) fn tells_fields<A: Allocator>(outcome: &Outcome<A>) -> bool
+fn tells_fields<A: Allocator>(outcome: &Outcome<A>) -> bool
     ensures { result ≡ tells_fields (outcome_view outcome.now) }
 {
     matches!(
@@ -44,6 +44,33 @@ pub(crate) fn tells_fields<A: Allocator>(outcome: &Outcome<A>) -> bool
             ..
         }
     )
+}
+
+/// Whether a call was answered by its reply.
+pub(crate) fn is_reply<A: Allocator>(outcome: &Outcome<A>) -> bool
+    ensures { result ≡ is_reply (outcome_view outcome.now) }
+{
+    matches!(outcome, Outcome::Replied { .. })
+}
+
+/// Whether by an output what is kept of any path may have become good, where it is known whether a watch may be that of no subject.
+fn may_show_any<A: Allocator>(is_foreign: bool, output: &Output<A>) -> bool
+    ensures { result ≡ may_show_any is_foreign (output_view output.now) }
+{
+    match output {
+        Output::Answer { outcome, .. } => is_foreign && is_reply(outcome),
+        Output::State(_) => true,
+        _ => false,
+    }
+}
+
+/// Whether by one of these outputs it may have.
+pub(crate) fn has_one_showing_any<A: Allocator>(is_foreign: bool, outputs: &[Output<A>]) -> bool
+    ensures { result ≡ list_any (may_show_any is_foreign) (said outputs.now) }
+{
+    outputs
+        .iter()
+        .any(|output| may_show_any(is_foreign, output))
 }
 
 /// Whether an output may be about each subject, where it is known whether a watch may be that of none.

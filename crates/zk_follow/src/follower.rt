@@ -1,7 +1,9 @@
 //! A client with the subjects that its program follows.
 
 ghost use Rattle.std.specs.Prelude.{◌≡◌, ◌++◌, ◌∷◌, ◌<ℤ◌, ◌==◌, ℕ, List, false, true, length, not, pos, map, [], None, IfOk, OnOk, OnErr};
-ghost use Rattle.std.specs.Prelude.{◌≤◌, ◌<◌, All, IfSome, slice_index_or};
+ghost use Rattle.std.specs.Prelude.{◌≤◌, ◌<◌, ◌⊎◌, ◌||◌, All, IfSome, slice_index_or};
+ghost use Rattle.zk_follow.specs.declared.reads.TheConstants.{MOST_READS};
+ghost use Rattle.zk_follow.specs.Following.{is_among, AreStillBut, IsFollowed};
 ghost use Rattle.std.specs.List.{flat_map, remove};
 ghost use Rattle.std.proofs.Props.{props};
 ghost use Rattle.zk_turns.specs.Turns.{Forgets, Item, Now, Start};
@@ -17,6 +19,7 @@ ghost use Rattle.zk_follow.specs.inner.Following.{AreSeen, Asks, Reads};
 ghost use Rattle.zk_follow.specs.Owning.{AreOwn};
 ghost use Rattle.zk_follow.specs.inner.Owning.{asks_to_watch};
 ghost use Rattle.zk_follow.specs.Places.{AreFound};
+ghost use Rattle.zk_follow.specs.Refusing.{too_long_for};
 ghost use Rattle.zk_follow.specs.inner.Places.{AreSameBut, IsAscending};
 ghost use Rattle.zk_follow.specs.inner.Resting.{AreAtRest, AreDueBut, AreLeft};
 
@@ -26,10 +29,13 @@ use crate::index::{Index, fit_all};
 use crate::leaving::{awake_left, index_of};
 use crate::news::{News, tell_all};
 use crate::progress::Progress;
+use crate::queue::{is_room_left, pour, stir, take_first, take_rest};
+use crate::refusing::refuse_all;
 use crate::stop::FollowerStop;
 use crate::subject::Subject;
 use crate::tickets::{Tickets, remove_all};
 use std::alloc::{AllocError, Allocator, Global};
+use std::collections::VecDeque;
 use std::mem;
 use zk_client::{Client, Input, Output, Path, Side};
 
@@ -42,13 +48,17 @@ pub struct Follower<A: Allocator + Copy = Global> {
     pub(crate) subjects: Vec<Subject<A>, A>,
     /// The places of the subjects, by the tickets and paths that outputs name.
     index: Index<A>,
-    /// The places of those that may not be quiet. A step visits these, those that its outputs name, and no other in the index.
+    /// The places of those that may not be still. A step visits these, those that its outputs name, and as many of those that wait as there
+    /// is room for a read of, and no other in the index.
     awake: Vec<usize, A>,
+    /// The places of the others that may not be quiet: what is kept of them is not good, and they wait for room to be read.
+    waiting: VecDeque<usize, A>,
     /// Whether a call may be on its way that is to leave a watch and is no read of a subject.
     is_foreign: bool,
     ghost counted: { All (IsCounted (view_of client)) subjects.items } by { Prim.hlevel props },
     ghost found: { AreFound index subjects.items } by { Prim.hlevel props },
-    ghost rest: { AreQuietBut (view_of client) index.count subjects.items awake.items } by { Prim.hlevel props },
+    ghost still: { AreStillBut (view_of client) index.count subjects.items awake.items } by { Prim.hlevel props },
+    ghost rest: { AreQuietBut (view_of client) index.count subjects.items (awake.items ++ waiting.items) } by { Prim.hlevel props },
     ghost own: { is_foreign ≡ false → AreOwn subjects.items (view_of client).pending } by { Prim.hlevel props },
 }
 
@@ -66,7 +76,8 @@ fn count_reads<A: Allocator + Copy>(subjects: &[Subject<A>], places: &[usize]) -
     reads
 }
 
-/// The subjects at these places are read if they are to be read and there is room beside those that are being read. Others rest.
+/// The subjects at these places are read if they are to be read and there is room beside those that are being read. The answer is how many
+/// are being read then. Others are followed if they were.
 fn visit_each<A: Allocator + Copy>(
     alloc: A,
     subjects: &mut [Subject<A>],
@@ -75,18 +86,22 @@ fn visit_each<A: Allocator + Copy>(
     now: u64,
     reads: usize,
     made: &mut Vec<Output<A>, A>,
-) -> Result<(), FollowerStop>
+) -> Result<usize, FollowerStop>
     requires counted { All (IsCounted (view_of client.old)) subjects.old }
     requires goes_on { (view_of client.old).standing.halted ≡ false }
     requires ahead { All (λ subject. IsAhead now subject.progress) subjects.old }
     requires count { reads ≡ how_many_reading subjects.old }
     requires ascend { IsAscending places.now }
     requires below { All (λ at. at < length subjects.old) places.now }
-    requires rest { AreAtRest (view_of client.old) subjects.old places.now }
-    ensures followed { OnOk result (AreFollowed now (view_of client.new) subjects.new) }
+    ensures followed { IfOk result (λ after. (k : ℕ) (d : Subject A) → k < length subjects.old
+        → (is_among k places.now ≡ true) ⊎ IsFollowed now (view_of client.old) reads (slice_index_or subjects.old k d)
+        → IsFollowed now (view_of client.new) after (slice_index_or subjects.new k d)) }
     ensures counted { OnOk result (All (IsCounted (view_of client.new)) subjects.new) }
+    ensures ahead { OnOk result (All (λ subject. IsAhead now subject.progress) subjects.new) }
     ensures asks { OnOk result (Asks (view_of client.old) (view_of client.new)) }
     ensures left { OnOk result (AreSameBut places.now subjects.old subjects.new) }
+    ensures count { IfOk result (λ after. after ≡ how_many_reading subjects.new) }
+    ensures room { IfOk result (λ after. (after ≡ reads) ⊎ (after ≤ MOST_READS)) }
     ensures reads { OnOk result (Reads subjects.old (view_of client.old) (said made.old.items) (view_of client.new) (said made.new.items)
         (how_many_reading subjects.new)) }
     ensures seen { OnOk result (AreSeen now subjects.old subjects.new) }
@@ -96,16 +111,97 @@ fn visit_each<A: Allocator + Copy>(
     for place in places {
         reads = subjects[*place].visit(alloc, client, now, reads, made)?;
     }
-    Ok(())
+    Ok(reads)
 }
 
-/// Each subject takes what the client has said. Those at these places are read then if they are to be read. Others rest, and the outputs
-/// are not about them.
+/// All that wait are read as far as there is room, if there is room left once the subjects at these places were visited.
+fn visit_rest<A: Allocator + Copy>(
+    alloc: A,
+    subjects: &mut [Subject<A>],
+    places: &mut Vec<usize, A>,
+    waiting: &mut VecDeque<usize, A>,
+    client: &mut Client<A>,
+    now: u64,
+    reads: usize,
+    made: &mut Vec<Output<A>, A>,
+) -> Result<(), FollowerStop>
+    requires counted { All (IsCounted (view_of client.old)) subjects.old }
+    requires goes_on { (view_of client.old).standing.halted ≡ false }
+    requires ahead { All (λ subject. IsAhead now subject.progress) subjects.old }
+    requires count { reads ≡ how_many_reading subjects.old }
+    requires ascend { IsAscending places.old.items }
+    requires followed { (k : ℕ) (d : Subject A) → k < length subjects.old
+        → (is_among k waiting.old.items ≡ false) ⊎ (is_among k places.old.items ≡ true)
+        → IsFollowed now (view_of client.old) reads (slice_index_or subjects.old k d) }
+    ensures followed { OnOk result (AreFollowed now (view_of client.new) subjects.new) }
+    ensures counted { OnOk result (All (IsCounted (view_of client.new)) subjects.new) }
+    ensures asks { OnOk result (Asks (view_of client.old) (view_of client.new)) }
+    ensures kept { OnOk result ((at : ℕ) → at < length subjects.old
+        → (is_among at places.old.items || is_among at waiting.old.items) ≡ true → is_among at places.new.items ≡ true) }
+    ensures left { OnOk result (AreSameBut places.new.items subjects.old subjects.new) }
+    ensures seen { OnOk result (AreSeen now subjects.old subjects.new) }
+    ensures apart { OnOk result ((k : ℕ) (d : Subject A) → is_among k places.old.items ≡ true
+        → slice_index_or subjects.new k d ≡ slice_index_or subjects.old k d) }
+    ensures room { OnOk result ((how_many_reading subjects.new ≡ reads) ⊎ (how_many_reading subjects.new ≤ MOST_READS)) }
+    ensures reads { OnOk result (Reads subjects.old (view_of client.old) (said made.old.items) (view_of client.new) (said made.new.items)
+        (how_many_reading subjects.new)) }
+    ensures broke { OnErr result (BreaksOff (view_of client.old) (view_of client.new)) }
+{
+    let mut rest = take_rest(alloc, places.as_slice(), subjects.len(), waiting)?;
+    let _after = visit_each(alloc, subjects, rest.as_slice(), client, now, reads, made)?;
+    match places.append(&mut rest) {
+        Ok(()) => Ok(()),
+        Err(_) => Err(FollowerStop::Memory),
+    }
+}
+
+/// The subjects at these places are read if they are to be read, and as many of those that wait as there is room for. Others rest.
+fn visit_due<A: Allocator + Copy>(
+    alloc: A,
+    subjects: &mut [Subject<A>],
+    places: &mut Vec<usize, A>,
+    waiting: &mut VecDeque<usize, A>,
+    client: &mut Client<A>,
+    now: u64,
+    reads: usize,
+    made: &mut Vec<Output<A>, A>,
+) -> Result<(), FollowerStop>
+    requires counted { All (IsCounted (view_of client.old)) subjects.old }
+    requires goes_on { (view_of client.old).standing.halted ≡ false }
+    requires ahead { All (λ subject. IsAhead now subject.progress) subjects.old }
+    requires count { reads ≡ how_many_reading subjects.old }
+    requires below { All (λ at. at < length subjects.old) places.old.items }
+    requires rest { AreAtRest (view_of client.old) subjects.old (places.old.items ++ waiting.old.items) }
+    ensures followed { OnOk result (AreFollowed now (view_of client.new) subjects.new) }
+    ensures counted { OnOk result (All (IsCounted (view_of client.new)) subjects.new) }
+    ensures asks { OnOk result (Asks (view_of client.old) (view_of client.new)) }
+    ensures had { OnOk result ((at : ℕ) → at < length subjects.old → is_among at places.old.items ≡ true
+        → is_among at places.new.items ≡ true) }
+    ensures kept { OnOk result ((at : ℕ) → at < length subjects.old
+        → (is_among at places.old.items || is_among at waiting.old.items) ≡ true
+        → (is_among at places.new.items || is_among at waiting.new.items) ≡ true) }
+    ensures left { OnOk result (AreSameBut places.new.items subjects.old subjects.new) }
+    ensures seen { OnOk result (AreSeen now subjects.old subjects.new) }
+    ensures reads { OnOk result (Reads subjects.old (view_of client.old) (said made.old.items) (view_of client.new) (said made.new.items)
+        (how_many_reading subjects.new)) }
+    ensures broke { OnErr result (BreaksOff (view_of client.old) (view_of client.new)) }
+{
+    take_first(subjects, client, reads, waiting, places)?;
+    let reads = visit_each(alloc, subjects, places.as_slice(), client, now, reads, made)?;
+    if !is_room_left(client, reads, waiting) {
+        return Ok(());
+    }
+    visit_rest(alloc, subjects, places, waiting, client, now, reads, made)
+}
+
+/// Each subject takes what the client has said. Those at these places are read then if they are to be read, and as many of those that wait
+/// as there is room for. Others rest, and the outputs are not about them.
 fn visit_all<A: Allocator + Copy>(
     alloc: A,
     subjects: &mut [Subject<A>],
     index: &Index<A>,
-    places: &[usize],
+    places: &mut Vec<usize, A>,
+    waiting: &mut VecDeque<usize, A>,
     client: &mut Client<A>,
     now: u64,
     outputs: &[Output<A>],
@@ -116,23 +212,29 @@ fn visit_all<A: Allocator + Copy>(
     requires sized { 0 < length index.now.keys.buckets.items }
     requires count { index.now.count ≡ length subjects.old }
     requires found { AreFound index.now subjects.old }
-    requires ascend { IsAscending places.now }
-    requires below { All (λ at. at < length subjects.old) places.now }
-    requires rest { AreLeft (view_of client.old) (said outputs.now) subjects.old places.now }
+    requires ascend { IsAscending places.old.items }
+    requires below { All (λ at. at < length subjects.old) places.old.items }
+    requires left { AreLeft (view_of client.old) (said outputs.now) subjects.old places.old.items }
+    requires rest { AreAtRest (view_of client.old) subjects.old (places.old.items ++ waiting.old.items) }
     ensures followed { OnOk result (AreFollowed now (view_of client.new) subjects.new) }
     ensures counted { OnOk result (All (IsCounted (view_of client.new)) subjects.new) }
     ensures asks { OnOk result (Asks (view_of client.old) (view_of client.new)) }
-    ensures left { OnOk result (AreSameBut places.now subjects.old subjects.new) }
+    ensures had { OnOk result ((at : ℕ) → at < length subjects.old → is_among at places.old.items ≡ true
+        → is_among at places.new.items ≡ true) }
+    ensures kept { OnOk result ((at : ℕ) → at < length subjects.old
+        → (is_among at places.old.items || is_among at waiting.old.items) ≡ true
+        → (is_among at places.new.items || is_among at waiting.new.items) ≡ true) }
+    ensures left { OnOk result (AreSameBut places.new.items subjects.old subjects.new) }
     ensures reads { OnOk result (Reads subjects.old (view_of client.old) (said made.old.items) (view_of client.new) (said made.new.items)
         (how_many_reading subjects.new)) }
     ensures visited { OnOk result (AreVisited now (said outputs.now) subjects.old subjects.new) }
     ensures broke { OnErr result (BreaksOff (view_of client.old) (view_of client.new)) }
 {
-    let Ok(()) = take_all(alloc, subjects, index, places, now, outputs) else {
+    let Ok(()) = take_all(alloc, subjects, index, places.as_slice(), now, outputs) else {
         return Err(FollowerStop::Memory);
     };
-    let reads = count_reads(subjects, places);
-    visit_each(alloc, subjects, places, client, now, reads, made)
+    let reads = count_reads(subjects, places.as_slice());
+    visit_due(alloc, subjects, places, waiting, client, now, reads, made)
 }
 
 /// Hands a client that follows none an input that is noticed at this moment.
@@ -160,6 +262,7 @@ fn advance_all<A: Allocator + Copy>(
     subjects: &mut [Subject<A>],
     index: &Index<A>,
     awake: &mut Vec<usize, A>,
+    waiting: &mut VecDeque<usize, A>,
     client: &mut Client<A>,
     is_foreign: bool,
     now: u64,
@@ -172,11 +275,13 @@ fn advance_all<A: Allocator + Copy>(
     requires sized { 0 < length index.now.keys.buckets.items }
     requires count { index.now.count ≡ length subjects.old }
     requires found { AreFound index.now subjects.old }
-    requires rest { AreQuietBut (view_of client.old) index.now.count subjects.old awake.old.items }
+    requires still { AreStillBut (view_of client.old) index.now.count subjects.old awake.old.items }
+    requires rest { AreQuietBut (view_of client.old) index.now.count subjects.old (awake.old.items ++ waiting.old.items) }
     ensures followed { OnOk result (AreFollowed now (view_of client.new) subjects.new) }
     ensures counted { OnOk result (All (IsCounted (view_of client.new)) subjects.new) }
     ensures found { OnOk result (AreFound index.now subjects.new) }
-    ensures rest { OnOk result (AreQuietBut (view_of client.new) index.now.count subjects.new awake.new.items) }
+    ensures still { OnOk result (AreStillBut (view_of client.new) index.now.count subjects.new awake.new.items) }
+    ensures rest { OnOk result (AreQuietBut (view_of client.new) index.now.count subjects.new (awake.new.items ++ waiting.new.items)) }
     ensures ahead { OnOk result (All (λ subject. IsAhead now subject.progress) subjects.new) }
     ensures steps { OnOk result
         (Steps now (view_of client.old) (input_view input) subjects.old (view_of client.new) (said outputs.new.items) subjects.new) }
@@ -185,24 +290,19 @@ fn advance_all<A: Allocator + Copy>(
     let Ok(()) = client.step_at_into(now, input, outputs) else {
         return Err(FollowerStop::Halted);
     };
-    let Ok(places) = index.with_those_about(
-        alloc,
-        is_foreign,
-        subjects,
-        awake.as_slice(),
-        outputs.as_slice(),
-    ) else {
-        return Err(FollowerStop::Memory);
-    };
+    let heard = outputs.as_slice();
+    stir(is_foreign, heard, subjects.len(), waiting, awake)?;
+    let mut places = index.with_those_about(alloc, is_foreign, subjects, awake.as_slice(), heard)?;
     let mut made = Vec::new(alloc);
     visit_all(
         alloc,
         subjects,
         index,
-        places.as_slice(),
+        &mut places,
+        waiting,
         client,
         now,
-        outputs.as_slice(),
+        heard,
         &mut made,
     )?;
     *awake = places;
@@ -218,6 +318,7 @@ fn advance<A: Allocator + Copy>(
     subjects: &mut [Subject<A>],
     index: &mut Index<A>,
     awake: &mut Vec<usize, A>,
+    waiting: &mut VecDeque<usize, A>,
     client: &mut Client<A>,
     is_foreign: bool,
     now: u64,
@@ -228,11 +329,13 @@ fn advance<A: Allocator + Copy>(
     requires own { is_foreign ≡ false → AreOwn subjects.old (view_of client.old).pending }
     requires asks { is_foreign ≡ false → asks_to_watch (input_view input) ≡ false }
     requires found { AreFound index.old subjects.old }
-    requires rest { AreQuietBut (view_of client.old) index.old.count subjects.old awake.old.items }
+    requires still { AreStillBut (view_of client.old) index.old.count subjects.old awake.old.items }
+    requires rest { AreQuietBut (view_of client.old) index.old.count subjects.old (awake.old.items ++ waiting.old.items) }
     ensures followed { OnOk result (AreFollowed now (view_of client.new) subjects.new) }
     ensures counted { OnOk result (All (IsCounted (view_of client.new)) subjects.new) }
     ensures found { OnOk result (AreFound index.new subjects.new) }
-    ensures rest { OnOk result (AreQuietBut (view_of client.new) index.new.count subjects.new awake.new.items) }
+    ensures still { OnOk result (AreStillBut (view_of client.new) index.new.count subjects.new awake.new.items) }
+    ensures rest { OnOk result (AreQuietBut (view_of client.new) index.new.count subjects.new (awake.new.items ++ waiting.new.items)) }
     ensures ahead { OnOk result (All (λ subject. IsAhead now subject.progress) subjects.new) }
     ensures steps { OnOk result
         (Steps now (view_of client.old) (input_view input) subjects.old (view_of client.new) (said outputs.new.items) subjects.new) }
@@ -245,7 +348,7 @@ fn advance<A: Allocator + Copy>(
         return Err(FollowerStop::Memory);
     };
     advance_all(
-        alloc, subjects, index, awake, client, is_foreign, now, input, outputs,
+        alloc, subjects, index, awake, waiting, client, is_foreign, now, input, outputs,
     )
 }
 
@@ -397,6 +500,7 @@ impl<A: Allocator + Copy> Follower<A> {
             subjects: Vec::new(alloc),
             index: Index::new(alloc),
             awake: Vec::new(alloc),
+            waiting: VecDeque::new(alloc),
             is_foreign: true,
         }
     }
@@ -412,6 +516,9 @@ impl<A: Allocator + Copy> Follower<A> {
     fn are_quiet(&self) -> bool
         ensures { result ≡ true → AreQuiet (view_of self.now.client) self.now.subjects.items }
     {
+        if !self.waiting.is_empty() {
+            return false;
+        }
         self.awake.is_empty() && self.index.count() == self.subjects.len()
     }
 
@@ -487,6 +594,7 @@ impl<A: Allocator + Copy> Follower<A> {
             subjects,
             &mut self.index,
             &mut self.awake,
+            &mut self.waiting,
             &mut self.client,
             is_foreign,
             now,
@@ -526,6 +634,7 @@ impl<A: Allocator + Copy> Follower<A> {
     {
         self.index = Index::new(self.alloc);
         self.awake.clear();
+        self.waiting.clear();
         self.is_foreign = is_foreign_still(&self.client, true);
         remove(&mut self.subjects, ticket);
     }
@@ -538,6 +647,11 @@ impl<A: Allocator + Copy> Follower<A> {
         ensures same { OnErr result (self.new.subjects.items ≡ self.old.subjects.items) }
     {
         let gone = Tickets::of(self.alloc, tickets)?;
+        let count = self.subjects.len();
+        let Ok(()) = pour(&mut self.waiting, count, &mut self.awake) else {
+            self.index = Index::new(self.alloc);
+            return Err(AllocError);
+        };
         let awake = awake_left(
             self.alloc,
             self.subjects.as_slice(),
@@ -551,6 +665,22 @@ impl<A: Allocator + Copy> Follower<A> {
         self.awake = awake;
         self.is_foreign = is_foreign_still(&self.client, true);
         Ok(())
+    }
+
+    /// The answer to the read of this ticket was too long, so that the connection was given up. The subject counts as refused: it is read
+    /// again after a second, and after a minute where that was told of it last.
+    pub fn refuse(&mut self, now: u64, ticket: u64)
+        ensures client { self.new.client ≡ self.old.client }
+        ensures subjects { self.new.subjects.items ≡ map (too_long_for now ticket) self.old.subjects.items }
+        ensures followed { AreFollowed now (view_of self.old.client) self.old.subjects.items
+            → AreFollowed now (view_of self.new.client) self.new.subjects.items }
+    {
+        self.index = Index::new(self.alloc);
+        self.awake.clear();
+        self.waiting.clear();
+        self.is_foreign = is_foreign_still(&self.client, true);
+        let subjects = self.subjects.as_mut_slice();
+        refuse_all(subjects, now, ticket);
     }
 
     /// Takes the stale answers out of what the client keeps. What is good stays, so each subject stays followed. It takes no memory.
@@ -595,6 +725,7 @@ impl<A: Allocator + Copy> Follower<A> {
             subjects,
             &mut self.index,
             &mut self.awake,
+            &mut self.waiting,
             &self.client,
             outputs,
             all,
@@ -623,6 +754,7 @@ impl<A: Allocator + Copy> Follower<A> {
         begin_client(self.alloc, &mut self.client, timeout_ms)?;
         self.index = Index::new(self.alloc);
         self.awake.clear();
+        self.waiting.clear();
         let subjects = self.subjects.as_mut_slice();
         begin_all(subjects);
         Ok(())

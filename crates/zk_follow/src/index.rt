@@ -1,18 +1,18 @@
 //! Which subjects outputs name, found in a time that does not rise with the number of subjects.
 
-ghost use Rattle.std.specs.Prelude.{◌≡◌, ◌<◌, ◌+◌, ◌-◌, ◌^◌, ◌&&◌, ℕ, All, true, false, length, slice_index_or, IfOk, OnOk};
+ghost use Rattle.std.specs.Prelude.{◌≡◌, ◌<◌, ◌+◌, ◌++◌, ◌-◌, ◌^◌, ◌&&◌, ℕ, All, List, true, false, length, slice_index_or, IfOk, OnOk};
 ghost use Rattle.std.specs.List.{list_any};
 ghost use Rattle.zk_nodes.specs.Path.{Text};
 ghost use Rattle.zk_client.specs.Views.{outcome_view, output_view, said};
-ghost use Rattle.zk_follow.specs.inner.Resting.{is_about, is_beside, tells_fields};
+ghost use Rattle.zk_follow.specs.inner.Resting.{is_about, is_beside, is_reply};
 ghost use Rattle.zk_follow.specs.inner.Owning.{is_of};
 ghost use Rattle.zk_follow.specs.Places.{has_place, key_of, AreFound};
 ghost use Rattle.zk_follow.specs.inner.Places.{is_heard_by, is_named, IsAscending};
-ghost use Rattle.zk_follow.specs.Following.{AreQuietBut};
+ghost use Rattle.zk_follow.specs.Following.{AreQuietBut, AreStillBut};
 ghost use Rattle.zk_follow.specs.Following.{is_among};
 ghost use Rattle.zk_turns.specs.View.{View};
 
-use crate::about::{has_one_about_all, tells_fields};
+use crate::about::{has_one_about_all, is_reply};
 use crate::places::{Places, add_below, all_below, key_of, put_in_order};
 use crate::subject::Subject;
 use std::alloc::{AllocError, Allocator};
@@ -228,7 +228,7 @@ impl<A: Allocator + Copy> Index<A> {
         self.add_at_paths(subjects, places.as_slice(), all)
     }
 
-    /// Adds the places of those beside which a call of this ticket is answered with the fields of a node.
+    /// Adds the places of those beside which a call of this ticket is answered by its reply.
     fn add_answered(
         &self,
         alloc: A,
@@ -243,15 +243,15 @@ impl<A: Allocator + Copy> Index<A> {
         ensures below { OnOk result (All (λ at. at < self.now.count) all.old.items → All (λ at. at < self.now.count) all.new.items) }
         ensures had { OnOk result ((at : ℕ) → at < self.now.count → is_among at all.old.items ≡ true → is_among at all.new.items ≡ true) }
         ensures beside { OnOk result ((path : Text) (at : ℕ) → at < self.now.count → has_place self.now.keys (key_of path) at ≡ true
-            → (tells_fields (outcome_view outcome.now) && is_of subjects.now ticket path) ≡ true → is_among at all.new.items ≡ true) }
+            → (is_reply (outcome_view outcome.now) && is_of subjects.now ticket path) ≡ true → is_among at all.new.items ≡ true) }
     {
-        if tells_fields(outcome) {
+        if is_reply(outcome) {
             return self.add_siblings(alloc, subjects, ticket, all);
         }
         Ok(())
     }
 
-    /// Adds the places of those beside which an output answers with the fields of a node.
+    /// Adds the places of those beside which an output is a reply.
     fn add_beside(
         &self,
         alloc: A,
@@ -275,7 +275,7 @@ impl<A: Allocator + Copy> Index<A> {
         }
     }
 
-    /// Adds the places of those beside which outputs answer with the fields of a node.
+    /// Adds the places of those beside which outputs are replies.
     fn add_all_beside(
         &self,
         alloc: A,
@@ -315,6 +315,8 @@ impl<A: Allocator + Copy> Index<A> {
         ensures about { IfOk result (λ all. (ticket : ℕ) (path : Text) (at : ℕ) → at < self.now.count
             → has_place self.now.keys ticket at ≡ true → has_place self.now.keys (key_of path) at ≡ true
             → list_any (is_about is_foreign subjects.now ticket path) (said outputs.now) ≡ true → is_among at all.items ≡ true) }
+        ensures beside { IfOk result (λ all. (path : Text) (at : ℕ) → at < self.now.count → has_place self.now.keys (key_of path) at ≡ true
+            → list_any (is_beside subjects.now path) (said outputs.now) ≡ true → is_among at all.items ≡ true) }
     {
         if has_one_about_all(is_foreign, outputs) {
             return all_below(alloc, self.count);
@@ -338,8 +340,11 @@ pub(crate) fn fit_all<A: Allocator + Copy>(
     ensures sized { OnOk result (0 < length index.new.keys.buckets.items) }
     ensures count { OnOk result (index.new.count ≡ length subjects.now) }
     ensures found { OnOk result (AreFound index.new subjects.now) }
-    ensures rest { OnOk result ((view : View) → AreQuietBut view index.old.count subjects.now awake.old.items
-        → AreQuietBut view index.new.count subjects.now awake.new.items) }
+    ensures still { OnOk result ((view : View) → AreStillBut view index.old.count subjects.now awake.old.items
+        → AreStillBut view index.new.count subjects.now awake.new.items) }
+    ensures rest { OnOk result ((view : View) (waiting : List ℕ)
+        → AreQuietBut view index.old.count subjects.now (awake.old.items ++ waiting)
+        → AreQuietBut view index.new.count subjects.now (awake.new.items ++ waiting)) }
 {
     let known = index.count();
     if known == subjects.len() {

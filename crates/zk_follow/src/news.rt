@@ -1,12 +1,12 @@
 //! What there is to tell of a subject.
 
-ghost use Rattle.std.specs.Prelude.{◌≡◌, ◌<◌, ◌++◌, All, ℕ, length, map, false, true, IfOk, OnOk, slice_index_or};
+ghost use Rattle.std.specs.Prelude.{◌≡◌, ◌<◌, ◌++◌, ◌||◌, All, ℕ, length, map, false, true, IfOk, OnOk, slice_index_or};
 ghost use Rattle.std.specs.List.{flat_map, list_any};
 ghost use Rattle.zk_client.specs.Clients.{view_of};
 ghost use Rattle.zk_client.specs.Views.{output_view, said};
 ghost use Rattle.zk_follow.specs.Following.{is_reported, is_same, news_about, news_in, news_list, told_after, told_of};
 ghost use Rattle.zk_follow.specs.Following.{was_refused, was_shown};
-ghost use Rattle.zk_follow.specs.Following.{is_quiet, AreQuietBut};
+ghost use Rattle.zk_follow.specs.Following.{is_quiet, is_still, AreQuietBut, AreStillBut};
 ghost use Rattle.zk_follow.specs.Following.{is_among};
 ghost use Rattle.zk_follow.specs.Places.{AreFound};
 ghost use Rattle.zk_follow.specs.inner.Places.{IsAscending};
@@ -16,9 +16,11 @@ ghost use Rattle.zk_follow.specs.inner.Resting.{is_report, AreTold};
 use crate::index::{Index, fit_all};
 use crate::kept::is_shown;
 use crate::progress::{Progress, Refusal};
+use crate::queue::put_last;
 use crate::reported::Reported;
 use crate::subject::Subject;
 use std::alloc::{AllocError, Allocator};
+use std::collections::VecDeque;
 use zk_client::{Client, Output, Path};
 
 /// What there is to tell of a subject.
@@ -195,18 +197,25 @@ fn tell_each<A: Allocator + Copy>(
     Ok(())
 }
 
-/// Adds the place of a subject that may not be quiet.
+/// Adds the place of a subject to those that are awake if it may not be still, and to those that wait if it waits.
 fn add_awake<A: Allocator + Copy>(
     subject: &Subject<A>,
     place: usize,
     client: &Client<A>,
     awake: &mut Vec<usize, A>,
+    waiting: &mut VecDeque<usize, A>,
 ) -> Result<(), AllocError>
     ensures had { OnOk result ((at : ℕ) → is_among at awake.old.items ≡ true → is_among at awake.new.items ≡ true) }
-    ensures here { OnOk result (is_among place awake.new.items ≡ false → is_quiet (view_of client.now) subject.now ≡ true) }
+    ensures kept { OnOk result ((at : ℕ) → is_among at waiting.old.items ≡ true → is_among at waiting.new.items ≡ true) }
+    ensures here { OnOk result (is_among place awake.new.items ≡ false → is_still (view_of client.now) subject.now ≡ true) }
+    ensures quiet { OnOk result ((is_among place awake.new.items || is_among place waiting.new.items) ≡ false
+        → is_quiet (view_of client.now) subject.now ≡ true) }
 {
     if subject.is_quiet(client) {
         return Ok(());
+    }
+    if subject.is_waiting(client) {
+        return put_last(waiting, place);
     }
     match awake.push(place) {
         Ok(()) => Ok(()),
@@ -214,41 +223,49 @@ fn add_awake<A: Allocator + Copy>(
     }
 }
 
-/// Of these places those whose subjects may not be quiet.
+/// Of these places those whose subjects may not be still. Those that wait are added to the queue.
 fn awake_among<A: Allocator + Copy>(
     alloc: A,
     subjects: &[Subject<A>],
     places: &[usize],
     client: &Client<A>,
+    waiting: &mut VecDeque<usize, A>,
 ) -> Result<Vec<usize, A>, AllocError>
     requires { All (λ at. at < length subjects.now) places.now }
-    ensures { IfOk result (λ awake. (k : ℕ) (d : Subject A) → k < length subjects.now → is_among k places.now ≡ true
-        → is_among k awake.items ≡ false → is_quiet (view_of client.now) (slice_index_or subjects.now k d) ≡ true) }
+    ensures kept { OnOk result ((at : ℕ) → is_among at waiting.old.items ≡ true → is_among at waiting.new.items ≡ true) }
+    ensures still { IfOk result (λ awake. (k : ℕ) (d : Subject A) → k < length subjects.now → is_among k places.now ≡ true
+        → is_among k awake.items ≡ false → is_still (view_of client.now) (slice_index_or subjects.now k d) ≡ true) }
+    ensures quiet { IfOk result (λ awake. (k : ℕ) (d : Subject A) → k < length subjects.now → is_among k places.now ≡ true
+        → (is_among k awake.items || is_among k waiting.new.items) ≡ false
+        → is_quiet (view_of client.now) (slice_index_or subjects.now k d) ≡ true) }
 {
     let mut awake = Vec::new(alloc);
     for place in places {
-        add_awake(&subjects[*place], *place, client, &mut awake)?;
+        add_awake(&subjects[*place], *place, client, &mut awake, waiting)?;
     }
     Ok(awake)
 }
 
 /// Adds what there is to tell of each subject, with its ticket, in order. These outputs were made since the call before this one. Those
-/// that are not awake are quiet, before and after it.
+/// that are not awake are still, before and after it, and those that do not wait either are quiet.
 pub(crate) fn tell_all<A: Allocator + Copy>(
     alloc: A,
     subjects: &mut [Subject<A>],
     index: &mut Index<A>,
     awake: &mut Vec<usize, A>,
+    waiting: &mut VecDeque<usize, A>,
     client: &Client<A>,
     outputs: &[Output<A>],
     all: &mut Vec<(u64, News), A>,
 ) -> Result<(), AllocError>
     requires found { AreFound index.old subjects.old }
-    requires rest { AreQuietBut (view_of client.now) index.old.count subjects.old awake.old.items }
+    requires still { AreStillBut (view_of client.now) index.old.count subjects.old awake.old.items }
+    requires rest { AreQuietBut (view_of client.now) index.old.count subjects.old (awake.old.items ++ waiting.old.items) }
     ensures news { OnOk result (all.new.items ≡ all.old.items ++ flat_map (news_in (view_of client.now) (said outputs.now)) subjects.old) }
     ensures told { OnOk result (subjects.new ≡ map (told_of (view_of client.now)) subjects.old) }
     ensures found { OnOk result (AreFound index.new subjects.new) }
-    ensures rest { OnOk result (AreQuietBut (view_of client.now) index.new.count subjects.new awake.new.items) }
+    ensures still { OnOk result (AreStillBut (view_of client.now) index.new.count subjects.new awake.new.items) }
+    ensures rest { OnOk result (AreQuietBut (view_of client.now) index.new.count subjects.new (awake.new.items ++ waiting.new.items)) }
 {
     if subjects.is_empty() {
         return Ok(());
@@ -256,6 +273,6 @@ pub(crate) fn tell_all<A: Allocator + Copy>(
     fit_all(alloc, subjects, index, awake)?;
     let places = index.with_named(alloc, awake.as_slice(), outputs)?;
     tell_each(alloc, subjects, places.as_slice(), client, outputs, all)?;
-    *awake = awake_among(alloc, subjects, places.as_slice(), client)?;
+    *awake = awake_among(alloc, subjects, places.as_slice(), client, waiting)?;
     Ok(())
 }

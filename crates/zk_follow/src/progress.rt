@@ -20,7 +20,7 @@ pub enum Refusal {
     Code(i32),
     /// The client watches 65,536 paths of the side.
     TooManyWatches,
-    /// The path is too long for a request.
+    /// The answer is longer than the client takes. The connection was given up for that.
     TooLarge,
     /// The session is being closed.
     SessionClosed,

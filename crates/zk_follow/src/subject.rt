@@ -13,7 +13,7 @@ ghost use Rattle.zk_follow.specs.inner.Following.{Asks};
 ghost use Rattle.zk_follow.specs.Following.{BreaksOff, IsAhead, IsBusy, IsCounted, IsFollowed};
 ghost use Rattle.zk_follow.specs.declared.reads.TheConstants.{MOST_READS};
 ghost use Rattle.zk_follow.specs.inner.Following.{VisitsAnd};
-ghost use Rattle.zk_follow.specs.Following.{is_quiet, is_resting};
+ghost use Rattle.zk_follow.specs.Following.{is_awaited, is_due, is_quiet, is_resting, is_still};
 
 use crate::kept::{holds, is_shown};
 use crate::news::{News, was_shown};
@@ -36,7 +36,7 @@ pub struct Subject<A: Allocator> {
 }
 
 /// Whether there is room for a read beside these.
-fn has_room<A: Allocator + Copy>(client: &Client<A>, reads: usize) -> bool
+pub(crate) fn has_room<A: Allocator + Copy>(client: &Client<A>, reads: usize) -> bool
     ensures yes { result ≡ true → reads < MOST_READS }
     ensures no { result ≡ false → IsBusy (view_of client.now) reads }
 {
@@ -47,7 +47,7 @@ fn has_room<A: Allocator + Copy>(client: &Client<A>, reads: usize) -> bool
 }
 
 /// Whether a server has accepted the connection.
-fn is_connected<A: Allocator + Copy>(client: &Client<A>) -> bool
+pub(crate) fn is_connected<A: Allocator + Copy>(client: &Client<A>) -> bool
     ensures yes { result ≡ true → (view_of client.now).standing.state ≡ Connected }
     ensures no { result ≡ false → (view_of client.now).standing.state ≢ Connected }
 {
@@ -168,6 +168,7 @@ impl<A: Allocator + Copy> Subject<A> {
 
     /// Whether the subject is to be read at once, where what is kept of it is not good and the client is connected.
     fn is_unread(&self) -> bool
+        ensures is { result ≡ is_due self.now.progress }
         ensures yes { result ≡ true → self.now.progress ≡ Progress.Due }
         ensures no { result ≡ false → self.now.progress ≢ Progress.Due }
     {
@@ -194,6 +195,20 @@ impl<A: Allocator + Copy> Subject<A> {
             && !self.is_there
             && client.is_watched(self.side, &self.path)
             && holds(client, self.side, &self.path)
+    }
+
+    /// Whether the subject is to be read, and what is kept of it is not good.
+    pub(crate) fn is_awaited(&self, client: &Client<A>) -> bool
+        ensures { result ≡ is_awaited (view_of client.now) self.now }
+    {
+        self.is_unread() && !is_shown(client, self.side, &self.path)
+    }
+
+    /// Whether a step may pass the subject over until there is room for a read of it, and there is nothing to tell of it.
+    pub(crate) fn is_waiting(&self, client: &Client<A>) -> bool
+        ensures { result ≡ true → is_still (view_of client.now) self.now ≡ true }
+    {
+        !was_shown(self.told) && self.is_awaited(client)
     }
 
     /// Whether the subject rests and that was told last. It may say no of one that is quiet.

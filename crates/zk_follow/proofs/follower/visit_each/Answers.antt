@@ -1,25 +1,29 @@
--- One more subject is visited (`visited_more`): it counts as it did, and those before go on being followed. Between two places all are left
--- as they are, and so are those after the last one (`at_end`).
-use Rattle.std.proofs.Common.{◌≡◌, ◌≤◌, ◌<◌, ◌∙◌, refl, ap, arith, get_or, length, rules, subst, sym}
-use Rattle.std.proofs.lemmas.List.{get_or_default, length-set}
+-- One more subject is visited: it is followed (`followed_more`), counts as it did (`counted_more`), and all others are as they were.
+use Rattle.std.proofs.Common.{◌≤◌, ◌<◌, ◌∙◌, inl, inr, refl, ap, arith, get_or, length, rules, subst}
+use Rattle.std.proofs.lemmas.List.{length-set, take_all}
 use Rattle.zk_client.specs.Clients.{view_of}
 use Rattle.zk_client.specs.Views.{said}
-use Rattle.zk_follow.specs.Following.{how_many_reading, reads_of, IsAhead, IsCounted, IsVisited}
+use Rattle.zk_follow.specs.Following.{is_among, IsAhead}
 use Rattle.zk_follow.specs.inner.Following.{Reads}
-use Rattle.zk_follow.proofs.Asking.{no_calls, others_counted, others_followed}
-use Rattle.zk_follow.proofs.Counting.{count_set, on_their_way}
-use Rattle.zk_follow.proofs.Visiting.{asks_on, holds_next, is_visited, no_reads, more_reads}
+use Rattle.zk_follow.proofs.Asking.{no_calls}
+use Rattle.zk_follow.proofs.Counting.{count_set, room_more}
+use Rattle.zk_follow.proofs.Resting.{not_visited}
+use Rattle.zk_follow.proofs.Visiting.{asks_on, holds_next, is_visited, more_reads, no_reads, seen_ahead}
 use Rattle.zk_follow.proofs.Breaking.{after_turns, err_always}
-use Rattle.zk_follow.proofs.Skipping.{at_end, at_place, is_within, same_more, visited_more}
+use Rattle.zk_follow.proofs.Skipping.{counted_more, followed_more, same_at, same_more, same_next, seen_more}
 use Rattle.zk_follow.proofs.follower.visit_each.Goals as goal
 
 pub loop-place-init : goal.loop-place-init
 loop-place-init g c = record {
   asks = no_calls (view_of c.args.client.now);
   size = refl;
-  seam = record { before = λ k d within. absurd (omega arith); visited = λ k d within. absurd (omega arith); rest_of = λ k d within. refl };
+  followed = λ k d within cases. elim cases [ inl among ↦ absurd cc | inr was ↦ was ];
+  counted = c.requires.counted;
+  seen = λ k d within. not_visited c.args.now (view_of c.args.client.now) (get_or c.args.subjects.now k d);
+  same = λ k d low. refl;
   made = no_reads c.args.subjects.now (view_of c.args.client.now) (said c.args.made.now.items) c.args.reads;
   count = c.requires.count;
+  room = inl refl;
   left = λ k d none. refl;
 }
 
@@ -30,19 +34,12 @@ bounds-subjects-place g c =
 
 pub visit-requires-clause-counted : goal.visit-requires-clause-counted
 visit-requires-clause-counted g c =
-    let first = c.args.subjects.now in
     let subjects = c.loop-place.subjects in
-    let index = c.loop-place.place-index in
-    let place = get_or c.args.places.now index 0 in
-    let old = view_of c.args.client.now in
-    let view = view_of c.loop-place.client in
-    let here = at_place c.args.now first subjects c.args.places.now index c.requires.ascend c.requires.below c.loop-place-test.true
-    old view c.loop-place.reads c.loop-place.invariant.asks c.requires.rest c.loop-place.invariant.seam in
+    let place = get_or c.args.places.now c.loop-place.place-index 0 in
+    let fits = c.requires.below c.loop-place.place-index 0 c.loop-place-test.true in
+    let within : place < length subjects = omega (arith, fits, c.loop-place.invariant.size) in
     let element = get_or subjects place c.index-subjects-place.result in
-    others_counted old view c.loop-place.invariant.asks element
-    (holds_next (IsCounted old) subjects first place element
-    (is_within c.args.now first subjects c.args.places.now index c.requires.ascend c.requires.below c.loop-place-test.true)
-    c.requires.counted (ap (get_or subjects place) c.index-subjects-place.is) here.rest_of)
+    c.loop-place.invariant.counted place c.index-subjects-place.result within
 
 pub visit-requires-clause-goes_on : goal.visit-requires-clause-goes_on
 visit-requires-clause-goes_on g c = ap (λ s. s.halted) c.loop-place.invariant.asks.standing ∙ c.requires.goes_on
@@ -53,20 +50,19 @@ visit-requires-clause-ahead g c =
     let subjects = c.loop-place.subjects in
     let index = c.loop-place.place-index in
     let place = get_or c.args.places.now index 0 in
-    let here = at_place c.args.now first subjects c.args.places.now index c.requires.ascend c.requires.below c.loop-place-test.true
-    (view_of c.args.client.now) (view_of c.loop-place.client) c.loop-place.reads c.loop-place.invariant.asks c.requires.rest
-    c.loop-place.invariant.seam in
     holds_next (λ subject. IsAhead c.args.now subject.progress) subjects first place
     (get_or subjects place c.index-subjects-place.result)
-    (is_within c.args.now first subjects c.args.places.now index c.requires.ascend c.requires.below c.loop-place-test.true)
-    c.requires.ahead (ap (get_or subjects place) c.index-subjects-place.is) here.rest_of
+    (c.requires.below index 0 c.loop-place-test.true)
+    c.requires.ahead (ap (get_or subjects place) c.index-subjects-place.is)
+    (same_at c.args.places.now index subjects first c.requires.ascend c.loop-place-test.true c.loop-place.invariant.same)
 
 pub loop-place-preserved : goal.loop-place-preserved
 loop-place-preserved g c =
     let first = c.args.subjects.now in
     let subjects = c.loop-place.subjects in
+    let places = c.args.places.now in
     let index = c.loop-place.place-index in
-    let place = get_or c.args.places.now index 0 in
+    let place = get_or places index 0 in
     let old = view_of c.args.client.now in
     let view = view_of c.loop-place.client in
     let after = view_of c.visit.new.client in
@@ -75,68 +71,46 @@ loop-place-preserved g c =
     let more = c.in_ok-reads.reads in
     let element = get_or subjects place c.index-subjects-place.result in
     let is = ap (get_or subjects place) c.index-subjects-place.is in
-    let within = is_within c.args.now first subjects c.args.places.now index c.requires.ascend c.requires.below c.loop-place-test.true in
+    let within = c.requires.below index 0 c.loop-place-test.true in
     let fits : place < length subjects = omega (arith, within, c.loop-place.invariant.size) in
-    let here = at_place c.args.now first subjects c.args.places.now index c.requires.ascend c.requires.below c.loop-place-test.true
-    old view reads c.loop-place.invariant.asks c.requires.rest c.loop-place.invariant.seam in
+    let same = same_at places index subjects first c.requires.ascend c.loop-place-test.true c.loop-place.invariant.same in
     record {
       asks = asks_on old view after c.loop-place.invariant.asks c.in_ok-reads.ensures.asks;
       size = length-set subjects place new ∙ c.loop-place.invariant.size;
-      seam = visited_more c.args.now first subjects c.args.places.now index c.requires.ascend c.requires.below
-          c.loop-place-test.true old view after reads more c.in_ok-reads.ensures.more c.loop-place.invariant.asks
-          c.in_ok-reads.ensures.asks c.requires.rest c.loop-place.invariant.size new c.in_ok-reads.ensures.followed
-          c.in_ok-reads.ensures.counted
-          (subst (λ (s : _). IsVisited c.args.now s new) (get_or_default subjects place c.index-subjects-place.result new fits)
+      followed = followed_more subjects place new fits c.args.now old view after c.args.reads reads more first places index
+          c.loop-place-test.true refl c.in_ok-reads.ensures.more c.in_ok-reads.ensures.asks c.in_ok-reads.ensures.followed
+          c.loop-place.invariant.followed;
+      counted = counted_more subjects place new fits view after c.in_ok-reads.ensures.asks c.in_ok-reads.ensures.counted
+          c.loop-place.invariant.counted;
+      seen = seen_more subjects place new fits c.args.now first element within is same
           (is_visited c.args.now view (said c.loop-place.made.items) reads element after
-          (said c.visit.new.made.items) more new c.in_ok-reads.ensures.visits)) c.loop-place.invariant.seam;
+          (said c.visit.new.made.items) more new c.in_ok-reads.ensures.visits) c.loop-place.invariant.seen;
+      same = same_next places index subjects first new c.requires.ascend c.loop-place-test.true c.loop-place.invariant.same;
       made = more_reads c.args.now first subjects place element old view after (said c.args.made.now.items)
-          (said c.loop-place.made.items) (said c.visit.new.made.items) reads more new within is here.rest_of c.loop-place.invariant.made
+          (said c.loop-place.made.items) (said c.visit.new.made.items) reads more new within is same c.loop-place.invariant.made
           c.in_ok-reads.ensures.visits;
       count = count_set subjects place element new reads more fits is c.loop-place.invariant.count c.in_ok-reads.ensures.count;
-      left = same_more c.args.places.now index first subjects new c.loop-place-test.true c.loop-place.invariant.left;
+      room = room_more c.args.reads reads more c.loop-place.invariant.room c.in_ok-reads.ensures.visits.3;
+      left = same_more places index first subjects new c.loop-place-test.true c.loop-place.invariant.left;
     }
 
 pub returns-clause-followed : goal.returns-clause-followed
-returns-clause-followed g c = λ k d within.
-    let subjects = c.loop-place.subjects in
-    let view = view_of c.loop-place.client in
-    let reads = c.loop-place.reads in
-    let end : c.loop-place.place-index ≡ length c.args.places.now =
-    omega (arith, c.loop-place-test.false, c.loop-place.auto.place-index-end) in
-    let whole = at_end c.args.now c.args.subjects.now subjects c.args.places.now c.loop-place.place-index c.requires.ascend
-    c.requires.below end (view_of c.args.client.now) view reads c.loop-place.invariant.asks c.requires.rest
-    c.loop-place.invariant.seam in
-    let fits = λ (n : _) (less : n < length subjects). let f : n < length c.args.subjects.now =
-    omega (arith, less, c.loop-place.invariant.size) in f in
-    let goes_on = ap (λ s. s.halted) c.loop-place.invariant.asks.standing ∙ c.requires.goes_on in
-    let many : how_many_reading subjects ≤ reads_of view subjects =
-    on_their_way view goes_on subjects (λ k d within. (whole.before k d (fits k within)).1) in
-    let le : reads ≤ reads_of view subjects = subst (λ n. n ≤ reads_of view subjects) (sym c.loop-place.invariant.count) many in
-    others_followed view view (no_calls view) c.args.now reads (reads_of view subjects) le (get_or subjects k d)
-    (whole.before k d (fits k within)).0
+returns-clause-followed g c = λ k d within cases.
+    let past : length c.args.places.now ≤ c.loop-place.place-index = omega (arith, c.loop-place-test.false) in
+    c.loop-place.invariant.followed k d within (elim cases [
+      | inl among ↦ inl (ap (is_among k) (take_all c.loop-place.place-index c.args.places.now past) ∙ among)
+      | inr was ↦ inr was
+    ])
 
-pub returns-clause-counted : goal.returns-clause-counted
-returns-clause-counted g c = λ k d within.
-    let end : c.loop-place.place-index ≡ length c.args.places.now =
-    omega (arith, c.loop-place-test.false, c.loop-place.auto.place-index-end) in
-    let whole = at_end c.args.now c.args.subjects.now c.loop-place.subjects c.args.places.now
-    c.loop-place.place-index c.requires.ascend c.requires.below end (view_of c.args.client.now) (view_of c.loop-place.client)
-    c.loop-place.reads c.loop-place.invariant.asks c.requires.rest c.loop-place.invariant.seam in
-    (whole.before k d (omega (arith, within, c.loop-place.invariant.size))).1
+pub returns-clause-ahead : goal.returns-clause-ahead
+returns-clause-ahead g c =
+    seen_ahead c.args.now c.ranges.now.fits c.args.subjects.now c.loop-place.subjects c.loop-place.invariant.size
+    c.loop-place.invariant.seen c.requires.ahead
 
 pub returns-clause-reads : goal.returns-clause-reads
 returns-clause-reads g c =
     subst (Reads c.args.subjects.now (view_of c.args.client.now) (said c.args.made.now.items) (view_of c.loop-place.client)
     (said c.loop-place.made.items)) c.loop-place.invariant.count c.loop-place.invariant.made
-
-pub returns-clause-seen : goal.returns-clause-seen
-returns-clause-seen g c = λ k d within.
-    let end : c.loop-place.place-index ≡ length c.args.places.now =
-    omega (arith, c.loop-place-test.false, c.loop-place.auto.place-index-end) in
-    let whole = at_end c.args.now c.args.subjects.now c.loop-place.subjects c.args.places.now
-    c.loop-place.place-index c.requires.ascend c.requires.below end (view_of c.args.client.now) (view_of c.loop-place.client)
-    c.loop-place.reads c.loop-place.invariant.asks c.requires.rest c.loop-place.invariant.seam in
-    whole.visited k d within
 
 pub returns-in_err-reads-clause-broke : goal.returns-in_err-reads-clause-broke
 returns-in_err-reads-clause-broke g c =

@@ -1,7 +1,7 @@
--- Of an index of all, who may not be quiet is as it was; of one of none nothing is to be said: `none_found`, `none_quiet`.
-use Rattle.std.proofs.Common.{◌≡◌, subst, sym}
+-- Of an index of all, who may not be quiet is as it was; of one of none nothing is to be said: `none_found`.
+use Rattle.std.proofs.Common.{subst, sym}
 use Rattle.zk_follow.specs.Following.{AreQuietBut}
-use Rattle.zk_follow.proofs.Finding.{none_found, none_quiet}
+use Rattle.zk_follow.proofs.Finding.{none_found}
 use Rattle.zk_follow.proofs.leaving.index_of.Goals as goal
 
 pub fit-requires : goal.fit-requires

@@ -1,4 +1,4 @@
--- Who is told of is found by the index (`told_by`), and who is not stays quiet (`quiet_told`).
+-- Who is told of is found by the index (`told_by`), and who is not stays as it was (`told_but`).
 use Rattle.std.proofs.Common.{◌≡◌, ◌<◌, ◌∙◌, ◌++◌, ◌==◌, ℕ, true, false, ap, arith, map, refl, sym, subst, length}
 use Rattle.std.specs.List.{flat_map}
 use Rattle.std.proofs.lemmas.Bool.Decides.{Decides-eqb, nat_tests}
@@ -6,11 +6,12 @@ use Rattle.std.proofs.lemmas.List.{append-nil, nil_from_length}
 use Rattle.std.specs.Prelude.{All}
 use Rattle.zk_client.specs.Clients.{view_of}
 use Rattle.zk_client.specs.Views.{said}
-use Rattle.zk_follow.specs.Following.{is_among, news_in, told_of}
+use Rattle.zk_follow.specs.Following.{is_among, is_quiet, is_still, news_in, told_of}
 use Rattle.zk_follow.specs.Places.{AreFound}
 use Rattle.zk_follow.specs.inner.Places.{IsAscending}
 use Rattle.zk_follow.specs.inner.Resting.{AreTold}
-use Rattle.zk_follow.proofs.Finding.{found_told, quiet_told, told_by}
+use Rattle.zk_follow.proofs.Finding.{found_told, told_but, told_by}
+use Rattle.zk_follow.proofs.Still.{among_both, among_or, among_told}
 use Rattle.zk_follow.proofs.news.tell_all.Goals as goal
 
 pub tell_each-requires-clause-ascend : goal.tell_each-requires-clause-ascend
@@ -29,7 +30,7 @@ tell_each-requires-clause-told g c =
     let had = subst (λ some. (at : ℕ) → at < index.count → is_among at some ≡ true → is_among at places ≡ true)
     c.as_slice.ensures.value c.in_ok-places.ensures.had in
     let told = told_by index c.args.subjects.now c.in_ok-fit_all.ensures.count c.in_ok-fit_all.ensures.found view c.args.outputs.now
-    c.fit_all.new.awake.items places (c.in_ok-fit_all.ensures.rest view c.requires.rest) had c.in_ok-places.ensures.named in
+    c.fit_all.new.awake.items places (c.in_ok-fit_all.ensures.still view c.requires.still) had c.in_ok-places.ensures.named in
     subst (AreTold view (said c.args.outputs.now) c.args.subjects.now) (sym c.as_slice-2.ensures.value) told
 
 pub awake_among-requires : goal.awake_among-requires
@@ -43,6 +44,22 @@ returns-clause-found g c =
     subst (AreFound c.fit_all.new.index) (sym c.in_ok-tell_each.ensures.told)
     (found_told (view_of c.args.client.now) c.fit_all.new.index c.args.subjects.now c.in_ok-fit_all.ensures.found)
 
+pub returns-clause-still : goal.returns-clause-still
+returns-clause-still g c =
+    let places = c.in_ok-places.places.items in
+    let index = c.fit_all.new.index in
+    let view = view_of c.args.client.now in
+    let had = subst (λ some. (at : ℕ) → at < index.count → is_among at some ≡ true → is_among at places ≡ true)
+    c.as_slice.ensures.value c.in_ok-places.ensures.had in
+    let told = told_by index c.args.subjects.now c.in_ok-fit_all.ensures.count c.in_ok-fit_all.ensures.found view c.args.outputs.now
+    c.fit_all.new.awake.items places (c.in_ok-fit_all.ensures.still view c.requires.still) had c.in_ok-places.ensures.named in
+    let awake = c.in_ok-awake.field-0.items in
+    told_but (is_still view) view (said c.args.outputs.now) index.count c.args.subjects.now c.tell_each.new.subjects places
+    c.fit_all.new.awake.items awake c.in_ok-fit_all.ensures.count c.in_ok-tell_each.ensures.told told
+    (λ at fits e. among_or at places awake (had at fits e))
+    (c.in_ok-fit_all.ensures.still view c.requires.still)
+    (λ k d within among none. c.in_ok-awake.ensures.still k d within (ap (is_among k) c.as_slice-3.ensures.value ∙ among) none)
+
 pub returns-clause-rest : goal.returns-clause-rest
 returns-clause-rest g c =
     let places = c.in_ok-places.places.items in
@@ -51,10 +68,17 @@ returns-clause-rest g c =
     let had = subst (λ some. (at : ℕ) → at < index.count → is_among at some ≡ true → is_among at places ≡ true)
     c.as_slice.ensures.value c.in_ok-places.ensures.had in
     let told = told_by index c.args.subjects.now c.in_ok-fit_all.ensures.count c.in_ok-fit_all.ensures.found view c.args.outputs.now
-    c.fit_all.new.awake.items places (c.in_ok-fit_all.ensures.rest view c.requires.rest) had c.in_ok-places.ensures.named in
-    quiet_told view (said c.args.outputs.now) index.count c.args.subjects.now c.tell_each.new.subjects places
-    c.in_ok-awake.field-0.items c.in_ok-fit_all.ensures.count c.in_ok-tell_each.ensures.told told
-    (λ k d within among none. c.in_ok-awake.ensures k d within (ap (is_among k) c.as_slice-3.ensures.value ∙ among) none)
+    c.fit_all.new.awake.items places (c.in_ok-fit_all.ensures.still view c.requires.still) had c.in_ok-places.ensures.named in
+    let awake = c.in_ok-awake.field-0.items in
+    let old = c.fit_all.new.awake.items in
+    let waiting = c.args.waiting.now.items in
+    let last = c.awake_among.new.waiting.items in
+    told_but (is_quiet view) view (said c.args.outputs.now) index.count c.args.subjects.now c.tell_each.new.subjects places
+    (old ++ waiting) (awake ++ last) c.in_ok-fit_all.ensures.count c.in_ok-tell_each.ensures.told told
+    (λ at fits e. among_told at old waiting awake last places (had at fits) (c.in_ok-awake.ensures.kept at) e)
+    (c.in_ok-fit_all.ensures.rest view waiting c.requires.rest)
+    (λ k d within among none. c.in_ok-awake.ensures.quiet k d within (ap (is_among k) c.as_slice-3.ensures.value ∙ among)
+    (sym (among_both k awake last) ∙ none))
 
 pub returns-then-is_empty-clause-news : goal.returns-then-is_empty-clause-news
 returns-then-is_empty-clause-news g c =

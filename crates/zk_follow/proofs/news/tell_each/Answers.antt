@@ -6,7 +6,7 @@ use Rattle.std.proofs.lemmas.Bool.Decides.{Decides-eqb}
 use Rattle.zk_client.specs.Clients.{view_of}
 use Rattle.zk_client.specs.Views.{said}
 use Rattle.zk_follow.specs.Following.{news_in, told_of}
-use Rattle.zk_follow.proofs.Skipping.{quiet_still_told, told_more, told_end}
+use Rattle.zk_follow.proofs.Skipping.{still_told_each, told_more, told_end}
 use Rattle.zk_follow.proofs.Telling.{whole_mapped}
 use Rattle.zk_follow.proofs.news.tell_each.Goals as goal
 
@@ -29,7 +29,7 @@ loop-place-preserved g c =
       size = length-set subjects place c.report.new.self ∙ c.loop-place.invariant.size;
       told = told_more (told_of view) (news_in view outputs) c.args.subjects.now subjects c.args.all.now.items c.loop-place.all.items
           c.args.places.now c.loop-place.place-index c.requires.ascend c.requires.below
-          (quiet_still_told view outputs c.args.subjects.now c.args.places.now c.requires.told) c.loop-place-test.true
+          (still_told_each view outputs c.args.subjects.now c.args.places.now c.requires.told) c.loop-place-test.true
           c.report.new.all.items item
           c.report.new.self c.loop-place.invariant.size (ap (get_or subjects place) c.index-subjects-place.is) c.report.ensures.told
           c.in_ok-report.ensures.news c.loop-place.invariant.told;
@@ -43,7 +43,7 @@ returns-clause-told g c =
     let outputs = said c.args.outputs.now in
     let whole = told_end (told_of view) (news_in view outputs) c.args.subjects.now c.loop-place.subjects
     c.args.all.now.items c.loop-place.all.items c.args.places.now c.loop-place.place-index c.requires.ascend c.requires.below
-    (quiet_still_told view outputs c.args.subjects.now c.args.places.now c.requires.told) end c.loop-place.invariant.told in
+    (still_told_each view outputs c.args.subjects.now c.args.places.now c.requires.told) end c.loop-place.invariant.told in
     whole.subjects ∙ whole_mapped (told_of (view_of c.args.client.now)) c.args.subjects.now (length c.args.subjects.now) (omega arith)
 
 pub returns-clause-news : goal.returns-clause-news
@@ -56,7 +56,7 @@ returns-clause-news g c =
     let news = news_in view outputs in
     let whole = told_end (told_of view) news first c.loop-place.subjects c.args.all.now.items c.loop-place.all.items c.args.places.now
     c.loop-place.place-index c.requires.ascend c.requires.below
-    (quiet_still_told view outputs first c.args.places.now c.requires.told) end c.loop-place.invariant.told in
+    (still_told_each view outputs first c.args.places.now c.requires.told) end c.loop-place.invariant.told in
     subst (λ all. c.loop-place.all.items ≡ c.args.all.now.items ++ flat_map news all)
     (take_all (length first) first (omega arith)) whole.all
 
@@ -68,7 +68,7 @@ returns-then-is_empty-clause-told g c =
     let outputs = said c.args.outputs.now in
     let first = c.args.subjects.now in
     let whole = told_end (told_of view) (news_in view outputs) first first c.args.all.now.items c.args.all.now.items c.args.places.now 0
-    c.requires.ascend c.requires.below (quiet_still_told view outputs first c.args.places.now c.requires.told) end
+    c.requires.ascend c.requires.below (still_told_each view outputs first c.args.places.now c.requires.told) end
     (record { subjects = refl; all = sym (append-nil c.args.all.now.items) }) in
     whole.subjects ∙ whole_mapped (told_of view) first (length first) (omega arith)
 
@@ -81,7 +81,7 @@ returns-then-is_empty-clause-news g c =
     let first = c.args.subjects.now in
     let given = c.args.all.now.items in
     let whole = told_end (told_of view) (news_in view outputs) first first given given c.args.places.now 0
-    c.requires.ascend c.requires.below (quiet_still_told view outputs first c.args.places.now c.requires.told) end
+    c.requires.ascend c.requires.below (still_told_each view outputs first c.args.places.now c.requires.told) end
     (record { subjects = refl; all = sym (append-nil given) }) in
     subst (λ all. given ≡ given ++ flat_map (news_in view outputs) all) (take_all (length first) first (omega arith)) whole.all
 

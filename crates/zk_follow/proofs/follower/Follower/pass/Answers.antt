@@ -1,11 +1,11 @@
 -- The client says nothing, and only its moment is another one (`is_ticked`): so all stays that is known of the subjects, which are quiet.
-use Rattle.std.proofs.Common.{◌≡◌, [], map, sym, subst}
+use Rattle.std.proofs.Common.{◌≡◌, ◌++◌, [], map, sym, subst}
 use Rattle.std.specs.Prelude.{All}
 use Rattle.std.specs.List.{flat_map}
 use Rattle.zk_turns.specs.View.{View}
 use Rattle.zk_client.specs.Clients.{view_of}
 use Rattle.zk_client.specs.Views.{said}
-use Rattle.zk_follow.specs.Following.{news_in, ticked, told_of, AreFollowed, AreQuietBut, IsCounted}
+use Rattle.zk_follow.specs.Following.{news_in, ticked, told_of, AreFollowed, AreQuietBut, AreStillBut, IsCounted}
 use Rattle.zk_follow.specs.Owning.{AreOwn}
 use Rattle.zk_follow.proofs.Breaking.{within}
 use Rattle.zk_follow.proofs.Passing.{is_ticked, quiet_followed, quiet_news, quiet_steps, quiet_told}
@@ -20,7 +20,8 @@ invariant_of-self g c =
     record {
       counted = subst (λ after. All (IsCounted after) items) (sym is) old.counted;
       found = old.found;
-      rest = subst (λ after. AreQuietBut after old.index.count items old.awake.items) (sym is) old.rest;
+      still = subst (λ after. AreStillBut after old.index.count items old.awake.items) (sym is) old.still;
+      rest = subst (λ after. AreQuietBut after old.index.count items (old.awake.items ++ old.waiting.items)) (sym is) old.rest;
       own = λ going. subst (λ (after : View). AreOwn items after.pending) (sym is) (old.own going);
     }
 

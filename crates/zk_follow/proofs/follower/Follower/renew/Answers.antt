@@ -5,9 +5,9 @@ use Rattle.std.specs.Prelude.{All}
 use Rattle.zk_session.specs.declared.states.State.TheVariants.{Connected}
 use Rattle.zk_turns.specs.View.{View}
 use Rattle.zk_client.specs.Clients.{view_of}
-use Rattle.zk_follow.specs.Following.{due_again, IsCounted}
+use Rattle.zk_follow.specs.Following.{due_again, is_quiet, is_still, IsCounted}
 use Rattle.zk_follow.proofs.Visiting.{begun_counted, begun_followed, not_connected, whole_written}
-use Rattle.zk_follow.proofs.Finding.{none_found, none_quiet}
+use Rattle.zk_follow.proofs.Finding.{none_but, none_found}
 use Rattle.zk_follow.proofs.Owned.{nothing_own}
 use Rattle.zk_follow.proofs.follower.Follower.renew.Goals as goal
 
@@ -25,7 +25,8 @@ invariant_of-self-2 g c =
       counted = subst (All (IsCounted (view_of c.begin_client.new.client))) (sym written)
           (begun_counted (view_of c.begin_client.new.client) c.args.self.now.subjects.items);
       found = none_found c.new.result _ c.new.ensures;
-      rest = none_quiet (view_of c.begin_client.new.client) c.new.result.count _ c.clear.new.self.items c.new.ensures;
+      still = none_but (is_still (view_of c.begin_client.new.client)) c.new.result.count _ _ c.new.ensures;
+      rest = none_but (is_quiet (view_of c.begin_client.new.client)) c.new.result.count _ _ c.new.ensures;
       own = λ going. nothing_own _ _ (ap (λ (v : View). v.pending) c.in_ok-begin_client.ensures.view);
     }
 

@@ -1,10 +1,10 @@
 -- The slice of all subjects is written back.
-use Rattle.std.proofs.Common.{◌≡◌, ◌∙◌, ap, arith, drop, false, length, sym, subst}
+use Rattle.std.proofs.Common.{◌≡◌, ◌∙◌, ◌++◌, ap, arith, drop, false, length, sym, subst}
 use Rattle.std.specs.List.{All}
 use Rattle.zk_client.specs.Clients.{view_of}
 use Rattle.zk_client.specs.Views.{input_view, said}
 use Rattle.zk_follow.specs.Following.{AreFollowed, IsAhead, IsCounted, Steps}
-use Rattle.zk_follow.specs.Following.{AreQuietBut}
+use Rattle.zk_follow.specs.Following.{AreQuietBut, AreStillBut}
 use Rattle.zk_follow.specs.Owning.{AreOwn}
 use Rattle.zk_follow.specs.Places.{AreFound}
 use Rattle.zk_follow.proofs.Owned.{own_step}
@@ -59,8 +59,10 @@ invariant_of-self g c =
       counted = written_back (IsCounted view) c.args.self.now.subjects.len c.advance.new.subjects
           (drop (length c.advance.new.subjects) c.args.self.now.subjects.items) size c.in-Ok.ensures.counted;
       found = subst (AreFound c.advance.new.index) (sym whole) c.in-Ok.ensures.found;
-      rest = subst (λ subjects. AreQuietBut view c.advance.new.index.count subjects c.advance.new.awake.items) (sym whole)
-          c.in-Ok.ensures.rest;
+      still = subst (λ subjects. AreStillBut view c.advance.new.index.count subjects c.advance.new.awake.items) (sym whole)
+          c.in-Ok.ensures.still;
+      rest = subst (λ subjects. AreQuietBut view c.advance.new.index.count subjects
+          (c.advance.new.awake.items ++ c.advance.new.waiting.items)) (sym whole) c.in-Ok.ensures.rest;
       own = λ still. subst (λ subjects. AreOwn subjects view.pending) (sym whole)
           (c.is_foreign_still-self.ensures c.advance.new.subjects own still);
     }

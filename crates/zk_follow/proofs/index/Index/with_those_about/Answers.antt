@@ -20,3 +20,7 @@ returns-clause-about g c = λ ticket path at fits its other e.
       | inl named ↦ c.in_ok-add_all_beside.ensures.had at fits (c.in_ok-all.ensures.named ticket path at fits its other named)
       | inr beside ↦ c.in_ok-add_all_beside.ensures.beside path at fits other beside
     ])
+
+pub returns-clause-beside : goal.returns-clause-beside
+returns-clause-beside g c = λ path at fits other e.
+    c.put_in_order.ensures.has at (c.in_ok-add_all_beside.ensures.beside path at fits other e)
