@@ -47,7 +47,7 @@ enum dws_came {
     DWS_CAME_CLOSED,
     DWS_CAME_NOT_CONNECTED, /* its limit came before it was sent */
     DWS_CAME_LATE,          /* its limit came after it was sent */
-    DWS_CAME_NOT_ASKED,     /* it was refused before it was sent, as of a text that is no path */
+    DWS_CAME_NOT_ASKED,     /* it was refused before it was sent, as of a text that is no path, or its answer is too long */
     DWS_CAMES
 };
 

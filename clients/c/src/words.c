@@ -39,7 +39,7 @@ static const char *dws_advice_of_outcome(enum dw_outcome outcome)
     case DW_OUTCOME_CLOSED: return "open another one";
     case DW_OUTCOME_NOT_CONNECTED: return "call again later";
     case DW_OUTCOME_TOO_MANY_WATCHES: return "read without a watch, or in another session";
-    case DW_OUTCOME_TOO_LARGE: return "send less, or raise longest_request";
+    case DW_OUTCOME_TOO_LARGE: return "send or read less, or raise longest_request or longest_answer";
     case DW_OUTCOME_TOO_MANY_PENDING: return "call again when one was answered";
     }
     return "take both of one version";

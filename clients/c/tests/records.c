@@ -325,7 +325,7 @@ static void send_edges(size_t option, size_t longest)
         EXPECT(request.call.is_answered && request.call.why == 0 && request.call.stat.pzxid == STAT.pzxid);
     }
     EXPECT_NUMBER(DW_OUTCOME_TOO_LARGE, dws_wait(session, ask_raw(DW_OPERATION_SET_ACL, body, largest + 1)));
-    expect_words(&request.call, "the request is longer than the session may send; send less, or raise longest_request");
+    expect_words(&request.call, "the request or its answer is longer than the session allows; send or read less, or raise longest_request or longest_answer");
     dws_who_am_i(session, &request);
     hear_request(5, DW_OPERATION_WHO_AM_I, NULL); /* nothing was sent before it */
     free(body);
@@ -370,7 +370,7 @@ static void take_longest(int32_t xid, size_t longest)
     EXPECT_NUMBER(longest - OF_ANSWER, request.call.length);
 }
 
-/* A longer one by a byte ends the connection, and the call is asked again. */
+/* A longer one by a byte ends the connection, and the call is answered so. The next one is asked over the next connection. */
 static void take_edges(size_t option, size_t longest)
 {
     open_within(option, 0);
@@ -379,13 +379,12 @@ static void take_edges(size_t option, size_t longest)
     dws_get(session, &request.call, "/a", false);
     hear_request(2, TYPE_GET, NULL);
     answer_data(2, longest + 1);
-    EXPECT(strchr(events, '0' + DWS_CUT) != NULL && !request.call.is_answered);
+    wait_for(&request.call);
+    EXPECT_NUMBER(DW_OUTCOME_TOO_LARGE, request.call.why);
+    EXPECT(strchr(events, '0' + DWS_CUT) != NULL);
     end_line();
     admit();
-    hear_request(3, TYPE_GET, NULL);
-    answer_data(3, OF_ANSWER);
-    wait_for(&request.call);
-    EXPECT_NUMBER(0, request.call.why);
+    take_longest(3, OF_ANSWER);
     close_session();
 }
 

@@ -56,9 +56,15 @@ def _does(
 
 
 class Held(BaseHeld["Client"]):
-    """A lock or a lease that was taken, as `dirwolleu.Held` is."""
+    """A lock or a lease that was taken, as `dirwolleu.Held` is.
+
+        async with dirwolleu.aio.Lock(client, "/locks/job") as held:
+            if await held.wait_lost(0.5):
+                print("stop the work: another one may hold")
+    """
 
     release = _does(BaseHeld._release)
+    wait_lost = _does(BaseHeld._losing)
 
     async def __aenter__(self) -> Held:
         return self
@@ -150,6 +156,10 @@ class Election:
     async def contenders(self) -> list[str]:
         """The identifiers of the candidates, that of the leader first."""
         return await self._lock.contenders()
+
+    async def leader(self) -> Optional[str]:
+        """The identifier of the one that leads, or None where nobody stands."""
+        return next(iter(await self._lock.contenders(1)), None)
 
 
 class Registration(BaseRegistration["Client"]):

@@ -6,6 +6,7 @@ deletes it once it is given up. It contends again after an expiry.
 
 from __future__ import annotations
 
+from collections.abc import Sequence
 from typing import Any, Callable, Optional
 
 from dirwolleu import _jute as jute
@@ -93,6 +94,17 @@ class Contending(Connection):
     def place_of(self, contender: Contender) -> Optional[str]:
         """The path of its place, if it is known."""
         return self._look(lambda session: session.place(contender.ticket))
+
+    def in_line(self, directory: str, names: Sequence[str], markers: Sequence[str]) -> list[str]:
+        """Those of the names in a directory that have one of these markers before their numbers, in their order, the first one in front. The
+        core says who is the last one before each.
+        """
+        found = [f"{markers[0]}{'9' * 10}"]  # no place has a greater number
+        while True:
+            before = self._look(lambda session: session.standing(directory, found[-1], names, 0, (markers[0], *markers)))
+            if before is None or before.rival is None:
+                return found[:0:-1]
+            found.append(before.rival)
 
     def _join(self, now: int, contender: Contender) -> None:
         if not self.is_running or contender.is_given_up and not contender.may_be_there:

@@ -111,8 +111,8 @@ class Core(Observed):
         finally:
             self._listening.remove(path, key)
 
-    def tell_news(self) -> None:
-        self._wake(None)
+    def tell_news(self, path: Optional[str] = None) -> None:
+        self._wake(path)
 
     def _enter(self, state: State) -> None:
         if state is not self.state:

@@ -86,10 +86,30 @@ _length_at = struct.Struct(">I").unpack_from
 
 MANY, TURN = 2048, 0.00002
 """After this many texts other threads have the interpreter for this many seconds at least: they would wait for 5 ms else."""
+TURN_OF_TEXT = 0.0000001
+"""For this many seconds a text they have it once a step has read many of one length: half as long as the step took."""
 
 
 def texts_in(spelled: bytes) -> list[str]:
     """The texts that follow one another, each after its length in four bytes."""
+    return _texts_of_one_length(spelled) or _texts_in_turns(spelled)
+
+
+def _texts_of_one_length(spelled: bytes) -> list[str]:
+    """The same in a fifth of the time, where they are many, of ASCII and all as long as the first. Else none. Other threads have the interpreter
+    first: the step that read the texts has kept it from them.
+    """
+    if len(spelled) < MANY or not spelled.isascii():
+        return []
+    length = int.from_bytes(spelled[:4], "big")
+    time.sleep(len(spelled) // (4 + length) * TURN_OF_TEXT)
+    text = spelled.decode()
+    texts = text.split(text[:4])[1:]
+    return texts if set(map(len, texts)) == {length} else []
+
+
+def _texts_in_turns(spelled: bytes) -> list[str]:
+    """The same, while other threads have turns."""
     each = _each_text_in(spelled)
     texts = list(itertools.islice(each, MANY))
     while more := list(itertools.islice(each, MANY)):

@@ -98,7 +98,7 @@ class BaseSemaphore(BaseTaker[AnyClient, AnyHeld]):
 
     def _lease_holders(self) -> Steps[list[str]]:
         """The identifiers of those that hold a lease, in the order of their nodes. It is a look at the nodes of a moment, and decides nothing."""
-        return run(identifiers(self._path, LEASES, self._most), self._client._retry, None)
+        return run(identifiers(self._client._engine, self._path, LEASES, self._most), self._client._retry, None)
 
 
 def _pause() -> Steps[None]:

@@ -6,10 +6,10 @@ A lock hands a contender over, by the names of kazoo or of Curator, and the core
 from __future__ import annotations
 
 import contextlib
-import itertools
 import logging
-import re
+import math
 import time
+from collections.abc import Sequence
 from typing import TYPE_CHECKING, Any, Callable, Generic, NamedTuple, Optional, TypeVar
 
 from dirwolleu import _library as library
@@ -45,17 +45,8 @@ KAZOO, CURATOR, LATCHES, LEASES = "kazoo", "curator", "latches", "leases"
 """Whose names contenders may have; and those of Curator's latches, and of leases."""
 
 
-def _pattern(*markers: str) -> re.Pattern[str]:
-    return re.compile(rf"(?:{'|'.join(markers)})(-?\d{{10}})$")
-
-
-_PLACES = {
-    KAZOO: _pattern("__lock__", "__rlock__"),
-    CURATOR: _pattern("lock-", "__WRIT__", "__READ__"),
-    LATCHES: _pattern("latch-"),
-    LEASES: _pattern("__lease__"),
-}
-"""The names of contenders, with their numbers, for people who look who is there. They decide nothing: the core does."""
+_MARKERS = {KAZOO: ("__lock__", "__rlock__"), CURATOR: ("lock-", "__WRIT__", "__READ__"), LATCHES: ("latch-",), LEASES: ("__lease__",)}
+"""What is before the numbers of contenders, for people who look who is there: the core reads the names, and says in which order they are."""
 _FAMILIES = {KAZOO: "kazoo", CURATOR: "Curator's locks", LATCHES: "Curator's latches"}
 """Those of which none contends beside another, in words."""
 
@@ -85,32 +76,32 @@ WRITING = Kind(library.KAZOO, library.CURATOR_WRITER)
 READING = Kind(library.KAZOO_READER, library.CURATOR_READER)
 
 
-def in_line(names: list[str], whose: str = KAZOO) -> list[str]:
-    """The names of contenders, that with the least number in front. It is for people: who holds is the core's verdict.
-
-    >>> in_line(["b__lock__0000000010", "a__rlock__0000000009", "c-lock-0000000008", "other"])
-    ['a__rlock__0000000009', 'b__lock__0000000010']
-    """
-    found = ((_PLACES[whose].search(name), name) for name in names)
-    return [name for _, name in sorted((int(match[1]), name) for match, name in found if match)]
+def in_line(engine: Engine, path: str, names: Sequence[str], whose: str = KAZOO) -> list[str]:
+    """The names of contenders at a path, that with the least number in front. It is for people: who holds is the core's verdict."""
+    return engine.in_line(path, names, _MARKERS[whose])
 
 
-def mixed_names(path: str, names: list[str], whose: str) -> MixedNamesError:
+def mixed_names(engine: Engine, path: str, names: Sequence[str], whose: str) -> MixedNamesError:
     """Says who was met beside contenders of these names, as far as the names at the path still tell: the core has decided."""
     error = MixedNamesError()
-    for name, family in itertools.product(names, _FAMILIES):
-        if family != whose and _PLACES[family].search(name):
-            error = MixedNamesError(f"{name} is there, by names of {_FAMILIES[family]}", error._advice)
+    for family, words in _FAMILIES.items():
+        markers = _MARKERS[family]
+        met = [] if family == whose else engine.in_line(path, names, (*markers, *(f"{marker}-" for marker in markers)))  # of numbers below 0
+        if met:
+            error = MixedNamesError(f"{met[0]} is there, by names of {words}", error._advice)
             break
     error.path = path
     return error
 
 
 class Taken(NamedTuple):
-    """What was taken: the path of the node, its token, what tells the token again for as long as it is shown, and what gives it back."""
+    """What was taken: the path of the node, its token, by what those listen who wait for news of it, what tells the token again for as long as it
+    is shown, and what gives it back.
+    """
 
     path: str
     token: int
+    guid: str
     shown: Callable[[], Optional[int]]
     leave: Callable[[], Steps[None]]
 
@@ -151,7 +142,7 @@ def _held(client: Shown, contender: Contender, until: Optional[float], told_by: 
             raise contender.refused
         waits, token, path = contender.told == library.CONTENDER_WAITS, engine.held_by(contender), engine.place_of(contender)
         if token is not None and path is not None and engine.held_by(contender) == token:
-            return Taken(path, token, lambda: engine.held_by(contender), lambda: leave(client, contender))
+            return Taken(path, token, contender.guid, lambda: engine.held_by(contender), lambda: leave(client, contender))
         left = left_of(until if until is None or waits else max(until, told_by))
         if left is not None and left <= 0:
             raise TurnIsNotYet(waits)
@@ -193,10 +184,12 @@ def patiently(engine: Engine, plan: Callable[[], Steps[Result]]) -> Steps[Result
         yield Wait(BETWEEN_TRIES)
 
 
-def identifiers(path: str, whose: str, most: Optional[int] = None) -> Plan[list[str]]:
-    """What the contenders at a path say of themselves, as many as these of the first ones at most. It is a look, and decides nothing."""
-    found = []
-    for name in in_line((yield from names_of(path)), whose)[:most]:
+def identifiers(engine: Engine, path: str, whose: str, most: float = math.inf) -> Plan[list[str]]:
+    """What the contenders at a path say of themselves, of the first ones `most`. It is a look, and decides nothing."""
+    found: list[str] = []
+    for name in in_line(engine, path, (yield from names_of(path)), whose):
+        if len(found) == most:
+            break
         try:
             data, _ = yield requests.get(plans.child_of(path, name), None)
             found.append((data or b"").decode(errors="replace"))
@@ -280,7 +273,19 @@ class BaseHeld(Generic[AnyClient]):
         if not self._is_released:
             self._is_released = True
             self._client.remove_listener(self._look)
+            self._engine.tell_news(self._taken.guid)
         return self._taken.leave()
+
+    def _losing(self, timeout: Optional[float] = None) -> Steps[bool]:
+        """Waits until it is known to be lost, or is released, for `timeout` seconds at most, and answers whether it is. It asks no server."""
+        until, news = until_of(timeout), (yield GetNews())
+        with self._engine.news(news.set, self._taken.guid):
+            while self.is_held:
+                left = left_of(until)
+                if left is not None and left <= 0:
+                    return False
+                yield Wait(left)
+        return True
 
     def _look(self, _: object = None) -> None:
         """Tells that it was lost, once."""
@@ -392,7 +397,7 @@ class BaseLock(BaseTaker[AnyClient, AnyHeld]):
         try:
             return (yield from super()._take(on_lost, until))
         except MixedNamesError as error:
-            raise mixed_names(self._path, (yield from self._look_at_names()), self._names) from error
+            raise mixed_names(self._client._engine, self._path, (yield from self._look_at_names()), self._names) from error
 
     def _look_at_names(self) -> Steps[list[str]]:
         """The names at the path, for people: none where they do not come soon."""
@@ -401,11 +406,11 @@ class BaseLock(BaseTaker[AnyClient, AnyHeld]):
             return names
         return []
 
-    def _contenders(self) -> Steps[list[str]]:
-        """The identifiers of those that take the lock, in their order: that of the holder first. It is a look at the nodes of a moment, and
-        decides nothing.
+    def _contenders(self, most: float = math.inf) -> Steps[list[str]]:
+        """The identifiers of those that take the lock, in their order: that of the holder first. With `most` no more than that. It is a look at the
+        nodes of a moment, and decides nothing.
         """
-        return run(identifiers(self._path, self._names), self._client._retry, None)
+        return run(identifiers(self._client._engine, self._path, self._names, most), self._client._retry, None)
 
 
 def identified(identifier: str) -> bytes:

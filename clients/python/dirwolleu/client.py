@@ -91,7 +91,7 @@ class Client(Shown):
 
     `longest_answer` and `longest_request` bound the bytes of a frame that comes and of one that is sent, after its length. The
     defaults are the least values, and the greatest is 1,073,741,823. A longer answer, such as the names of very many children,
-    ends the connection; a longer request raises `TooLargeError`. Set `jute.maxbuffer` of the servers as high.
+    ends the connection, and its read raises `TooLargeError`; so does a longer request. Set `jute.maxbuffer` of the servers as high.
 
     The file `record` gets all that the session is given and sends, from the beginning; `zk_shell` replays it to show a fault. It
     has paths and data, but no password and no credential. If writing fails, the client logs that, and the session goes on.

@@ -228,10 +228,11 @@ class TransactionFailedError(ZookeeperError):
 
 
 class TooLargeError(ZookeeperError):
-    """The request would have more than 1,048,575 bytes, or than `longest_request` of the client. Nothing was sent."""
+    """The request would have more than 1,048,575 bytes, or than `longest_request` of the client, and was not sent; or the answer to a read
+    has more than 4,194,304, or than `longest_answer`, and is not asked for again."""
 
-    _reason = "the request is longer than the session may send"
-    _advice = "send less, or raise longest_request"
+    _reason = "the request or its answer is longer than the session allows"
+    _advice = "send or read less, or raise longest_request or longest_answer"
 
 
 # made by scripts/interface from include/interface.toml

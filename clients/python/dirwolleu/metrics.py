@@ -41,7 +41,8 @@ class CallEvent(NamedTuple):
     """`exists`, `get`, `children`, `set`, `create`, `delete`, `transaction`, `sync`, `acl`, `close` or `other`."""
     path: Optional[str]
     outcome: str
-    """`ok`, `refused` by the server, `lost`, `expired`, `closed`, `not_connected`, `late`, or `not_asked`: refused before it was sent."""
+    """`ok`, `refused` by the server, `lost`, `expired`, `closed`, `not_connected`, `late`, or `not_asked`: refused before it was sent, or its
+    answer is too long."""
     code: int
     """ZooKeeper's number of what the server has answered, 0 where it has not or all was well."""
     zxid: int

@@ -55,9 +55,15 @@ def _does(call: Callable[Concatenate[Any, Given], Steps[Result]]) -> Callable[Co
 
 
 class Held(BaseHeld[Client]):
-    """A lock or a lease that was taken: see `Lock`."""
+    """A lock or a lease that was taken: see `Lock`.
+
+        with dirwolleu.Lock(client, "/locks/job") as held:
+            if held.wait_lost(0.5):  # or `on_lost` of the lock, which is called then
+                print("stop the work: another one may hold")
+    """
 
     release = _does(BaseHeld._release)
+    wait_lost = _does(BaseHeld._losing)
 
     def __enter__(self) -> Held:
         return self
@@ -216,6 +222,10 @@ class Election:
     def contenders(self) -> list[str]:
         """The identifiers of the candidates, that of the leader first."""
         return self._lock.contenders()
+
+    def leader(self) -> Optional[str]:
+        """The identifier of the one that leads, or None where nobody stands. Whoever asks need not stand: it is a look at the nodes of a moment."""
+        return next(iter(self._lock.contenders(1)), None)
 
 
 class Registration(BaseRegistration[Client]):

@@ -337,7 +337,7 @@ class AgeTest(ClientCase):
         client = self.client(self.raw_server(serves_one).host, 3 * HOUR)
         client.get("/a", watch=True)
         lock = Lock(client, "/lock")
-        held = lock._held(Taken("/lock/x", 1, lambda: 1, mock.Mock()))
+        held = lock._held(Taken("/lock/x", 1, "", lambda: 1, mock.Mock()))
         held.check(within=HOUR / 2)
         real = time.clock_gettime_ns
 

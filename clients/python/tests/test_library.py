@@ -226,6 +226,20 @@ class MachineTest(unittest.TestCase):
         is_over.set()
         self.assertGreater(turns[0], before)
 
+    def test_many_texts_are_those_that_were_spelled(self) -> None:
+        digits = [f"{number:010}" for number in range(3000)]
+        for names in (
+            digits,
+            [*digits, "longer than these"],
+            [*digits, "shorter"],
+            [*digits, "a\0\0\0\nb", "eleven char"],
+            [*digits, "\0\0\0\n" + digits[0][4:]],
+            ["ö" + name[1:] for name in digits],
+            [""] * 3000,
+            ["n" * 261] * 300,
+        ):
+            self.assertEqual(handle.texts_in(texts(*names)[4:]), names)
+
     def test_a_subtree_is_told_once_nothing_is_lacking(self) -> None:
         session, data_of = connected(), library.DATA_SIDE
         self.assertEqual(session.lacking("/a", 9), [("/a", data_of), ("/a", library.CHILDREN_SIDE)])

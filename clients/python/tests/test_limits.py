@@ -17,7 +17,7 @@ RAISED, HIGHEST = 5_000_000, 1_073_741_823
 OF_ANSWER, OF_SET, OF_CREATE2 = 16 + 4 + len(STAT), 8 + 6 + 4 + 4, 8 + 6 + 4 + 27 + 4
 """How many bytes the payload of a frame has besides the data: of the answer to a get, and of a set and a create2 of /a."""
 REFUSED = f"a limit of payloads is below that of every session, or above {HIGHEST} bytes"
-TOO_LARGE = "the request is longer than the session may send: /a; send less, or raise longest_request"
+TOO_LARGE = "the request or its answer is longer than the session allows: /a; send or read less, or raise longest_request or longest_answer"
 
 Named = dict[str, Any]
 
@@ -56,7 +56,7 @@ class LimitRules(BothCase):
         return self.raw_server(lambda peer: (rest.pop(0) if len(rest) > 1 else rest[0])(peer))
 
     def test_an_answer_is_as_long_as_it_may_be(self) -> None:
-        """A longer one ends the connection, and the read is asked again on the next."""
+        """A longer one ends the connection, and the read is answered so. The next one is asked over the next connection."""
         raised: Named = {"longest_answer": RAISED}
         rows: list[tuple[Named, int, int]] = [
             (raised, RAISED, RAISED), (raised, RAISED + 1, 100), ({}, 4_194_304, 4_194_304), ({}, 4_194_305, 100),
@@ -65,7 +65,10 @@ class LimitRules(BothCase):
             with self.subTest(named=named, size=size):
                 server = self.serve(self.answers(size, []), self.answers(100, []))
                 client = self.client(server.host, **named)
-                self.assertEqual(len(client.get("/a")[0]), taken - OF_ANSWER)
+                if taken < size:
+                    with self.assertRaises(TooLargeError):
+                        client.get("/a")
+                self.assertEqual(len(client.get("/a", timeout=WAIT)[0]), taken - OF_ANSWER)
                 self.assertEqual(len(server.dials), 1 if taken == size else 2)
 
     def test_a_request_is_as_long_as_it_may_be(self) -> None:

@@ -32,6 +32,7 @@ from dirwolleu._library import Halted
 from dirwolleu._retry import is_passing
 from dirwolleu._session import Session
 from dirwolleu._steps import Steps
+from dirwolleu.security import ACL, ANYONE_ID_UNSAFE, Id, Permissions
 
 CREATE, DELETE, GET_CHILDREN_2 = 1, 2, 12
 """Types of requests."""
@@ -86,6 +87,28 @@ class ContendingRules(TwoCase):
             held.release()
             later.check()
             later.release()
+
+    def test_a_loss_is_waited_for(self) -> None:
+        """That of the node, of the connection, and the release."""
+        for keeps, lose in ((True, self.delete), (False, self.drop), (True, self.let_go)):
+            held = self.recipe("Lock", self.one, "/locks", keeps_while_suspended=keeps).acquire(WAIT)
+            self.assertFalse(held.wait_lost(0))
+            waits = in_thread(functools.partial(held.wait_lost, 3 * WAIT))
+            time.sleep(0.05)
+            self.assertTrue(waits.empty())
+            lose(held)
+            self.assertEqual((waits.get(timeout=WAIT), held.is_held, held.wait_lost()), (True, False, True))
+            within(lambda: self.one.connected)
+            held.release()
+
+    def delete(self, held: Any) -> None:
+        self.other.delete(held.path)
+
+    def drop(self, _: Any) -> None:
+        self.server.do("drop")
+
+    def let_go(self, held: Any) -> None:
+        held.release()
 
     def is_lost(self, held: Any) -> bool:
         return not held.is_held
@@ -257,6 +280,16 @@ class ContendingRules(TwoCase):
                 self.assertEqual(lock.contenders(), ["own", line[0], line[1]])
                 held.release()
                 self.one.delete("/locks", recursive=True)
+
+    def test_what_a_lock_makes_has_its_acl(self) -> None:
+        """Its place, and the nodes at its path and above it that were not there."""
+        acl = [ACL(Permissions.ALL, ANYONE_ID_UNSAFE), ACL(Permissions.READ, Id("ip", "10.0.0.1"))]
+        kinds: dict[str, dict[str, Any]] = {"Lock": {}, "ReadLock": {"names": "curator"}, "Semaphore": {"max_leases": 2}}
+        for name, named in kinds.items():
+            held = self.recipe(name, self.one, f"/guarded-{name}/x", acl=acl, **named).acquire(WAIT)
+            for path in (held.path, f"/guarded-{name}/x", f"/guarded-{name}"):
+                self.assertEqual(self.other.get_acls(path)[0], acl, path)
+            held.release()
 
     def test_an_election_has_one_kind_of_names(self) -> None:
         self.one.create("/leader/a-latch-0000000000", makepath=True)

@@ -48,7 +48,7 @@ class RefusalTest(MessageCase):
             (lambda: client.create("/a"), "there is a node already: /a"),
             (lambda: client.set("/a", b"", 7), "the node has another version: /a; read it again"),
             (lambda: client.delete("/a"), "the node has children: /a; delete them first"),
-            (lambda: client.set("/a", bytes(1 << 20)), "the request is longer than the session may send: /a; send less, or raise longest_request"),
+            (lambda: client.set("/a", bytes(1 << 20)), "the request or its answer is longer than the session allows: /a; send or read less, or raise longest_request or longest_answer"),
         ):
             self.assertEqual(self.said(call), wanted)
 

@@ -17,7 +17,7 @@ from test_leaving import CREATE, Relay
 
 import dirwolleu
 from dirwolleu import Client, ConnectionClosedError, Election, Held, Lock, LockLostError, LockTimeout, ReadLock, Registration, State, aio
-from dirwolleu._locks import in_line
+from dirwolleu._locks import in_line, mixed_names
 
 
 class LockTest(ClientCase):
@@ -57,9 +57,11 @@ class LockTest(ClientCase):
     def test_those_of_the_same_names_are_in_one_line(self) -> None:
         curator = "_c_6fbbe9d5-8b1c-4b8a-a8a7-f9c1a1b0f3e5-lock-0000000003"
         kazoo = "b5a4f3dc0e0f4f4b8b9c3e2a1d0c9b8a__lock__0000000002"
-        older, last = "x__lock__-000000001", "x__rlock__0000000007"
-        self.assertEqual(in_line([curator, last, "other", kazoo, older]), [kazoo, last])
-        self.assertEqual(in_line([curator, kazoo, "x-lock--0000000001"], "curator"), ["x-lock--0000000001", curator])
+        engine, last, below = self.one._engine, "x__rlock__0000000007", "x-lock--2147483648"
+        self.assertEqual(in_line(engine, "/locks", [curator, last, "other", kazoo, "x__lock__-000000001"]), [kazoo, last])
+        self.assertEqual(in_line(engine, "/locks", [curator, kazoo, below], "curator"), [curator])  # a number below 0 never holds
+        self.assertEqual(in_line(engine, "/locks", []), [])
+        self.assertIn(f"{below} is there, by names of Curator's locks", str(mixed_names(engine, "/locks", [kazoo, below], "kazoo")))
 
     def test_one_of_kazoo_that_is_first_is_waited_for(self) -> None:
         kazoos = f"{self.root}/locks/b5a4__lock__0000000000"
@@ -262,10 +264,13 @@ class ElectionTest(ClientCase):
         first = in_thread(lambda: Election(one, "/leader", "one").run(lead))
         self.assertEqual(leads.get(timeout=WAIT), "one")
         election = Election(other, "/leader", "other")
+        self.assertEqual((election.leader(), election.contenders()), ("one", ["one"]))
         second = in_thread(lambda: election.run(lambda held: held.token))
         within(lambda: election.contenders() == ["one", "other"])
+        self.assertEqual(election.leader(), "one")
         may_end.set()
         self.assertLess(first.get(timeout=WAIT), second.get(timeout=WAIT))
+        self.assertIsNone(election.leader())
 
 
 class RegistrationTest(ClientCase):

@@ -131,6 +131,35 @@ class SessionTest(unittest.TestCase):
         session.cut(1100)
         self.assertEqual(session.moment(5000)[:1], [TimedOut(3, False)])
 
+    def test_an_answer_that_is_too_long_is_asked_for_once(self) -> None:
+        session, long = self.connected(), struct.pack(">i", 4_194_305)
+        session.get_data(200, 1, NO_LIMIT, "/a", False)
+        session.get_children(200, 2, NO_LIMIT, "/b", False)
+        told, dropped, *more = session.received(300, long)
+        self.assertEqual(told, Answer(1, library.TOO_LARGE, 0, 0, None, None, []))
+        self.assertTrue(isinstance(dropped, Drop) and dropped.fault == "F2")
+        self.assertEqual(more, [StateChange(library.IDLE), PlainAction.HANG_UP])
+        session.moment(1000)
+        session.opened(1000)
+        self.assertEqual(session.received(1000, CONNECT_RESPONSE), [*CONNECTED, asked(3, 12, "/b", b"\0")])
+
+    def test_a_write_whose_answer_is_too_long_is_lost(self) -> None:
+        session = self.connected()
+        session.create(200, 1, NO_LIMIT, "/a", b"", library.PERSISTENT)
+        dropped, lost, *_ = session.received(300, struct.pack(">i", 4_194_305))
+        self.assertTrue(isinstance(dropped, Drop) and dropped.fault == "F2")
+        self.assertEqual(lost, Answer(1, library.LOST, 0, 0, None, None, []))
+
+    def test_what_is_followed_is_told_refused_once_where_its_answer_is_too_long(self) -> None:
+        session, long = self.connected(), struct.pack(">i", 4_194_305)
+        self.assertEqual(session.follow(200, 5, "/a", library.DATA_SIDE), [read(1, "/a", True)])
+        for xid, now, refused in ((2, 300, [Refused(5, library.READ_TOO_LARGE, 0)]), (3, 1_300, [])):
+            told = [*session.received(now, long), *session.moment(now + 400)]
+            self.assertIn(PlainAction.HANG_UP, told)
+            self.assertEqual([one for one in told if isinstance(one, Refused)], refused)
+            session.opened(now + 500)
+            self.assertEqual(session.received(now + 500, CONNECT_RESPONSE), [*CONNECTED, read(xid, "/a", True)])
+
     def test_another_session_begins_after_an_expiry(self) -> None:
         session = self.connected()
         session.get_data(200, 1, NO_LIMIT, "/a", False)

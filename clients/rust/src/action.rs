@@ -150,7 +150,8 @@ pub enum Action<'a> {
         /// The number that the subject was given.
         ticket: u64,
     },
-    /// A read of the subject with this ticket was refused. It is read again after a second, and this is told once for each new reason.
+    /// A read of the subject with this ticket was refused. It is read again after a second, and over each new connection, and this
+    /// is told once for each new reason.
     Refused {
         /// The number that the subject was given.
         ticket: u64,
@@ -243,7 +244,8 @@ pub enum Refusal {
     Code(Code),
     /// 65,536 paths of the side are watched.
     TooManyWatches,
-    /// The path is too long for a request.
+    /// The answer is longer than [`longest_answer`](crate::SessionOptions::longest_answer) of the session says. It ends the connection, and
+    /// the subject is read again over the next one: let it go.
     TooLarge,
     /// The session is being closed.
     Closed,

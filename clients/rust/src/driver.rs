@@ -189,7 +189,7 @@ impl Driver {
         };
         let read = incoming.read(&mut self.room, wait);
         let (now, room) = (self.look(), &self.room);
-        self.shared.with(|engine| {
+        self.shared.with_after_looks(|engine| {
             let is_late = engine.is_late(now);
             match read {
                 _ if !engine.is_open() => Ok(Received::End),

@@ -85,7 +85,8 @@ pub struct Machine {
 /// ```
 #[derive(Clone, Copy, Debug, PartialEq, Eq)]
 pub struct Limits {
-    /// Of a frame that comes: 4,194,304 to 1,073,741,823, by default the least. A longer one ends the connection.
+    /// Of a frame that comes: 4,194,304 to 1,073,741,823, by default the least. A longer one ends the connection, and the read that it
+    /// answers is [`TooLarge`](crate::NoReply::TooLarge).
     pub longest_answer: usize,
     /// Of a frame that is sent: 1,048,575 to 1,073,741,823, by default the least. A longer call is answered
     /// [`TooLarge`](crate::NoReply::TooLarge).

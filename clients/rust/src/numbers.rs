@@ -187,13 +187,13 @@ pub enum Side {
     Children = 2,
 }
 
-/// Why a call has no reply. But for [`NoReply::ConnectionLoss`], nothing was sent and nothing has changed.
+/// Why a call has no reply. But for [`NoReply::ConnectionLoss`], nothing has changed, and nothing was sent but a read whose answer is too long.
 ///
 /// ```
 /// use dirwolleu::NoReply;
 ///
 /// assert_eq!(NoReply::try_from(6), Ok(NoReply::TooLarge));
-/// assert_eq!(NoReply::TooLarge.to_string(), "the request is longer than the session may send");
+/// assert_eq!(NoReply::TooLarge.to_string(), "the request or its answer is longer than the session allows");
 /// ```
 #[derive(Clone, Copy, Debug, PartialEq, Eq, Hash)]
 #[non_exhaustive]
@@ -208,7 +208,7 @@ pub enum NoReply {
     NotConnected = 4,
     /// 65,536 paths of this side are watched.
     TooManyWatches = 5,
-    /// The request would be longer than the session may send: 1,048,575 bytes, or as its options say.
+    /// The request would be longer than the session may send, 1,048,575 bytes, or the answer to a read is longer than 4,194,304: or as its options say. It is not asked again.
     TooLarge = 6,
     /// 1,024 calls wait for their reply.
     TooManyPending = 7,
@@ -377,7 +377,7 @@ pub(crate) mod words {
             3 => "the session is closed",
             4 => "no server has accepted the session",
             5 => "65536 paths are watched",
-            6 => "the request is longer than the session may send",
+            6 => "the request or its answer is longer than the session allows",
             7 => "1024 calls wait for their reply",
             _ => return None,
         })
@@ -444,7 +444,7 @@ pub(crate) mod advice {
             3 => "open another one",
             4 => "call again later",
             5 => "read without a watch, or in another session",
-            6 => "send less, or raise longest_request",
+            6 => "send or read less, or raise longest_request or longest_answer",
             7 => "call again when one was answered",
             _ => "",
         }

@@ -184,7 +184,8 @@ impl SessionOptions {
     }
 
     /// The most bytes of a frame that comes, after its length: 4,194,304 unless this says more, and at most 1,073,741,823. A longer one, as
-    /// the names of very many children, ends the connection. The servers' `jute.maxbuffer` says how long those are that they send.
+    /// the names of very many children, ends the connection, and its read is answered [`TooLarge`](crate::NoReply::TooLarge). The servers'
+    /// `jute.maxbuffer` says how long those are that they send.
     pub fn longest_answer(mut self, bytes: usize) -> SessionOptions {
         self.limits.longest_answer = bytes;
         self

@@ -13,7 +13,7 @@ use std::collections::HashMap;
 use std::mem;
 use std::panic::{catch_unwind, resume_unwind, AssertUnwindSafe};
 use std::sync::atomic::{AtomicBool, Ordering};
-use std::sync::{Arc, Mutex, MutexGuard, PoisonError, Weak};
+use std::sync::{Arc, Mutex, MutexGuard, PoisonError, RwLock, Weak};
 use std::task::{Context, Poll, Waker};
 use std::thread::{self, Builder};
 use std::time::{Duration, Instant};
@@ -34,6 +34,8 @@ struct Wakers {
 /// An engine that threads share.
 pub(crate) struct Shared {
     engine: Mutex<Engine>,
+    /// A look-up that waits for the engine holds this for reading. The next bytes wait for it: the lock of the engine is not fair.
+    looks: RwLock<()>,
     clock: Clock,
     changed: Notify,
     wakers: Mutex<Wakers>,
@@ -59,6 +61,7 @@ impl Shared {
             observer,
             clock: engine.clock(),
             engine: Mutex::new(engine),
+            looks: RwLock::default(),
             changed: Notify::default(),
             wakers: Mutex::default(),
             writer,
@@ -82,6 +85,12 @@ impl Shared {
         engine.update_trees();
         self.hand_out(engine);
         result
+    }
+
+    /// The same with bytes, of which a step may take long: after the look-ups that wait by now, so that none waits for two such steps.
+    pub(crate) fn with_after_looks<R>(&self, act: impl FnOnce(&mut Engine) -> R) -> R {
+        drop(self.looks.write());
+        self.with(act)
     }
 
     /// How the call ends that a session without a thread has asked, if it has ended by now.
@@ -218,7 +227,10 @@ impl Shared {
 
     /// Looks at the engine, which goes no further.
     pub(crate) fn look<R>(&self, look: impl FnOnce(&Engine) -> R) -> R {
-        look(&self.lock())
+        let waits = self.looks.read();
+        let engine = self.lock();
+        drop(waits);
+        look(&engine)
     }
 
     /// Waits while this holds, until this instant at most.
@@ -332,4 +344,57 @@ pub(crate) fn ask<T>(shared: &Arc<Shared>, request: Request<T>) -> Ticket<T> {
         session,
     };
     Ticket::new(slot, request.read, limit)
+}
+
+#[cfg(test)]
+mod tests {
+    use super::{Engine, Shared, Writer};
+    use crate::engine::EngineOptions;
+    use crate::hosts::{DialOrder, Hosts};
+    use crate::machine::Limits;
+    use std::cell::Cell;
+    use std::sync::atomic::{AtomicUsize, Ordering};
+    use std::sync::{mpsc, Arc};
+    use std::thread;
+    use std::time::Duration;
+
+    fn shared() -> Arc<Shared> {
+        let options = EngineOptions {
+            timeout: Duration::from_secs(10),
+            limits: Limits::default(),
+            hosts: Hosts::default(),
+            order: DialOrder::Shuffled,
+            saved: None,
+            renews: true,
+            limit: None,
+            credentials: Vec::new(),
+        };
+        Shared::new(Engine::new(options).unwrap(), Writer::Passing, None)
+    }
+
+    #[test]
+    fn a_look_up_that_waits_goes_before_the_next_bytes() {
+        const ROUNDS: usize = 200;
+        let (shared, looked) = (shared(), AtomicUsize::new(0));
+        let before = Cell::new(0);
+        thread::scope(|scope| {
+            let (look, asked) = mpsc::channel::<()>();
+            let (shared, looked) = (&shared, &looked);
+            scope.spawn(move || {
+                for () in asked {
+                    shared.look(|_| looked.fetch_add(1, Ordering::SeqCst));
+                }
+            });
+            for round in 0..ROUNDS {
+                shared.with_after_looks(|_| {
+                    before.set(before.get() + usize::from(looked.load(Ordering::SeqCst) == round));
+                    look.send(()).unwrap();
+                    while shared.looks.try_write().is_ok() {
+                        thread::yield_now(); // until it waits
+                    }
+                });
+            }
+        });
+        assert_eq!(before.get(), ROUNDS);
+    }
 }

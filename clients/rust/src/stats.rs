@@ -102,7 +102,7 @@ named! {
     NotConnected "not_connected",
     /// Its limit came after it was sent.
     Late "late",
-    /// It was refused before it was sent, as of a text that is no path.
+    /// It was refused before it was sent, as of a text that is no path, or its answer is too long.
     NotAsked "not_asked",
 }
 

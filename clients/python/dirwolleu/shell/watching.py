@@ -33,7 +33,7 @@ _CODES = {
 }
 _OWN: dict[type[BaseException], tuple[str, str]] = {
     TooManyWatchesError: ("K5", "too many paths are watched"),
-    TooLargeError: ("K6", "the path is too long"),
+    TooLargeError: ("K6", "the answer is too long"),
 }
 _SIDES = {"data": library.DATA_SIDE, "names": library.CHILDREN_SIDE}
 
@@ -193,7 +193,7 @@ class Watch:
         self.look(side)
 
     def refuse(self, side: Side, error: BaseException) -> None:
-        """A read is refused, and made again after a second. Each reason is printed once, but that the watch itself ends the session."""
+        """A read is refused, and made again. Each reason is printed once, but that the watch itself ends the session."""
         if isinstance(error, ConnectionClosedError):
             return
         line = side.refused(error)

@@ -51,7 +51,10 @@ fn an_answer_is_as_long_as_it_may_be() {
             serve(line, if number == 0 { size } else { 100 }, &lengths);
         });
         let session = options.open(partner.address).unwrap();
-        let data = session.get("/a").unwrap().data.unwrap(); // asked again, where it is too long
+        if !is_taken {
+            assert_eq!(kind_of(session.get("/a")), NoReply::TooLarge.into());
+        }
+        let data = session.get("/a").unwrap().data.unwrap();
         let (length, dials) = if is_taken { (size, 1) } else { (100, 2) };
         assert_eq!((data.len(), partner.dials()), (length - OF_ANSWER, dials));
     }

@@ -49,7 +49,7 @@ fn a_refused_call_has_its_path_and_reason() {
     assert_eq!(printed(full), wanted);
     let large = session.set("/a", &vec![0; 1 << 20], ANY_VERSION);
     let wanted =
-        "the request is longer than the session may send: /a; send less, or raise longest_request";
+        "the request or its answer is longer than the session allows: /a; send or read less, or raise longest_request or longest_answer";
     assert_eq!(printed(large), wanted);
 }
 

@@ -5,6 +5,7 @@ A lock hands a contender to the proved core, and waits for what that tells: see 
 
 from __future__ import annotations
 
+import contextlib
 import time
 import uuid
 from collections.abc import Iterable
@@ -31,6 +32,7 @@ from dirwolleu.kazoo.recipe.semaphore import Semaphore as Semaphore
 from dirwolleu.kazoo.retry import ForceRetryError, KazooRetry, RetryFailedError
 
 if TYPE_CHECKING:
+    from dirwolleu.kazoo._session import Session
     from dirwolleu.kazoo.client import KazooClient
 
 
@@ -133,9 +135,7 @@ class Lock:
         return self._contend(blocking, until)
 
     def _contend(self, blocking: bool, until: Optional[float]) -> bool:
-        session = self.client._session
-        if session is None:
-            raise ConnectionClosedError("Connection has been closed")
+        session = self._session()
         contender = Contender(own_path(self.path), self._naming, uuid.uuid4().hex, self.data, own_acls(self.client.default_acl))
         limit, patience = (until, SHORTEST_ASK) if blocking else (time.monotonic(), session.session_timeout)
         try:
@@ -164,17 +164,22 @@ class Lock:
             result: Result = end.value
             return result
         except own.MixedNamesError as error:
-            raise error_of(mixed_names(own_path(self.path), self._names_below(), KAZOO)) from error
+            raise self._mixed_names() from error
         except own.ZookeeperError as error:
             raise error_of(error) from error
 
-    def _names_below(self) -> list[str]:
-        """The names at the path, for people: none where they can't be had."""
-        try:
-            names: list[str] = self.client.get_children(self.path)
-        except KazooException:
-            return []
-        return names
+    def _session(self) -> Session:
+        session = self.client._session
+        if session is None:
+            raise ConnectionClosedError("Connection has been closed")
+        return session
+
+    def _mixed_names(self) -> BaseException:
+        """Says who was met, for people, as far as the names at the path can be had."""
+        names: list[str] = []
+        with contextlib.suppress(KazooException):
+            names = self.client.get_children(self.path)
+        return error_of(mixed_names(self._session()._engine, own_path(self.path), names, KAZOO))
 
     def _done(self, step: Step, event: Any) -> Optional[_News]:
         """Does a step. One of `acquire`, which waits by `wake_event`, is ended by `cancel`: another thread may release meanwhile."""
@@ -202,7 +207,7 @@ class Lock:
         """What the contenders are called, in the order of their numbers. It is a look at the nodes of a moment, and decides nothing."""
         self.client.ensure_path(self.path)
         found = []
-        for name in in_line(self.client.get_children(self.path)):
+        for name in in_line(self._session()._engine, own_path(self.path), self.client.get_children(self.path)):
             try:
                 data, _ = self.client.get(join(self.path, name))
             except NoNodeError:
