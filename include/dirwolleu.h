@@ -34,7 +34,8 @@
  *     turn has not come (960 others are being read, or 1,024 calls are on their way; no call is sent while it could be read), or its read was
  *     refused and is made again, or no server has accepted the connection;
  *   - what is followed by a ticket is what the program follows by it and what DW_KIND_MEMBER_ADDED has told of it and DW_KIND_MEMBER_REMOVED has not
- *     taken back, and nothing else, unless one step has both; and the trees are those that the program follows;
+ *     taken back, and nothing else, unless one step has both; the trees are those that the program follows; and what is followed for one is what
+ *     DW_KIND_MEMBER_ADDED has told for its ticket and DW_KIND_MEMBER_REMOVED has not taken back, if that is below 2^63 and no other tree's at once;
  *   - a contender that holds, by dw_session_held, does so by a listing that its session was answered, if the tickets are as that function says;
  *   - each function returns, whatever bytes a server sends.
  * If memory runs out within a step, that an answer is good, that nothing is kept after an end, and that functions return still hold. The rest is proved of
@@ -220,8 +221,8 @@ enum dw_code DW_AS_INT32 {
  *   DW_KIND_RENEWED   the session has expired, with its ephemeral nodes, and another one begins. What is followed is read again.
  *   DW_KIND_SHOWN     what is kept of the subject with this ticket is good: look it up. It was not, or its path was reported since.
  *   DW_KIND_REFUSED   a read of the subject with this ticket was refused: refusal says why, with the code of DW_REFUSAL_CODE. It is read
- *                     again after a second, and over each new connection, which an answer that is too long ends again: let such a one go.
- *                     This is told once for each new reason.
+ *                     again after a second, or over a new connection. Where its answer is too long, which ends the connection, it is read
+ *                     again after a second, and from then on after a minute, or in a new session. This is told once for each new reason.
  * It says these of trees, each in its place among the others:
  *   DW_KIND_MEMBER_ADDED  a side of a node is followed for the tree with the ticket tree, by this ticket: side; the text is the path.
  *   DW_KIND_MEMBER_REMOVED    what this ticket follows for that tree is followed no more: there is no such node, or the tree is followed no more.

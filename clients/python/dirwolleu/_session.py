@@ -79,8 +79,8 @@ class Shown(NamedTuple):
 
 
 class Refused(NamedTuple):
-    """A read of a subject was refused, and is made again after a second, and over each new connection. The code is the server's, where it
-    was the server that has."""
+    """A read of a subject was refused, and is made again after a second, or where its answer is too long once more after a minute. The code
+    is the server's, where it was the server that has."""
 
     ticket: int
     refusal: int

@@ -150,15 +150,21 @@ class SessionTest(unittest.TestCase):
         self.assertTrue(isinstance(dropped, Drop) and dropped.fault == "F2")
         self.assertEqual(lost, Answer(1, library.LOST, 0, 0, None, None, []))
 
-    def test_what_is_followed_is_told_refused_once_where_its_answer_is_too_long(self) -> None:
+    def test_what_is_followed_waits_longer_where_its_answer_is_too_long_again(self) -> None:
         session, long = self.connected(), struct.pack(">i", 4_194_305)
         self.assertEqual(session.follow(200, 5, "/a", library.DATA_SIDE), [read(1, "/a", True)])
-        for xid, now, refused in ((2, 300, [Refused(5, library.READ_TOO_LARGE, 0)]), (3, 1_300, [])):
+        for xid, now, refused, until in ((2, 300, [Refused(5, library.READ_TOO_LARGE, 0)], 1_300), (3, 1_300, [], 61_300)):
             told = [*session.received(now, long), *session.moment(now + 400)]
             self.assertIn(PlainAction.HANG_UP, told)
             self.assertEqual([one for one in told if isinstance(one, Refused)], refused)
             session.opened(now + 500)
-            self.assertEqual(session.received(now + 500, CONNECT_RESPONSE), [*CONNECTED, read(xid, "/a", True)])
+            self.assertEqual(session.received(now + 500, CONNECT_RESPONSE), CONNECTED)  # it is not read over the next connection
+            self.assertEqual(session.moment(now + 900), [])
+            session.cut(until - 50)
+            session.moment(until - 40)
+            session.opened(until - 30)
+            self.assertEqual(session.received(until - 20, CONNECT_RESPONSE), CONNECTED)
+            self.assertEqual((session.moment(until - 1), session.moment(until)), ([], [read(xid, "/a", True)]))
 
     def test_another_session_begins_after_an_expiry(self) -> None:
         session = self.connected()

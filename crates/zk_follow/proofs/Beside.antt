@@ -14,41 +14,36 @@ use Rattle.zk_follow.specs.inner.Owning.{is_of}
 use Rattle.zk_follow.specs.Places.{has_place, key_of, AreFound}
 use Rattle.zk_follow.proofs.Staying.{and_parts}
 
-or_true : (b : Bool) → (b || true) ≡ true
-or_true true = refl
-or_true false = refl
-
 -- one place more is gone over
-pub paths_more : {A : Type 0} (index : Index A) (subjects : List (Subject A)) (places : List ℕ) (i : ℕ) (subject : Subject A)
+pub paths_more : {A : Type 0} (index : Index A) (subjects : List (Subject A)) (ticket : ℕ) (places : List ℕ) (i : ℕ) (subject : Subject A)
     (old new : List ℕ) → i < length places → All (λ at. at < length subjects) places → subject ≡ get_or subjects (get_or places i 0) subject
-    → (key : ℕ) → key ≡ key_of subject.path
-    → ((at : ℕ) → at < index.count → (is_among at old || has_place index.keys key at) ≡ true → is_among at new ≡ true)
-    → ((k at : ℕ) (d : Subject A) → is_among k (take i places) ≡ true → at < index.count
+    → ((at : ℕ) → at < index.count → is_among at old ≡ true → is_among at new ≡ true)
+    → (ticket ≡ subject.ticket → (at : ℕ) → at < index.count → has_place index.keys (key_of subject.path) at ≡ true
+    → is_among at new ≡ true)
+    → ((k at : ℕ) (d : Subject A) → is_among k (take i places) ≡ true → ticket ≡ (get_or subjects k d).ticket → at < index.count
     → has_place index.keys (key_of (get_or subjects k d).path) at ≡ true → is_among at old ≡ true)
-    → (k at : ℕ) (d : Subject A) → is_among k (take (i + 1) places) ≡ true → at < index.count
+    → (k at : ℕ) (d : Subject A) → is_among k (take (i + 1) places) ≡ true → ticket ≡ (get_or subjects k d).ticket → at < index.count
     → has_place index.keys (key_of (get_or subjects k d).path) at ≡ true → is_among at new ≡ true
-paths_more {A} index subjects places i subject old new within fits is key is_key has before k at d among below its =
+paths_more {A} index subjects ticket places i subject old new within fits is had here before k at d among same below its =
     by (is_among k (take i places)) (k == get_or places i 0) refl refl (sym more ∙ among)
   where
     more : is_among k (take (i + 1) places) ≡ (is_among k (take i places) || k == get_or places i 0)
     more = list_any_more (λ n. k == n) places i 0 within
 
     by : (a b : Bool) → is_among k (take i places) ≡ a → (k == get_or places i 0) ≡ b → (a || b) ≡ true → is_among at new ≡ true
-    by true b e f g = has at below (ap (λ b. b || has_place index.keys key at) (before k at d e below its))
+    by true b e f g = had at below (before k at d e same below its)
     by false true e f g =
-        let here : k ≡ get_or places i 0 = (Decides-eqb k (get_or places i 0)).0 f in
+        let at_it : k ≡ get_or places i 0 = (Decides-eqb k (get_or places i 0)).0 f in
         let s : get_or subjects k d ≡ subject =
-        ap (λ n. get_or subjects n d) here ∙ get_or_default subjects (get_or places i 0) d subject (fits i 0 within) ∙ sym is in
-        has at below (
-        ap (λ n. is_among at old || has_place index.keys n at) (is_key ∙ ap (λ (t : Subject A). key_of t.path) (sym s))
-        ∙ ap (λ b. is_among at old || b) its ∙ or_true (is_among at old)
-        )
+        ap (λ n. get_or subjects n d) at_it ∙ get_or_default subjects (get_or places i 0) d subject (fits i 0 within) ∙ sym is in
+        here (same ∙ ap (λ (t : Subject A). t.ticket) s) at below
+        (ap (λ n. has_place index.keys n at) (ap (λ (t : Subject A). key_of t.path) (sym s)) ∙ its)
     by false false e f g = absurd cc
 
 siblings : {A : Type 0} (index : Index A) (subjects : List (Subject A)) → index.count ≡ length subjects → AreFound index subjects
     → (ticket : ℕ) (places all : List ℕ)
     → ((at : ℕ) → at < index.count → has_place index.keys ticket at ≡ true → is_among at places ≡ true)
-    → ((k at : ℕ) (d : Subject A) → is_among k places ≡ true → at < index.count
+    → ((k at : ℕ) (d : Subject A) → is_among k places ≡ true → ticket ≡ (get_or subjects k d).ticket → at < index.count
     → has_place index.keys (key_of (get_or subjects k d).path) at ≡ true → is_among at all ≡ true)
     → (path : Text) (at : ℕ) → at < index.count → has_place index.keys (key_of path) at ≡ true → is_of subjects ticket path ≡ true
     → is_among at all ≡ true
@@ -61,13 +56,13 @@ siblings {A} index subjects count found ticket places all has each path at fits 
     let same_path : (get_or subjects any.0 any.1).path ≡ path =
     ap (λ (s : Subject A). s.path) any.3 ∙ same_text any.1.path path parts.1 in
     each any.0 at any.1
-    (has any.0 here (ap (λ n. has_place index.keys n any.0) same_ticket ∙ (found.1 any.0 any.1 here).0)) fits
+    (has any.0 here (ap (λ n. has_place index.keys n any.0) same_ticket ∙ (found.1 any.0 any.1 here).0)) same_ticket fits
     (ap (λ text. has_place index.keys (key_of text) at) same_path ∙ its)
 
 pub siblings_in : {A X E : Type 0} (result : Result X E) (index : Index A) (subjects : List (Subject A)) → index.count ≡ length subjects
     → AreFound index subjects → (ticket : ℕ) (places slice all : List ℕ) → slice ≡ places
     → ((at : ℕ) → at < index.count → has_place index.keys ticket at ≡ true → is_among at places ≡ true)
-    → OnOk result ((k at : ℕ) (d : Subject A) → is_among k slice ≡ true → at < index.count
+    → OnOk result ((k at : ℕ) (d : Subject A) → is_among k slice ≡ true → ticket ≡ (get_or subjects k d).ticket → at < index.count
     → has_place index.keys (key_of (get_or subjects k d).path) at ≡ true → is_among at all ≡ true)
     → OnOk result ((path : Text) (at : ℕ) → at < index.count → has_place index.keys (key_of path) at ≡ true
     → is_of subjects ticket path ≡ true → is_among at all ≡ true)

@@ -7,8 +7,9 @@ use Rattle.zk_turns.specs.View.{View}
 use Rattle.zk_turns.specs.Rule.{Rule, RuleAt}
 use Rattle.zk_follow.specs.declared.subject.Subject.{Subject}
 use Rattle.zk_follow.specs.declared.progress.Progress.{Progress}
-use Rattle.zk_follow.specs.declared.progress.Progress.TheVariants.{Reading}
-use Rattle.zk_follow.specs.Following.{after_code, progress_after, answered, heard, heard_all, read_of, IsBeingRead, IsCounted}
+use Rattle.zk_follow.specs.declared.progress.Progress.TheVariants.{Due, Reading, Refused}
+use Rattle.zk_follow.specs.declared.progress.Refusal.TheVariants.{Code, TooManyWatches, TooLarge, SessionClosed}
+use Rattle.zk_follow.specs.Following.{after_code, progress_after, answered, entered, heard, heard_all, read_of, IsBeingRead, IsCounted}
 use Rattle.zk_follow.proofs.Reading.{is_found, is_there}
 use Rattle.zk_follow.proofs.Waiting.{ends_wait, Silent, keeps_turn}
 
@@ -29,6 +30,16 @@ unfolding is_reading
 no_answer now was_there (Replied zxid result) e = no_code now was_there result e
 no_answer now was_there _ e = let f = ap is_reading e in cc
 
+-- nor once the session has entered another state
+pub not_entered : (progress : Progress) → entered progress ≡ Reading → ⊥
+unfolding is_reading
+not_entered Due e = let f = ap is_reading e in cc
+not_entered Reading e = let f = ap is_reading e in cc
+not_entered (Refused (Code code) until) e = let f = ap is_reading e in cc
+not_entered (Refused TooManyWatches until) e = let f = ap is_reading e in cc
+not_entered (Refused TooLarge until) e = let f = ap is_reading e in cc
+not_entered (Refused SessionClosed until) e = let f = ap is_reading e in cc
+
 module _ {A : Type 0} (now : ℕ) where
   heard_reading : (subject : Subject A) (output : Output)
       → (heard now subject output).progress ≡ Reading → (ends_wait subject.ticket output ≡ false) × (subject.progress ≡ Reading)
@@ -44,7 +55,7 @@ module _ {A : Type 0} (now : ℕ) where
           → (false ≡ false) × (subject.progress ≡ Reading)
       by true same = (refl, same)
       by false same = (refl, same)
-  heard_reading subject (Enters state) e = absurd cc
+  heard_reading subject (Enters state) e = absurd (not_entered subject.progress e)
   heard_reading subject _ e = (refl, e)
 
   same_ticket : (subject : Subject A) (output : Output) → (heard now subject output).ticket ≡ subject.ticket

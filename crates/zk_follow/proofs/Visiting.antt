@@ -17,12 +17,14 @@ use Rattle.zk_turns.specs.Rule.{Rule, RuleAt}
 use Rattle.zk_follow.specs.declared.subject.Subject.{Subject}
 use Rattle.zk_follow.specs.declared.progress.Progress.{Progress}
 use Rattle.zk_follow.specs.declared.progress.Progress.TheVariants.{Due, Reading, Refused}
+use Rattle.zk_follow.specs.declared.progress.Refusal.TheVariants.{Code, TooManyWatches as Many_watches, TooLarge as Long_answer}
+use Rattle.zk_follow.specs.declared.progress.Refusal.TheVariants.{SessionClosed as Closing}
 use Rattle.zk_follow.specs.declared.reads.TheConstants.{MOST_READS}
 use Rattle.zk_follow.specs.Following.{heard_all, how_many_reading, outputs_in, due_again, progress_after, read_of, rested_progress, taken}
 use Rattle.zk_follow.specs.Following.{AreFollowed, AreReads, AreVisited, IsAhead, IsCounted, IsReadOf, IsVisited, Steps, Visits}
 use Rattle.zk_follow.specs.inner.Following.{AreSeen, Asks, Reads}
 use Rattle.zk_follow.specs.inner.Following.{VisitsAnd}
-use Rattle.zk_follow.specs.Following.{answered, heard}
+use Rattle.zk_follow.specs.Following.{answered, entered, heard}
 use Rattle.zk_follow.proofs.Waiting.{still_going}
 use Rattle.zk_follow.proofs.Hearing.{all_same_path, all_same_side, all_same_ticket, counted_at}
 use Rattle.zk_follow.proofs.Asking.{woken_ahead}
@@ -124,6 +126,14 @@ rested_ahead now Due = tt
 rested_ahead now Reading = tt
 rested_ahead now (Refused why until) = tt
 
+entered_ahead : (now : ℕ) (progress : Progress) → IsAhead now progress → IsAhead now (entered progress)
+entered_ahead now Due ahead = tt
+entered_ahead now Reading ahead = tt
+entered_ahead now (Refused (Code code) until) ahead = tt
+entered_ahead now (Refused Many_watches until) ahead = tt
+entered_ahead now (Refused Long_answer until) ahead = ahead
+entered_ahead now (Refused Closing until) ahead = tt
+
 module _ {A : Type 0} (now : ℕ) (fits : now < 2 ^ 64) where
   one_ahead : (subject : Subject A) (output : Output) → IsAhead now subject.progress → IsAhead now (heard now subject output).progress
   one_ahead subject (Answer ticket outcome) ahead = by (subject.ticket == ticket)
@@ -136,7 +146,7 @@ module _ {A : Type 0} (now : ℕ) (fits : now < 2 ^ 64) where
       by : (b : Bool) → IsAhead now (cond b (record subject { is_there = false }) subject).progress
       by true = ahead
       by false = ahead
-  one_ahead subject (Enters state) ahead = tt
+  one_ahead subject (Enters state) ahead = entered_ahead now subject.progress ahead
   one_ahead subject _ ahead = ahead
 
   heard_ahead : (outputs : List Output) (subject : Subject A)

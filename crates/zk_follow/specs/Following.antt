@@ -69,7 +69,13 @@ abbrev pub there_after : (was_missing was_there : Bool) → Outcome → Bool
 there_after was_missing was_there (Replied zxid result) = there_by was_missing was_there result
 there_after was_missing was_there _ = was_there
 
--- What one output makes of a subject. With another state no call waits any more. A report of its path says that the node is another one.
+-- What another state leaves of the reading: no call waits any more, so that the subject is to be read. But an answer that was too long has
+-- ended the connection, and would end the next one: that refusal lasts until its moment.
+abbrev pub entered : Progress → Progress
+entered (Refused TooLarge until) = Refused TooLarge until
+entered _ = Due
+
+-- What one output makes of a subject. A report of its path says that the node is another one.
 abbrev pub answered : {A : Type 0} → ℕ → Outcome → Subject A → Subject A
 answered now outcome subject = record subject {
   progress = progress_after now subject.is_there outcome;
@@ -80,7 +86,7 @@ answered now outcome subject = record subject {
 abbrev pub heard : {A : Type 0} → ℕ → Subject A → Output → Subject A
 heard now subject (turns.Answer ticket outcome) = if subject.ticket == ticket then answered now outcome subject else subject
 heard now subject (turns.Report at side event) = if bytes_eq at subject.path then record subject { is_there = false } else subject
-heard now subject (Enters state) = record subject { progress = Due; is_there = false }
+heard now subject (Enters state) = record subject { progress = entered subject.progress; is_there = false }
 heard now subject _ = subject
 
 -- what outputs make of it, in order

@@ -170,6 +170,7 @@ fn visit_due<A: Allocator + Copy>(
     requires goes_on { (view_of client.old).standing.halted ≡ false }
     requires ahead { All (λ subject. IsAhead now subject.progress) subjects.old }
     requires count { reads ≡ how_many_reading subjects.old }
+    requires ascend { IsAscending places.old.items }
     requires below { All (λ at. at < length subjects.old) places.old.items }
     requires rest { AreAtRest (view_of client.old) subjects.old (places.old.items ++ waiting.old.items) }
     ensures followed { OnOk result (AreFollowed now (view_of client.new) subjects.new) }

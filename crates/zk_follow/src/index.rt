@@ -165,7 +165,27 @@ impl<A: Allocator + Copy> Index<A> {
         }
     }
 
-    /// The places of these, and of those that outputs name, in order. An error means that memory ran out.
+    /// The places of these, and of those that outputs name. An error means that memory ran out.
+    fn with_those_named(
+        &self,
+        alloc: A,
+        places: &[usize],
+        outputs: &[Output<A>],
+    ) -> Result<Vec<usize, A>, AllocError>
+        requires { 0 < length self.now.keys.buckets.items }
+        ensures below { IfOk result (λ all. All (λ at. at < self.now.count) all.items) }
+        ensures had { IfOk result (λ all. (at : ℕ) → at < self.now.count → is_among at places.now ≡ true → is_among at all.items ≡ true) }
+        ensures named { IfOk result (λ all. (ticket : ℕ) (path : Text) (at : ℕ) → at < self.now.count
+            → has_place self.now.keys ticket at ≡ true → has_place self.now.keys (key_of path) at ≡ true
+            → list_any (is_named ticket path) (said outputs.now) ≡ true → is_among at all.items ≡ true) }
+    {
+        let mut all = Vec::new(alloc);
+        add_below(places, self.count, &mut all)?;
+        self.add_all_named(outputs, &mut all)?;
+        Ok(all)
+    }
+
+    /// The same, in order.
     pub(crate) fn with_named(
         &self,
         alloc: A,
@@ -180,17 +200,36 @@ impl<A: Allocator + Copy> Index<A> {
             → has_place self.now.keys ticket at ≡ true → has_place self.now.keys (key_of path) at ≡ true
             → list_any (is_named ticket path) (said outputs.now) ≡ true → is_among at all.items ≡ true) }
     {
-        let mut all = Vec::new(alloc);
-        add_below(places, self.count, &mut all)?;
-        self.add_all_named(outputs, &mut all)?;
+        let mut all = self.with_those_named(alloc, places, outputs)?;
         put_in_order(&mut all);
         Ok(all)
     }
 
-    /// Adds the places of those that have the path of a subject at one of these places.
+    /// Adds the places of those that have the path of this subject, if it has this ticket.
+    fn add_at_path(
+        &self,
+        subject: &Subject<A>,
+        ticket: u64,
+        all: &mut Vec<usize, A>,
+    ) -> Result<(), AllocError>
+        requires { 0 < length self.now.keys.buckets.items }
+        ensures below { OnOk result (All (λ at. at < self.now.count) all.old.items → All (λ at. at < self.now.count) all.new.items) }
+        ensures had { OnOk result ((at : ℕ) → at < self.now.count → is_among at all.old.items ≡ true → is_among at all.new.items ≡ true) }
+        ensures each { OnOk result (ticket ≡ subject.now.ticket → (at : ℕ) → at < self.now.count
+            → has_place self.now.keys (key_of subject.now.path) at ≡ true → is_among at all.new.items ≡ true) }
+    {
+        if subject.ticket != ticket {
+            return Ok(());
+        }
+        let key = key_of(subject.path.as_str());
+        self.keys.add_at(key, self.count, all)
+    }
+
+    /// Adds the places of those that have the path of a subject of this ticket at one of these places.
     fn add_at_paths(
         &self,
         subjects: &[Subject<A>],
+        ticket: u64,
         places: &[usize],
         all: &mut Vec<usize, A>,
     ) -> Result<(), AllocError>
@@ -198,12 +237,12 @@ impl<A: Allocator + Copy> Index<A> {
         requires within { All (λ at. at < length subjects.now) places.now }
         ensures below { OnOk result (All (λ at. at < self.now.count) all.old.items → All (λ at. at < self.now.count) all.new.items) }
         ensures had { OnOk result ((at : ℕ) → at < self.now.count → is_among at all.old.items ≡ true → is_among at all.new.items ≡ true) }
-        ensures each { OnOk result ((k at : ℕ) (d : Subject A) → is_among k places.now ≡ true → at < self.now.count
+        ensures each { OnOk result ((k at : ℕ) (d : Subject A) → is_among k places.now ≡ true
+            → ticket ≡ (slice_index_or subjects.now k d).ticket → at < self.now.count
             → has_place self.now.keys (key_of (slice_index_or subjects.now k d).path) at ≡ true → is_among at all.new.items ≡ true) }
     {
         for place in places {
-            let key = key_of(subjects[*place].path.as_str());
-            self.keys.add_at(key, self.count, all)?;
+            self.add_at_path(&subjects[*place], ticket, all)?;
         }
         Ok(())
     }
@@ -225,7 +264,7 @@ impl<A: Allocator + Copy> Index<A> {
             → is_of subjects.now ticket path ≡ true → is_among at all.new.items ≡ true) }
     {
         let places = self.places_at(alloc, ticket)?;
-        self.add_at_paths(subjects, places.as_slice(), all)
+        self.add_at_paths(subjects, ticket, places.as_slice(), all)
     }
 
     /// Adds the places of those beside which a call of this ticket is answered by its reply.
@@ -321,7 +360,7 @@ impl<A: Allocator + Copy> Index<A> {
         if has_one_about_all(is_foreign, outputs) {
             return all_below(alloc, self.count);
         }
-        let mut all = self.with_named(alloc, places, outputs)?;
+        let mut all = self.with_those_named(alloc, places, outputs)?;
         self.add_all_beside(alloc, subjects, outputs, &mut all)?;
         put_in_order(&mut all);
         Ok(all)

@@ -4,7 +4,7 @@ ghost use Rattle.std.specs.Prelude.{◌≡◌};
 ghost use Rattle.zk_records.specs.Codes.{code_number};
 ghost use Rattle.zk_conversation.specs.Views.{code_result};
 ghost use Rattle.zk_client.specs.Views.{outcome_view};
-ghost use Rattle.zk_follow.specs.Following.{after_code, later, missing_after, progress_after, there_after};
+ghost use Rattle.zk_follow.specs.Following.{after_code, entered, later, missing_after, progress_after, there_after};
 
 use std::alloc::Allocator;
 use zk_client::{CallResult, Code, Outcome};
@@ -117,5 +117,18 @@ pub(crate) fn there_after<A: Allocator>(
         } => was_there && !code.is_no_node(),
         Outcome::Replied { .. } => was_missing,
         _ => was_there,
+    }
+}
+
+/// How far the reading is once the session has entered another state.
+pub(crate) fn entered(progress: Progress) -> Progress
+    ensures { result ≡ entered progress }
+{
+    match progress {
+        Progress::Refused {
+            why: Refusal::TooLarge,
+            ..
+        } => progress,
+        _ => Progress::Due,
     }
 }

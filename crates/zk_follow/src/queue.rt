@@ -114,8 +114,8 @@ fn wanted_beside<A: Allocator + Copy>(
     wanted
 }
 
-/// Takes the first places out of a queue, of as many subjects that are awaited as there is room for, to these, which are in order then. An
-/// error means that memory ran out.
+/// Takes the first places out of a queue, of as many subjects that are awaited as there is room for, to these, which are in order. An error
+/// means that memory ran out.
 pub(crate) fn take_first<A: Allocator + Copy>(
     subjects: &[Subject<A>],
     client: &Client<A>,
@@ -123,6 +123,7 @@ pub(crate) fn take_first<A: Allocator + Copy>(
     waiting: &mut VecDeque<usize, A>,
     places: &mut Vec<usize, A>,
 ) -> Result<(), AllocError>
+    requires { IsAscending places.old.items }
     ensures ascend { OnOk result (IsAscending places.new.items) }
     ensures below { OnOk result
         (All (λ at. at < length subjects.now) places.old.items → All (λ at. at < length subjects.now) places.new.items) }
@@ -131,6 +132,9 @@ pub(crate) fn take_first<A: Allocator + Copy>(
     ensures kept { OnOk result ((at : ℕ) → at < length subjects.now → (is_among at places.old.items || is_among at waiting.old.items) ≡ true
         → (is_among at places.new.items || is_among at waiting.new.items) ≡ true) }
 {
+    if waiting.is_empty() {
+        return Ok(());
+    }
     let mut wanted = room_beside(client, reads);
     while let Some(place) = next_of(waiting, wanted) {
         add_one(place, subjects.len(), places)?;

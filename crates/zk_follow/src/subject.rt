@@ -17,7 +17,7 @@ ghost use Rattle.zk_follow.specs.Following.{is_awaited, is_due, is_quiet, is_res
 
 use crate::kept::{holds, is_shown};
 use crate::news::{News, was_shown};
-use crate::progress::{Progress, missing_after, progress_after, there_after};
+use crate::progress::{Progress, entered, missing_after, progress_after, there_after};
 use crate::reads::{MOST_READS, read_of};
 use crate::stop::FollowerStop;
 use std::alloc::Allocator;
@@ -82,7 +82,10 @@ impl<A: Allocator> Subject<A> {
                     self.is_missing = missing_after(self.is_missing, outcome);
                 }
             }
-            Output::State(_) => self.begin(),
+            Output::State(_) => {
+                self.progress = entered(self.progress);
+                self.is_there = false;
+            }
             Output::Report { path, .. } => {
                 if path.as_str() == self.path.as_str() {
                     self.is_there = false;

@@ -11,6 +11,7 @@ abbrev pub invariant-loop-place : goal.invariant-loop-place
 invariant-loop-place g l = record {
   below : All (λ at. at < l.self.count) l.fn.all.items → All (λ at. at < l.self.count) l.all.items;
   had : (at : ℕ) → at < l.self.count → is_among at l.fn.all.items ≡ true → is_among at l.all.items ≡ true;
-  each : (k at : ℕ) (d : Subject _) → is_among k (take l.place-index l.places) ≡ true → at < l.self.count
+  each : (k at : ℕ) (d : Subject _) → is_among k (take l.place-index l.places) ≡ true → l.ticket ≡ (get_or l.subjects k d).ticket
+      → at < l.self.count
       → has_place l.self.keys (key_of (get_or l.subjects k d).path) at ≡ true → is_among at l.all.items ≡ true;
 }

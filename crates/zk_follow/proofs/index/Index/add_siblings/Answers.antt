@@ -1,9 +1,6 @@
 -- Who has the path of a subject of the ticket is found by that subject's place: `siblings_in`.
-use Rattle.std.proofs.Common.{◌≡◌, ◌<◌, ℕ, true, get_or, length, subst, sym}
-use Rattle.std.specs.Prelude.{All, OnOk}
-use Rattle.zk_follow.specs.declared.subject.Subject.{Subject}
-use Rattle.zk_follow.specs.Following.{is_among}
-use Rattle.zk_follow.specs.Places.{has_place, key_of}
+use Rattle.std.proofs.Common.{◌<◌, length, subst, sym}
+use Rattle.std.specs.Prelude.{All}
 use Rattle.zk_follow.proofs.Beside.{siblings_in}
 use Rattle.zk_follow.proofs.index.Index.add_siblings.Goals as goal
 

@@ -1,21 +1,12 @@
--- What is added one after the other is there, and stays there when it is put in order.
-use Rattle.std.proofs.Common.{◌<◌, ◌∙◌, ◌||◌, ap, sym, subst, arith}
-use Rattle.std.specs.Prelude.{All}
-use Rattle.zk_follow.specs.Following.{is_among}
+-- What is there stays there when it is put in order.
 use Rattle.zk_follow.proofs.index.Index.with_named.Goals as goal
 
 pub returns-clause-below : goal.returns-clause-below
-returns-clause-below g c =
-    let count = c.args.self.now.count in
-    c.put_in_order.ensures.below count
-    (c.in_ok-add_all_named.ensures.below (c.in_ok-add_below.ensures.below
-    (subst (All (λ at. at < count)) (sym c.new-all.ensures.items) (λ k d within. absurd (omega (arith, within))))))
+returns-clause-below g c = c.put_in_order.ensures.below c.args.self.now.count c.in_ok-all.ensures.below
 
 pub returns-clause-had : goal.returns-clause-had
-returns-clause-had g c = λ at fits e.
-    c.put_in_order.ensures.has at (c.in_ok-add_all_named.ensures.had at fits (c.in_ok-add_below.ensures.has at fits
-    (ap (λ items. is_among at items || is_among at c.args.places.now) c.new-all.ensures.items ∙ e)))
+returns-clause-had g c = λ at fits e. c.put_in_order.ensures.has at (c.in_ok-all.ensures.had at fits e)
 
 pub returns-clause-named : goal.returns-clause-named
 returns-clause-named g c = λ ticket path at fits its other e.
-    c.put_in_order.ensures.has at (c.in_ok-add_all_named.ensures.named ticket path at fits its other e)
+    c.put_in_order.ensures.has at (c.in_ok-all.ensures.named ticket path at fits its other e)
