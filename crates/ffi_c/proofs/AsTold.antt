@@ -1,7 +1,7 @@
--- What a session follows, use by use: what was asked for and told, and the trees that were asked for.
+-- What a session follows, use by use: what was asked for and told, the trees that were asked for, and the nodes that were told of each.
 use Rattle.std.proofs.Common.{◌≡◌, ◌∷◌, ℕ, zero, suc, ℤ, pos, negsuc, true, false, List, [], Option, Some, None}
 use Rattle.std.proofs.Common.{inl, inr, refl, sym, ap, subst, ◌∙◌, true≢false}
-use Rattle.std.specs.Prelude.{Result, Ok, Err, unsigned_abs}
+use Rattle.std.specs.Prelude.{◌<◌, ◌^◌, Result, Ok, Err, unsigned_abs}
 use Rattle.std.specs.declared.alloc.Global.{Global}
 use Rattle.zk_nodes.specs.Path.{Text}
 use Rattle.zk_nodes.specs.declared.side.Side.{Side}
@@ -21,69 +21,93 @@ use Rattle.ffi_device.specs.declared.device.Device.{Device}
 use Rattle.ffi_c.specs.Held.{ForgetsStale, Makes, Tells, TellsAll}
 use Rattle.ffi_c.specs.Lives.{Use, Opens, Resumes, Steps, Reads, ReadsAll, Forgets, Looks, Frees, Does as Uses_so}
 use Rattle.ffi_c.specs.Lives.{Used, held_after, IsLife, RefusesHappening}
-use Rattle.ffi_c.specs.Followed.{AreApart, Asks, OneHandIsApart, Plant, TellsNone, ToldForLife, followed_by, known, known_by}
-use Rattle.ffi_c.specs.Followed.{planted, planted_by, plants_in}
+use Rattle.ffi_c.specs.Followed.{AreApart, Asks, IsOneTree, Node, OneHandIsApart, Plant, PlantsOne, TellsNone, ToldForLife, followed_by}
+use Rattle.ffi_c.specs.Followed.{is_planted, known, known_by, nodes, nodes_by, nodes_of, planted, planted_by, plants_in}
 use Rattle.ffi_c.proofs.Followed.{step_sides}
 use Rattle.ffi_c.proofs.Lives.{empty_holds_none, in_held}
-use Rattle.ffi_c.proofs.Planted.{step_plants}
+use Rattle.ffi_c.proofs.NodeSteps.{none_planted, once_on, step_nodes, IsOnce, Sound}
+use Rattle.ffi_c.proofs.Nodes.{AreSound}
+use Rattle.ffi_c.proofs.Planted.{plants_at, step_plants}
 
 abbrev Sides : Type 0
 Sides = List (Side × Text)
 
 -- what is so of a session while memory has not run out within a step
-record Follows (sides : ℕ → Sides) (Apart : ℕ → Type 0) (plants : List Plant) (session : Device) : Type 0 where
+record Follows (sides : ℕ → Sides) (nodes : ℕ → List Node) (Apart OneTree : ℕ → Type 0) (plants : List Plant) (session : Device)
+    : Type 0 where
   followed : (ticket : ℕ) → Apart ticket → followed_by ticket session.agent.asker.follower.subjects.items ≡ sides ticket
   trees : plants_in session.agent.trees.all.items ≡ plants
+  nodes_are : (tree : ℕ) → tree < 2 ^ 63 → OneTree tree
+      → (nodes_of tree session.agent.trees.all.items ≡ nodes tree) × Sound tree session.agent.trees
 
 abbrev IsApart : (ticket : ℕ) → Use → (after : Option Device) → Type 0
 IsApart ticket used after = Asks ticket used true → TellsNone ticket used after
 
-abbrev FollowsIn : (sides : ℕ → Sides) (Apart : ℕ → Type 0) → List Plant → Option Device → Type 0
-FollowsIn sides Apart plants held =
-    (session : Device) → held ≡ Some session → session.is_over ≡ false → Follows sides Apart plants session
+abbrev FollowsIn : (sides : ℕ → Sides) (nodes : ℕ → List Node) (Apart OneTree : ℕ → Type 0) → List Plant → Option Device → Type 0
+FollowsIn sides nodes Apart OneTree plants held =
+    (session : Device) → held ≡ Some session → session.is_over ≡ false → Follows sides nodes Apart OneTree plants session
 
-begun : (start : Start) (Apart : ℕ → Type 0) (session : Device) → BeginsWith (view_at start []) session
-    → Follows (λ ticket. []) Apart [] session
-begun start Apart session begins = record {
+-- nothing is followed yet
+abbrev BeginsIn : (Apart OneTree : ℕ → Type 0) → Option Device → Type 0
+BeginsIn Apart OneTree held = FollowsIn (λ ticket. []) (λ tree. []) Apart OneTree [] held
+
+begun : (start : Start) (Apart OneTree : ℕ → Type 0) (session : Device) → BeginsWith (view_at start []) session
+    → Follows (λ ticket. []) (λ tree. []) Apart OneTree [] session
+begun start Apart OneTree session begins = record {
   followed = λ ticket apart. ap (followed_by ticket) begins.subjects;
   trees = ap plants_in begins.trees;
+  nodes_are = λ tree low once. (
+    ap (nodes_of tree) begins.trees,
+    record {
+      low = subst (λ n. tree < n) (sym begins.next) low;
+      sound = subst (AreSound tree session.agent.trees.next) (sym begins.trees) tt;
+    },
+  );
 }
 
-made : (Refuses : ℤ → Type 0) (start : Start) (Apart : ℕ → Type 0) (code : ℤ) (after : Option Device) → Makes Refuses start code after
-    → FollowsIn (λ ticket. []) Apart [] after
-made Refuses start Apart (pos zero) after makes session is on =
-    begun start Apart session (in_held (BeginsWith (view_at start [])) session after makes is)
-made Refuses start Apart (pos (suc n)) after makes session is on = empty_holds_none session after makes.1 is
-made Refuses start Apart (negsuc n) after makes session is on = empty_holds_none session after makes.1 is
+made : (Refuses : ℤ → Type 0) (start : Start) (Apart OneTree : ℕ → Type 0) (code : ℤ) (after : Option Device)
+    → Makes Refuses start code after → BeginsIn Apart OneTree after
+made Refuses start Apart OneTree (pos zero) after makes session is on =
+    begun start Apart OneTree session (in_held (BeginsWith (view_at start [])) session after makes is)
+made Refuses start Apart OneTree (pos (suc n)) after makes session is on = empty_holds_none session after makes.1 is
+made Refuses start Apart OneTree (negsuc n) after makes session is on = empty_holds_none session after makes.1 is
 
-resumed : (limits : FrameLimits) (timeout : ℤ) (saved : List ℕ) (code : ℤ) (before after : Option Device) (Apart : ℕ → Type 0)
+resumed : (limits : FrameLimits) (timeout : ℤ) (saved : List ℕ) (code : ℤ) (before after : Option Device) (Apart OneTree : ℕ → Type 0)
     (read : Result PutAway SavedFault) → bytes_read saved ≡ read → Uses_so before (Resumes limits timeout saved code) after
-    → FollowsIn (λ ticket. []) Apart [] after
-resumed limits timeout saved code before after Apart (Ok put) reads does session is on =
-    made (RefusesTimeout timeout) (within limits (put_start timeout put)) Apart code after (does.0 put reads) session is on
-resumed limits timeout saved code before after Apart (Err fault) reads does session is on =
+    → BeginsIn Apart OneTree after
+resumed limits timeout saved code before after Apart OneTree (Ok put) reads does session is on =
+    made (RefusesTimeout timeout) (within limits (put_start timeout put)) Apart OneTree code after (does.0 put reads) session is on
+resumed limits timeout saved code before after Apart OneTree (Err fault) reads does session is on =
     empty_holds_none session after (does.1 fault reads) is
 
-module _ (sides : ℕ → Sides) (Apart : ℕ → Type 0) (plants : List Plant) where
+-- Of the trees that were asked for one at most has such a ticket.
+module _ (sides : ℕ → Sides) (nodes : ℕ → List Node) (Apart OneTree : ℕ → Type 0) (plants : List Plant)
+    (is_once : (tree : ℕ) → OneTree tree → IsOnce tree plants) where
   abbrev Was : Device → Type 0
-  Was session = Follows sides Apart plants session
+  Was session = Follows sides nodes Apart OneTree plants session
 
   abbrev WasIn : Option Device → Type 0
-  WasIn held = FollowsIn sides Apart plants held
+  WasIn held = FollowsIn sides nodes Apart OneTree plants held
 
   -- what is so once this was used
   abbrev IsOne : Use → (after : Option Device) → Device → Type 0
-  IsOne used after session = Follows (λ ticket. known_by ticket used after (sides ticket))
-      (λ ticket. IsApart ticket used after × Apart ticket) (planted_by used plants) session
+  IsOne used after session = Follows (λ ticket. known_by ticket used after (sides ticket)) (λ tree. nodes_by tree used after (nodes tree))
+      (λ ticket. IsApart ticket used after × Apart ticket) (λ tree. PlantsOne tree used plants × OneTree tree)
+      (planted_by used plants) session
 
   abbrev IsThen : Use → (after : Option Device) → Type 0
   IsThen used after = (session : Device) → after ≡ Some session → session.is_over ≡ false → IsOne used after session
 
-  -- the same, whatever else has to be so of tickets
-  unless : (More : ℕ → Type 0) (held : Option Device) → WasIn held → FollowsIn sides (λ ticket. More ticket × Apart ticket) plants held
-  unless More held was session is on =
-      let here = was session is on in
-      record { followed = λ ticket apart. here.followed ticket apart.1; trees = here.trees }
+  -- the same after a use that changes nothing of it
+  unless : (used : Use) (held : Option Device) → WasIn held
+      → FollowsIn sides nodes (λ ticket. IsApart ticket used held × Apart ticket) (λ tree. PlantsOne tree used plants × OneTree tree)
+      plants held
+  unless used held was session is on =
+      let here = was session is on in record {
+        followed = λ ticket apart. here.followed ticket apart.1;
+        trees = here.trees;
+        nodes_are = λ tree low once. here.nodes_are tree low once.1;
+      }
 
   -- what is followed by an agent that has the same subjects and trees
   kept : (old session : Device) → session.agent.asker.follower.subjects ≡ old.agent.asker.follower.subjects
@@ -91,6 +115,8 @@ module _ (sides : ℕ → Sides) (Apart : ℕ → Type 0) (plants : List Plant) 
   kept old session subjects trees was = record {
     followed = λ ticket apart. ap (λ s. followed_by ticket s.items) subjects ∙ was.followed ticket apart;
     trees = ap (λ (t : Trees Global). plants_in t.all.items) trees ∙ was.trees;
+    nodes_are = λ tree low once.
+        subst (λ (t : Trees Global). (nodes_of tree t.all.items ≡ nodes tree) × Sound tree t) (sym trees) (was.nodes_are tree low once);
   }
 
   same_agent : (old session : Device) → session.agent ≡ old.agent → Was old → Was session
@@ -103,6 +129,11 @@ module _ (sides : ℕ → Sides) (Apart : ℕ → Type 0) (plants : List Plant) 
     followed = λ ticket apart. step_sides ticket moment what old now does apart.0
         ∙ ap (λ b. known_by ticket (Steps moment what (pos zero)) (Some now) b) (was.followed ticket apart.1);
     trees = step_plants moment what old now does ∙ ap (λ b. planted_by (Steps moment what (pos zero)) b) was.trees;
+    nodes_are = λ tree low once.
+        let here = was.nodes_are tree low once.1 in
+        let leads = step_nodes tree moment what old now does (subst (IsOnce tree) (sym was.trees) (is_once tree once.1)) here.1
+        (λ asks. none_planted tree (plants_at old.agent) (ap (is_planted tree) was.trees ∙ once.0 asks)) in
+        (sym leads.0 ∙ ap (λ b. nodes_by tree (Steps moment what (pos zero)) (Some now) b) here.0, leads.1);
   }
 
   steps : (moment : ℕ) (what : Happening) (code : ℤ) (before after : Option Device)
@@ -116,11 +147,11 @@ module _ (sides : ℕ → Sides) (Apart : ℕ → Type 0) (plants : List Plant) 
       let here = in_held (Stopped old) session after does is in
       absurd (let e : true ≡ false = sym here.over ∙ on in cc)
   steps moment what (pos (suc n)) (Some old) after was does =
-      unless (λ ticket. IsApart ticket (Steps moment what (pos (suc n))) after) after (λ session is on.
+      unless (Steps moment what (pos (suc n))) after (λ session is on.
       let same = (in_held (λ session. RefusesHappening what (pos (suc n)) × (session ≡ old)) session after does is).1 in
       subst Was (sym same) (was old refl (ap (λ (d : Device). d.is_over) (sym same) ∙ on)))
   steps moment what (negsuc (suc n)) (Some old) after was does =
-      unless (λ ticket. IsApart ticket (Steps moment what (negsuc (suc n))) after) after (λ session is on.
+      unless (Steps moment what (negsuc (suc n))) after (λ session is on.
       let same = (in_held (λ session. RefusesHappening what (negsuc (suc n)) × (session ≡ old)) session after does is).1 in
       subst Was (sym same) (was old refl (ap (λ (d : Device). d.is_over) (sym same) ∙ on)))
 
@@ -151,33 +182,54 @@ module _ (sides : ℕ → Sides) (Apart : ℕ → Type 0) (plants : List Plant) 
   one : (used : Use) (before after : Option Device) → WasIn before → Uses_so before used after → IsThen used after
   one (Opens limits timeout code) before after was does =
       made (RefusesTimeout timeout) (within limits (new_start (unsigned_abs timeout)))
-      (λ ticket. IsApart ticket (Opens limits timeout code) after × Apart ticket) code after does
+      (λ ticket. IsApart ticket (Opens limits timeout code) after × Apart ticket)
+      (λ tree. PlantsOne tree (Opens limits timeout code) plants × OneTree tree) code after does
   one (Resumes limits timeout saved code) before after was does =
       resumed limits timeout saved code before after (λ ticket. IsApart ticket (Resumes limits timeout saved code) after × Apart ticket)
-      (bytes_read saved) refl does
+      (λ tree. PlantsOne tree (Resumes limits timeout saved code) plants × OneTree tree) (bytes_read saved) refl does
   one (Steps moment what code) before after was does = steps moment what code before after was does
   one (Reads room told code) before after was does =
-      unless (λ ticket. IsApart ticket (Reads room told code) after) after (reads room told code before after was does)
+      unless (Reads room told code) after (reads room told code before after was does)
   one (ReadsAll room written count code) before after was does =
-      unless (λ ticket. IsApart ticket (ReadsAll room written count code) after) after
-      (reads_all room written count code before after was does)
-  one (Forgets code) before after was does =
-      unless (λ ticket. IsApart ticket (Forgets code) after) after (forgets code before after was does)
-  one Looks before after was does =
-      unless (λ ticket. IsApart ticket Looks after) after (λ session is on. was session (sym does ∙ is) on)
+      unless (ReadsAll room written count code) after (reads_all room written count code before after was does)
+  one (Forgets code) before after was does = unless (Forgets code) after (forgets code before after was does)
+  one Looks before after was does = unless Looks after (λ session is on. was session (sym does ∙ is) on)
   one Frees before after was does = λ session is on. empty_holds_none session after does is
 
+-- A program follows one tree at most by such a ticket.
+once_planted : (tree : ℕ) (uses : List Used) → IsOneTree tree uses → IsOnce tree (planted uses)
+once_planted tree [] once = tt
+once_planted tree (used ∷ earlier) once = by used.use_of once.0 (once_planted tree earlier once.1)
+  where
+    by : (its : Use) → PlantsOne tree its (planted earlier) → IsOnce tree (planted earlier) → IsOnce tree (planted_by its (planted earlier))
+    by (Opens limits timeout code) here once = tt
+    by (Resumes limits timeout saved code) here once = tt
+    by (Steps moment what (pos zero)) here once =
+        once_on tree what (planted earlier) once (λ asks. none_planted tree (planted earlier) (here asks))
+    by (Steps moment what (pos (suc n))) here once = once
+    by (Steps moment what (negsuc n)) here once = once
+    by (Reads room told code) here once = once
+    by (ReadsAll room written count code) here once = once
+    by (Forgets code) here once = once
+    by Looks here once = once
+    by Frees here once = once
+
 follows_in : (uses : List Used) → IsLife uses
-    → FollowsIn (λ ticket. known ticket uses) (λ ticket. AreApart ticket uses) (planted uses) (held_after uses)
+    → FollowsIn (λ ticket. known ticket uses) (λ tree. nodes tree uses) (λ ticket. AreApart ticket uses) (λ tree. IsOneTree tree uses)
+    (planted uses) (held_after uses)
 follows_in [] lived session is on = absurd (let e : None ≡ Some session = is in cc)
 follows_in (used ∷ earlier) lived session is on =
-    one (λ ticket. known ticket earlier) (λ ticket. AreApart ticket earlier) (planted earlier) used.use_of (held_after earlier) used.held
+    one (λ ticket. known ticket earlier) (λ tree. nodes tree earlier) (λ ticket. AreApart ticket earlier) (λ tree. IsOneTree tree earlier)
+    (planted earlier) (λ tree is_one. once_planted tree earlier is_one) used.use_of (held_after earlier) used.held
     (follows_in earlier lived.1) lived.0 session is on
 
 pub told_for_life : ToldForLife
 told_for_life uses session lived is on =
-    let follows = follows_in uses lived session is on in
-    record { followed = follows.followed; trees = follows.trees }
+    let follows = follows_in uses lived session is on in record {
+      followed = follows.followed;
+      trees = follows.trees;
+      nodes_are = λ tree low once. (follows.nodes_are tree low once).0;
+    }
 
 pub one_hand_is_apart : OneHandIsApart
 one_hand_is_apart ticket [] one = tt

@@ -80,7 +80,7 @@ module _ {A : Type 0} where
   tends_each [] (after ∷ afters) old new none = absurd none
   tends_each (tree ∷ trees) [] old new none = absurd none
 
-  tends : (is_rest : Bool) (now : ℕ) (was is : Trees A) (old new : Footing A) → TendsWhere is_rest now was is old new
+  pub tends : (is_rest : Bool) (now : ℕ) (was is : Trees A) (old new : Footing A) → TendsWhere is_rest now was is old new
       → plants_in is.all.items ≡ plants_in was.all.items
   tends true now was is old new same = ap plants_in same.0
   tends false now was is old new tended = tends_each was.all.items is.all.items old new tended.1
@@ -146,7 +146,7 @@ module _ {A : Type 0} where
   abbrev pub plants_at : Agent A → List Plant
   plants_at agent = plants_in agent.trees.all.items
 
-  goes_on : (now : ℕ) (given : AgentInput A) (old new : Agent A) (said : List (Action A)) → GoesOn now given old new said
+  pub goes_on : (now : ℕ) (given : AgentInput A) (old new : Agent A) (said : List (Action A)) → GoesOn now given old new said
       → plants_at new ≡ planted_of (happening given) (plants_at old)
   goes_on now given old new said g =
       ap plants_in g.noted ∙ notes_all said g.trees.all.items
@@ -154,7 +154,7 @@ module _ {A : Type 0} where
       ∙ ap (planted_of (happening given))
       (tends (are_at_rest now old.trees) now old.trees g.grows.between _ g.grows.tended g.grows.tends)
 
-own_plants : (what : Happening) → IsOwn what → (before : List Plant) → planted_of what before ≡ before
+pub own_plants : (what : Happening) → IsOwn what → (before : List Plant) → planted_of what before ≡ before
 own_plants (happens.FollowsTree ticket root most) own before = absurd own
 own_plants (happens.UnfollowsTree ticket) own before = absurd own
 own_plants _ own before = refl

@@ -1,13 +1,15 @@
 -- What a session follows, by its tickets and in its trees: what was asked for and told, use by use.
-use Rattle.std.specs.Prelude.{◌≡◌, ◌⊎◌, ◌==◌, ◌++◌, ◌∷◌, ⊤, ℕ, zero, pos, Bool, true, false, List, []}
+use Rattle.std.specs.Prelude.{◌≡◌, ◌⊎◌, ◌==◌, ◌<◌, ◌^◌, ◌++◌, ◌∷◌, ⊤, ℕ, zero, pos, Bool, true, false, not, List, []}
 use Rattle.std.specs.Prelude.{map, fold, Option, Some, if◌then◌else◌}
-use Rattle.std.specs.List.{filter, AllByRecursion}
+use Rattle.std.specs.List.{filter, flat_map, list_any, AllByRecursion}
 use Rattle.zk_nodes.specs.Path.{Text}
 use Rattle.zk_nodes.specs.declared.side.Side.{Side}
 use Rattle.zk_follow.specs.declared.subject.Subject.{Subject}
 use Rattle.zk_trees.specs.Tending.{TreeTold, TakesOn, LetsGo}
+use Rattle.zk_trees.specs.Trees.{aim_of}
+use Rattle.zk_trees.specs.declared.member.Member.{Member}
 use Rattle.zk_trees.specs.declared.tree.Tree.{Tree}
-use Rattle.zk_agent.specs.Telling.{Told, TellsTree, told_by}
+use Rattle.zk_agent.specs.Telling.{told_by, trees_in}
 use Rattle.ffi_device.specs.Happenings as happens
 use Rattle.ffi_device.specs.Happenings.{Happening}
 use Rattle.ffi_device.specs.declared.device.Device.{Device}
@@ -18,12 +20,6 @@ use Rattle.ffi_c.specs.Lives.{IsLife, Opens, Resumes, Steps, Use, Used, held_aft
 -- the sides of paths that are followed by this ticket, in the order in which that began
 abbrev pub followed_by : {A : Type 0} → (ticket : ℕ) → List (Subject A) → List (Side × Text)
 followed_by ticket subjects = map (λ subject. (subject.side, subject.path)) (filter (λ subject. subject.ticket == ticket) subjects)
-
--- what is told of trees
-abbrev pub trees_in : List Told → List TreeTold
-trees_in [] = []
-trees_in (TellsTree one ∷ told) = one ∷ trees_in told
-trees_in (_ ∷ told) = trees_in told
 
 -- What is followed by a ticket, by what was told of trees: a side of a node is taken on by it, or let go.
 abbrev pub told_of : (ticket : ℕ) → List (Side × Text) → TreeTold → List (Side × Text)
@@ -114,14 +110,74 @@ abbrev pub planted : List Used → List Plant
 planted [] = []
 planted (used ∷ earlier) = planted_by used.use_of (planted earlier)
 
+-- ---- the nodes of a tree
+
+-- a side of a node that is followed for a tree, with its ticket
+pub record Node : Type 0 where
+  pub ticket : ℕ
+  pub aim : Side × Text
+
+abbrev pub nodes_in : {A : Type 0} → List (Member A ⊤) → List Node
+nodes_in members = map (λ one. record { ticket = one.ticket; aim = aim_of one.subject }) members
+
+-- those that are followed for the trees of this ticket, in the order in which that began
+abbrev pub nodes_of : {A : Type 0} → (tree : ℕ) → List (Tree A) → List Node
+nodes_of tree trees = flat_map (λ one. if one.ticket == tree then nodes_in one.members.items else []) trees
+
+-- the nodes without those of a ticket
+abbrev pub without : (ticket : ℕ) → List Node → List Node
+without ticket nodes = filter (λ node. not (node.ticket == ticket)) nodes
+
+-- What is told of a tree: a side of a node is followed for it by a ticket, or what a ticket follows for it is followed no more.
+abbrev pub nodes_told : (tree : ℕ) → List Node → TreeTold → List Node
+nodes_told tree before (TakesOn its ticket side path) =
+    if its == tree then before ++ record { ticket = ticket; aim = (side, path) } ∷ [] else before
+nodes_told tree before (LetsGo its ticket) = if its == tree then without ticket before else before
+nodes_told tree before _ = before
+
+abbrev pub nodes_by : (tree : ℕ) → Use → (after : Option Device) → List Node → List Node
+nodes_by tree (Opens limits timeout code) after before = []
+nodes_by tree (Resumes limits timeout saved code) after before = []
+nodes_by tree (Steps moment what (pos zero)) (Some session) before =
+    fold (nodes_told tree) before (trees_in (told_by session.said.items))
+nodes_by tree used after before = before
+
+-- By what was told since the handle was opened, this is followed for the tree of a ticket.
+abbrev pub nodes : (tree : ℕ) → List Used → List Node
+nodes tree [] = []
+nodes tree (used ∷ earlier) = nodes_by tree used.use_of used.held (nodes tree earlier)
+
+-- ---- one tree of a ticket
+
+-- whether a tree of this ticket was asked for
+abbrev pub is_planted : (ticket : ℕ) → List Plant → Bool
+is_planted ticket plants = list_any (λ plant. plant.ticket == ticket) plants
+
+-- whether a tree is asked for by this ticket
+abbrev pub asks_tree : (ticket : ℕ) → Happening → Bool
+asks_tree ticket (happens.FollowsTree its root most) = its == ticket
+asks_tree ticket _ = false
+
+-- A program asks for no tree by this ticket while it follows one by it.
+abbrev pub PlantsOne : (ticket : ℕ) → Use → List Plant → Type 0
+PlantsOne ticket (Steps moment what (pos zero)) before = asks_tree ticket what ≡ true → is_planted ticket before ≡ false
+PlantsOne ticket used before = ⊤
+
+-- So it is in each step.
+abbrev pub IsOneTree : (ticket : ℕ) → List Used → Type 0
+IsOneTree ticket [] = ⊤
+IsOneTree ticket (used ∷ earlier) = PlantsOne ticket used.use_of (planted earlier) × IsOneTree ticket earlier
+
 -- ---- the law
 
 -- By each ticket a session follows what was asked for and told, and nothing else, unless it is used for a tree and by the program in one
--- step; and it has the trees that were asked for.
+-- step; and it has the trees that were asked for. For the tree of a ticket it follows those sides of nodes that were told, by the tickets
+-- that were told, and no other, if that ticket is below 2^63, where those of nodes begin, and no two trees have it at once.
 pub record IsAsTold (uses : List Used) (session : Device) : Type 0 where
   pub followed : (ticket : ℕ) → AreApart ticket uses
       → followed_by ticket session.agent.asker.follower.subjects.items ≡ known ticket uses
   pub trees : plants_in session.agent.trees.all.items ≡ planted uses
+  pub nodes_are : (tree : ℕ) → tree < 2 ^ 63 → IsOneTree tree uses → nodes_of tree session.agent.trees.all.items ≡ nodes tree uses
 
 -- THE law of what a session follows: whoever made it by these functions alone, whatever they answered, and has one within whose steps
 -- memory never ran out, has one that follows what was told.

@@ -1,7 +1,7 @@
 -- What the client of a session's handle has come through, use by use, and what was told of it meanwhile.
 use Rattle.std.specs.Prelude.{◌≡◌, ◌⊎◌, ◌+◌, ◌==◌, ◌||◌, ◌<◌, ℕ, zero, ℤ, pos, negsuc, Bool, true, false, List, [], ◌∷◌, ◌++◌, fold, max}
-use Rattle.std.specs.Prelude.{⊤, Option, Some, Ok, unsigned_abs, if◌then◌else◌}
-use Rattle.std.specs.List.{filter, list_any, AllByRecursion, FoldsTo}
+use Rattle.std.specs.Prelude.{◌≤◌, ◌^◌, ⊤, Option, Some, Ok, unsigned_abs, if◌then◌else◌}
+use Rattle.std.specs.List.{count_by, filter, list_any, AllByRecursion, FoldsTo}
 use Rattle.std.specs.declared.alloc.Global.{Global}
 use Rattle.zk_nodes.specs.History.{History}
 use Rattle.zk_nodes.specs.Path.{Text, path_of}
@@ -33,8 +33,8 @@ use Rattle.zk_agent.specs.declared.input.AgentInput.{AgentInput}
 use Rattle.zk_agent.specs.Agents.{Advance, ByRenewal, ByTurn, Hands, Hears, IsAt, Move, Renews, Tires, how_many_ended, is_given, moves_of}
 use Rattle.zk_agent.specs.Calls.{how_many}
 use Rattle.zk_agent.specs.Replies.{is_lost}
-use Rattle.zk_agent.specs.Telling.{Told, Says, Begins, TellsTree, told_by}
-use Rattle.zk_trees.specs.Tending.{TakesOn}
+use Rattle.zk_agent.specs.Telling.{Told, Says, Begins, TellsTree, told_by, trees_in}
+use Rattle.zk_trees.specs.Tending.{TreeTold, TakesOn}
 use Rattle.ffi_device.specs.Sessions.{put_start}
 use Rattle.ffi_device.specs.Happenings as happens
 use Rattle.ffi_device.specs.Happenings.{Happening, given_of, happening, is_contend}
@@ -235,6 +235,42 @@ IsBelow used after = ⊤
 
 abbrev pub AreBelow : List Used → Type 0
 AreBelow uses = AllByRecursion (λ used. IsBelow used.use_of used.held) uses
+
+-- ---- the same by a count
+
+-- The tickets with which a program calls, follows, and follows trees are below those of the calls that contenders ask.
+abbrev pub KeepsBelow : Happening → Type 0
+KeepsBelow (happens.FollowsTree ticket root most) = ticket < first_own
+KeepsBelow what = AsksBelow what
+
+abbrev pub IsKeptBelow : Use → Type 0
+IsKeptBelow (Steps moment what (pos zero)) = KeepsBelow what
+IsKeptBelow used = ⊤
+
+abbrev pub AreKeptBelow : List Used → Type 0
+AreKeptBelow uses = AllByRecursion (λ used. IsKeptBelow used.use_of) uses
+
+-- how many sides of nodes are taken on, by what is told of trees
+abbrev pub is_taken : TreeTold → Bool
+is_taken (TakesOn tree ticket side path) = true
+is_taken told = false
+
+abbrev pub taken : List TreeTold → ℕ
+taken told = count_by is_taken told
+
+abbrev pub taken_by : Use → (after : Option Device) → ℕ → ℕ
+taken_by (Steps moment what (pos zero)) (Some session) before = taken (trees_in (told_by session.said.items)) + before
+taken_by used after before = before
+
+-- by all that was told, of whichever session of the handle
+abbrev pub all_taken : List Used → ℕ
+all_taken [] = 0
+all_taken (used ∷ earlier) = taken_by used.use_of used.held (all_taken earlier)
+
+-- THE law of tickets by a count: if those of the program are below, and it was told of at most 2^62 sides of nodes that are taken on, all
+-- are below.
+abbrev pub BelowByCount : Type 0
+BelowByCount = (uses : List Used) → IsLife uses → AreKeptBelow uses → all_taken uses ≤ 2 ^ 62 → AreBelow uses
 
 -- ---- the law
 

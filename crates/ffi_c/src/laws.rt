@@ -1,7 +1,7 @@
 //! What follows for a whole life of a handle, over definitions alone.
 
 ghost use Rattle.ffi_c.specs.Lives.{SameForLife, SoundForLife};
-ghost use Rattle.ffi_c.specs.Pasts.{CoherentForLife, HeldForLife};
+ghost use Rattle.ffi_c.specs.Pasts.{BelowByCount, CoherentForLife, HeldForLife};
 ghost use Rattle.ffi_c.specs.Followed.{OneHandIsApart, ToldForLife};
 
 /// Whoever was told the same number twice by `dw_session_revision`, below the last one, of a handle that was not opened, resumed or freed
@@ -38,12 +38,20 @@ pub fn held_for_life()
     ensures { HeldForLife }
 {}
 
+/// Whoever used such a handle so, with tickets below 3 * 2^62 for calls, subjects and trees, and was told of at most 2^62 sides of nodes
+/// that are followed for trees, meets what `coherent_for_life` and `held_for_life` ask of tickets. Those of nodes run from 2^63 in each
+/// session, one for each side: nobody has to look at them.
+pub fn below_by_count()
+    ensures { BelowByCount }
+{}
+
 /// Whoever took a session's handle of zeros, used it by the functions of this library alone, one after the other and whatever they
 /// answered, and has a session in it within whose steps memory never ran out, has one that follows by each ticket what was told: what
 /// the program follows by it, and what of a tree was told to be taken on by it, and not let go since; nothing else, in this order
 /// (`told`). That is so of a ticket by which in no step both happen, as of one that a program uses for its subjects alone, or for trees
-/// alone (`apart`). And the session has the trees that were asked for, with their roots and bounds, and no other. By `sound_for_life`
-/// each of these is kept good, or is being read, or why not.
+/// alone (`apart`). And the session has the trees that were asked for, with their roots and bounds, and no other; for each it follows
+/// those sides of nodes that were told for its ticket, by the tickets that were told, and no other, if its ticket is below 2^63 and no
+/// other tree has it at once. By `sound_for_life` each of these is kept good, or is being read, or why not.
 pub fn told_for_life()
     ensures told { ToldForLife }
     ensures apart { OneHandIsApart }

@@ -16,6 +16,7 @@ use Rattle.zk_agent.specs.Agents.{Advance, ByTurn, ByRenewal, Advances, BreaksOf
 use Rattle.zk_agent.specs.Agents.{Asks, GivesUp, Tires, Opened, Ended, HungUp, Addressed, Decides, Closes, Tends, Presents, Does, Comes}
 use Rattle.zk_agent.specs.Agents.{HearsSo}
 use Rattle.zk_agent.specs.Agents.{LeavesWhere}
+use Rattle.zk_agent.specs.inner.Agents.{Acts}
 use Rattle.zk_agent.proofs.Moves.{stays_by}
 
 -- how a client went on
@@ -119,6 +120,10 @@ pub after_comes : {A : Type 0} (now : ℕ) (given : List Move) (old between : Tr
 after_comes now given old between new comes broke =
     after_went old.timeout old.view between.view new (went_through comes.moves old between comes.does)
     (subst (λ timeout. BreaksOff timeout between.view new) comes.timeout broke)
+
+pub after_acts : {A : Type 0} (now : ℕ) (given : List Move) (old between : Trail A) (new : View) → Acts now given old between
+    → BreaksOff between.timeout between.view new → BreaksOff old.timeout old.view new
+after_acts now given old between new acts broke = after_comes now given old between new acts.comes broke
 
 pub after_hears : {A : Type 0} (now : ℕ) (input : Input) (old between : Trail A) (new : View) → HearsSo now input old between
     → BreaksOff between.timeout between.view new → BreaksOff old.timeout old.view new

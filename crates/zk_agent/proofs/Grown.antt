@@ -13,7 +13,7 @@ use Rattle.zk_agent.specs.declared.action.Action.{Action}
 use Rattle.zk_agent.specs.declared.agent.Agent.{Agent}
 use Rattle.zk_agent.specs.declared.asker.Asker.{Asker}
 use Rattle.zk_agent.specs.declared.input.AgentInput.{AgentInput}
-use Rattle.zk_agent.proofs.Moves.{after, tended, trail_eq}
+use Rattle.zk_agent.proofs.Moves.{comes_after, tended, trail_eq}
 
 module _ {A : Type 0} (agent : Agent A) (first last : Asker A) (before altered : List (TreeNews A)) (old between new : List (Action A))
     (client : first.follower.client ≡ agent.asker.follower.client) (last_client : last.follower.client ≡ first.follower.client)
@@ -57,7 +57,7 @@ module _ {A : Type 0} (agent : Agent A) (first last : Asker A) (before altered :
       → last.follower.subjects.items ≡ shifted_by (trees_told altered) first.follower.subjects.items
       → told_by new ≡ told_by between ++ map TellsTree (trees_told altered) → Comes now [] here there
   grown now shifts last_shifts more =
-      after now [] [] here middle there
+      comes_after now [] [] here middle there
       (tended now (trees_told before) here middle
       (trail_eq _ middle (ap (λ c. view_of c) client) shifts (ap (λ (l : Line A). l.entries.items) line) refl refl refl tells))
       (tended now (trees_told altered) middle there

@@ -13,8 +13,8 @@ use Rattle.zk_follow.specs.Following.{AreFollowed}
 use Rattle.zk_calls.specs.declared.entry.Entry.{Entry}
 use Rattle.zk_calls.specs.Lines.{first_handed, next_call}
 use Rattle.zk_agent.specs.declared.replies.Heard.{Heard}
-use Rattle.zk_agent.specs.Agents.{Comes, Hands, LetsGo, Trail, is_connected, noted, row_after}
-use Rattle.zk_agent.specs.inner.Agents.{HandsOver, Sends}
+use Rattle.zk_agent.specs.Agents.{Hands, LetsGo, Trail, is_connected, noted, row_after}
+use Rattle.zk_agent.specs.inner.Agents.{Acts, HandsOver, Sends}
 use Rattle.zk_agent.specs.inner.Calls.{IsAsked, IsDone}
 use Rattle.zk_agent.specs.Calls.{IsInTime}
 use Rattle.zk_agent.specs.Overlong.{with_too_long}
@@ -41,7 +41,7 @@ hands_asked now view subjects line told after new_subjects new_line new_told (So
 -- nothing happens
 pub sends_nothing : {A : Type 0} (now : ℕ) (old new : Trail A) → new ≡ old → IsDone new.view new.line → Sends now old new false
 sends_nothing {A} now old new same done = record {
-  comes = subst (λ (t : Trail A). Comes now [] old t) (sym same) (nothing now old);
+  acts = subst (λ (t : Trail A). Acts now [] old t) (sym same) (nothing now old);
   limits = subst (λ (t : Trail A). All (IsInTime now) old.line → All (IsInTime now) t.line) (sym same) (λ all. all);
   ends = λ state final is. sym (ap (λ (t : Trail A). t.view.standing.state) same) ∙ is;
   more = λ e. absurd cc;
@@ -90,7 +90,7 @@ sends_one {A} now old between new heard connected followed hands same_view same_
     let says : heard.goes_back ≡ list_any is_back takes.given = ap (λ (h : Heard). h.goes_back) takes.heard in
     let line = same_line ∙ takes.line in
     record {
-      comes = one now (Hands now hands.0 hands.1) old new refl refl
+      acts = one now (Hands now hands.0 hands.1) old new refl refl refl
           (taken_by now input old new between (first_handed old.line) heard
           (connected, hands.2, followed) refl takes same_view same_subjects same_line same_timeout goes waits);
       limits = still_in_time now old.line new.line (with_too_long (first_handed old.line) takes.given) line;

@@ -28,6 +28,7 @@ use Rattle.zk_agent.specs.declared.frames.Frames.{Frames}
 use Rattle.zk_agent.specs.declared.input.AgentInput.{AgentInput}
 use Rattle.zk_agent.specs.declared.input.AgentInput.TheVariants as happens
 use Rattle.zk_agent.specs.Agents.{moves_of, noted, papers_in, trail_of, Comes, Hears, IsDecided, Presents, TakesSo, Trail}
+use Rattle.zk_agent.specs.inner.Agents.{Acts}
 use Rattle.zk_agent.specs.Calls.{IsInTime}
 use Rattle.zk_agent.specs.Credentials.{all_written, before_bytes, judging_of, papers_of, unwritten, with_judging, Judging, Papers}
 use Rattle.zk_agent.specs.Replies.{heard_in}
@@ -61,7 +62,7 @@ none_waits now waited =
 pub idles : {A : Type 0} (now : ℕ) (old new : Trail A)
     → TakesSo now (turns.Now now) old.view old.subjects old.line old.told new.view new.subjects new.line old.told (heard_in [])
     → new.dialler ≡ noted new.view.saved.session.timeout now new.view.standing.state old.dialler → new.timeout ≡ old.timeout
-    → new.waits ≡ old.waits → new.told ≡ old.told → Comes now (Hears now (turns.Now now) ∷ []) old new
+    → new.waits ≡ old.waits → new.told ≡ old.told → Acts now (Hears now (turns.Now now) ∷ []) old new
 idles now old new takes dialler timeout waits told =
     hears_and now (turns.Now now) old new false (record {
       may = tt;
@@ -108,12 +109,12 @@ module _ {A : Type 0} (agent : Agent A) where
   -- ---- a step
 
   idle_comes : (now : ℕ) (new : Agent A) → is_open new.dialler.phase ≡ true → papers.written ≡ length papers.frames
-      → Comes now (Hears now (turns.Now now) ∷ []) (trail_of agent []) (trail_of new [])
+      → Acts now (Hears now (turns.Now now) ∷ []) (trail_of agent []) (trail_of new [])
       → Comes now (moves_of (is_open new.dialler.phase) now happens.Moment agent) (trail_of agent []) (trail_of new [])
-  idle_comes now new is_there written comes =
+  idle_comes now new is_there written acts =
       subst (λ ms. Comes now ms (trail_of agent []) (trail_of new [])) (sym (idle_moves now (is_open new.dialler.phase) is_there written))
-      (after now (Hears now (turns.Now now) ∷ []) (Presents [] [] ∷ []) (trail_of agent []) (trail_of new []) (trail_of new []) comes
-      (gives now (Presents [] []) (trail_of new []) (trail_of new []) refl tt refl))
+      (after now (Hears now (turns.Now now) ∷ []) (Presents [] [] ∷ []) (trail_of agent []) (trail_of new []) (trail_of new []) acts
+      (gives now (Presents [] []) (trail_of new []) (trail_of new []) refl refl tt refl)).comes
 
   abbrev footing : Footing A
   footing = record {
@@ -139,6 +140,7 @@ module _ {A : Type 0} (agent : Agent A) where
       last = refl;
     };
     rest = comes;
+    told = refl;
     noted = ap (λ (t : Trees A). t.all.items) same;
     next = ap (λ (t : Trees A). t.next) same;
     due = ap (λ (t : Trees A). t.due) same;
@@ -175,19 +177,19 @@ idle_decided now new is_there = record {
 module _ {A : Type 0} (now : ℕ) (input : AgentInput A) (agent new : Agent A) (said : List (Action A)) (moment : input ≡ happens.Moment)
     (silent : said ≡ []) (is_there : is_open new.dialler.phase ≡ true)
     (written : (papers_of agent.credentials).written ≡ length (papers_of agent.credentials).frames) where
-  pub comes_idle : Comes now (Hears now (turns.Now now) ∷ []) (trail_of agent []) (trail_of new [])
+  pub comes_idle : Acts now (Hears now (turns.Now now) ∷ []) (trail_of agent []) (trail_of new [])
       → Comes now (moves_of (is_open new.dialler.phase) now input agent) (trail_of agent []) (trail_of new said)
-  comes_idle comes =
+  comes_idle acts =
       subst (λ l. Comes now (moves_of (is_open new.dialler.phase) now input agent) (trail_of agent []) (trail_of new l)) (sym silent)
       (subst (λ i. Comes now (moves_of (is_open new.dialler.phase) now i agent) (trail_of agent []) (trail_of new [])) (sym moment)
-      (idle_comes agent now new is_there written comes))
+      (idle_comes agent now new is_there written acts))
 
   pub trees_idle : are_at_rest now agent.trees ≡ true → new.trees ≡ agent.trees
-      → Comes now (Hears now (turns.Now now) ∷ []) (trail_of agent []) (trail_of new []) → GoesOn now input agent new said
-  trees_idle rest same comes =
+      → Acts now (Hears now (turns.Now now) ∷ []) (trail_of agent []) (trail_of new []) → GoesOn now input agent new said
+  trees_idle rest same acts =
       subst (GoesOn now input agent new) (sym silent)
       (subst (λ i. GoesOn now i agent new []) (sym moment)
-      (idle_trees agent now new rest same (idle_comes agent now new is_there written comes)))
+      (idle_trees agent now new rest same (idle_comes agent now new is_there written acts)))
 
   pub papers_idle : new.credentials ≡ agent.credentials
       → papers_of new.credentials ≡ all_written (is_open new.dialler.phase) (papers_in input agent)

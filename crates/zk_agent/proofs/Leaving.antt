@@ -19,7 +19,7 @@ use Rattle.zk_agent.proofs.Turning.{cut_away}
 pub not_tired : {A : Type 0} (now : ℕ) (here : Trail A) → has_come now (ends_of here) ≡ false → Tired now here here
 not_tired now here in_time =
     record {
-      comes = nothing now here;
+      acts = nothing now here;
       limits = λ all. all;
       ends = λ state final is. is;
       done = λ done. done;
@@ -38,7 +38,7 @@ left_late {A} now old between after new late ends hangs hears last =
     let was_line : between.line ≡ old.line = ap (λ (t : Trail A). t.line) hangs in
     let was_view : between.view ≡ old.view = ap (λ (t : Trail A). t.view) hangs in
     record {
-      comes = one now (Tires now) old new refl refl
+      acts = one now (Tires now) old new refl refl refl
           (record { late = late; between = between; ends = ends; hangs = hangs; after = after; hears = hears; last = last });
       limits = λ all.
           heard_still now between.line new.line (with_too_long between.line takes.given) (line ∙ takes.line)

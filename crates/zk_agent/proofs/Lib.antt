@@ -15,4 +15,5 @@ pub mod Passing
 mod Resting
 pub mod Saying
 mod Spelled
+pub mod Tended
 pub mod Turning

@@ -5,6 +5,7 @@ use Rattle.std.specs.Prelude.{Result, Ok, Err, OnOk, All, is_some}
 use Rattle.std.specs.List.{filter, list_any, AllByRecursion, FoldsTo}
 use Rattle.std.specs.List.Sorted.{IsPermutation}
 use Rattle.std.proofs.lemmas.List.{append_assoc, append-nil}
+use Rattle.std.proofs.lemmas.Grind.{flat_map-append}
 use Rattle.zk_trees.specs.Tending.{shifted, shifted_by, TreeTold}
 use Rattle.std.proofs.lemmas.List.Elements.{All-map, filter-append}
 use Rattle.zk_session.specs.declared.states.State.{State}
@@ -36,7 +37,7 @@ use Rattle.zk_agent.specs.declared.replies.Heard.{Heard}
 use Rattle.zk_agent.specs.Agents.{Trail, Move, Hears, Hands, Renews, Follows, Unfollows, Asks, GivesUp, Tires, Opened, Ended, HungUp}
 use Rattle.zk_agent.specs.Agents.{Closes, Addressed, Decides, Tends, Presents, Does, IsAt, IsLed, IsShut, Comes, HearsSo, LeavesWhere}
 use Rattle.zk_agent.specs.Agents.{leaves_with, moves_with, AddressesSo, MayHear}
-use Rattle.zk_agent.specs.inner.Agents.{MayTake}
+use Rattle.zk_agent.specs.inner.Agents.{tended_in, tends_of, Acts, MayTake}
 use Rattle.zk_agent.specs.Agents.{LetsGo, LetsGoWhere, TakesSo, given_of, is_connected, is_given, moves_of, noted, opened_at}
 use Rattle.zk_agent.specs.Agents.{over_at, row_after}
 use Rattle.zk_agent.specs.Credentials.{judging_of, papers_of, unwritten, with_credential, with_judging, Judging, Papers}
@@ -257,27 +258,44 @@ come now given moves old new does comes at =
     }
 
 -- nothing came
-pub nothing : {A : Type 0} (now : ℕ) (here : Trail A) → Comes now [] here here
-nothing now here = come now [] [] here here refl refl tt
+pub nothing : {A : Type 0} (now : ℕ) (here : Trail A) → Acts now [] here here
+unfolding come
+nothing now here = record { comes = come now [] [] here here refl refl tt; untended = refl }
 
--- a move of its own, and one that comes from outside
+-- a move of its own, and one that comes from outside, of which neither tends a tree
 pub one : {A : Type 0} (now : ℕ) (move : Move) (old new : Trail A)
-    → is_given move ≡ false → IsAt now move → Does old move new → Comes now [] old new
-one now move old new own at does = come now [] (move ∷ []) old new (new, does, refl) (ap (λ b. cond b (move ∷ []) []) own) (at, tt)
+    → is_given move ≡ false → tends_of move ≡ [] → IsAt now move → Does old move new → Acts now [] old new
+unfolding come
+one now move old new own none at does = record {
+  comes = come now [] (move ∷ []) old new (new, does, refl) (ap (λ b. cond b (move ∷ []) []) own) (at, tt);
+  untended = ap (λ t. t ++ []) none;
+}
 
 pub gives : {A : Type 0} (now : ℕ) (move : Move) (old new : Trail A)
-    → is_given move ≡ true → IsAt now move → Does old move new → Comes now (move ∷ []) old new
-gives now move old new given at does =
-    come now (move ∷ []) (move ∷ []) old new (new, does, refl) (ap (λ b. cond b (move ∷ []) []) given) (at, tt)
+    → is_given move ≡ true → tends_of move ≡ [] → IsAt now move → Does old move new → Acts now (move ∷ []) old new
+unfolding come
+gives now move old new given none at does = record {
+  comes = come now (move ∷ []) (move ∷ []) old new (new, does, refl) (ap (λ b. cond b (move ∷ []) []) given) (at, tt);
+  untended = ap (λ t. t ++ []) none;
+}
 
 -- what comes first, and what comes after it
-pub after : {A : Type 0} (now : ℕ) (given more : List Move) (old between new : Trail A)
+pub comes_after : {A : Type 0} (now : ℕ) (given more : List Move) (old between new : Trail A)
     → Comes now given old between → Comes now more between new → Comes now (given ++ more) old new
-after now given more old between new first rest =
+comes_after now given more old between new first rest =
     come now (given ++ more) (first.moves ++ rest.moves) old new (does_on first.moves rest.moves old between new first.does rest.does)
     (filter-append is_given first.moves rest.moves ∙ ap (λ ms. ms ++ filter is_given rest.moves) first.comes
     ∙ ap (λ ms. given ++ ms) rest.comes)
     (at_on now first.moves rest.moves first.at rest.at)
+
+pub after : {A : Type 0} (now : ℕ) (given more : List Move) (old between new : Trail A)
+    → Acts now given old between → Acts now more between new → Acts now (given ++ more) old new
+unfolding comes_after come
+after now given more old between new first rest = record {
+  comes = comes_after now given more old between new first.comes rest.comes;
+  untended = flat_map-append tends_of first.comes.moves rest.comes.moves ∙ ap (λ t. t ++ tended_in rest.comes.moves) first.untended
+      ∙ rest.untended;
+}
 
 -- news of trees, and the subjects that come and go with them
 abbrev told_and : {A : Type 0} → List TreeTold → Trail A → Trail A
@@ -285,30 +303,30 @@ told_and told trail = record trail { subjects = shifted_by told trail.subjects; 
 
 pub tended : {A : Type 0} (now : ℕ) (told : List TreeTold) (old new : Trail A) → new ≡ told_and told old → Comes now [] old new
 tended {A} now [] old new is =
-    subst (Comes now [] old) (sym (is ∙ ap (λ l. record old { told = l }) (append-nil old.told))) (nothing now old)
+    subst (Comes now [] old) (sym (is ∙ ap (λ l. record old { told = l }) (append-nil old.told))) (nothing now old).comes
 tended {A} now (first ∷ told) old new is =
     let between : Trail A = record old { subjects = shifted first old.subjects; told = old.told ++ TellsTree first ∷ [] } in
-    after now [] [] old between new (one now (Tends first) old between refl tt refl)
+    comes_after now [] [] old between new (come now [] (Tends first ∷ []) old between (between, refl, refl) refl (tt, tt))
     (tended now told between new (is ∙ ap (λ l. record between { subjects = shifted_by told between.subjects; told = l })
     (sym (append_assoc old.told (TellsTree first ∷ []) (map TellsTree told)))))
 
 -- what comes after it is of its own
 pub then_none : {A : Type 0} (now : ℕ) (given : List Move) (old between new : Trail A)
-    → Comes now given old between → Comes now [] between new → Comes now given old new
+    → Acts now given old between → Acts now [] between new → Acts now given old new
 then_none now given old between new first rest =
-    subst (λ ms. Comes now ms old new) (append-nil given) (after now given [] old between new first rest)
+    subst (λ ms. Acts now ms old new) (append-nil given) (after now given [] old between new first rest)
 
 pub ok_after : {A X E : Type 0} (result : Result X E) (now : ℕ) (given more : List Move) (old between new : Trail A)
-    → Comes now given old between → OnOk result (Comes now more between new)
-    → OnOk result (Comes now (given ++ more) old new)
+    → Acts now given old between → OnOk result (Acts now more between new)
+    → OnOk result (Acts now (given ++ more) old new)
 ok_after (Ok x) now given more old between new first rest = after now given more old between new first rest
 ok_after (Err e) now given more old between new first rest = tt
 
 -- six parts, of which the first and the last alone are given
 pub in_turn : {A : Type 0} (now : ℕ) (given more : List Move) (first second third fourth fifth sixth last : Trail A)
-    → Comes now given first second → Comes now [] second third
-    → Comes now [] third fourth → Comes now [] fourth fifth → Comes now [] fifth sixth → Comes now more sixth last
-    → Comes now (given ++ more) first last
+    → Acts now given first second → Acts now [] second third
+    → Acts now [] third fourth → Acts now [] fourth fifth → Acts now [] fifth sixth → Acts now more sixth last
+    → Acts now (given ++ more) first last
 in_turn now given more first second third fourth fifth sixth last a b c d e f =
     after now given more first sixth last
     (then_none now given first fifth sixth (then_none now given first fourth fifth
@@ -318,9 +336,9 @@ in_turn now given more first second third fourth fifth sixth last a b c d e f =
 pub presented : {A X E : Type 0} (result : Result X E) (now : ℕ) (judged : List (ℕ × ℤ)) (frames : List (List ℕ))
     (old between new : Trail A)
     → between ≡ record old { told = (old.told ++ map judged_told judged) ++ map Introduces frames }
-    → OnOk result (Comes now [] between new) → OnOk result (Comes now (Presents judged frames ∷ []) old new)
+    → OnOk result (Acts now [] between new) → OnOk result (Acts now (Presents judged frames ∷ []) old new)
 presented (Ok x) now judged frames old between new is rest =
-    then_none now (Presents judged frames ∷ []) old between new (gives now (Presents judged frames) old between refl tt is) rest
+    then_none now (Presents judged frames ∷ []) old between new (gives now (Presents judged frames) old between refl refl tt is) rest
 presented (Err e) now judged frames old between new is rest = tt
 
 -- What the dialler decides leaves a connection that is there, and makes none.
@@ -342,15 +360,15 @@ module _ {A : Type 0} (is_there : Bool) (now : ℕ) (input : AgentInput A) (agen
   pub made : (was : Credentials A) (told judged : List (ℕ × ℤ)) (papers : Papers) (dialler : Dialler A) (old new : Trail A)
       → was ≡ agent.credentials → told ≡ judged → judged ≡ (judging (papers_of was)).1.judged
       → papers ≡ with_judging (judging (papers_of was)) (papers_of was) → dialler ≡ agent.dialler
-      → Comes now (given_of dialler now input ++ presents told papers) old new
-      → Comes now (moves_of is_there now input agent) old new
+      → Acts now (given_of dialler now input ++ presents told papers) old new
+      → Acts now (moves_of is_there now input agent) old new
   made was told judged papers dialler old new same is its are at comes =
-      subst (λ (c : Credentials A). Comes now (given_of agent.dialler now input
+      subst (λ (c : Credentials A). Acts now (given_of agent.dialler now input
       ++ presents (judging (papers_of c)).1.judged (with_judging (judging (papers_of c)) (papers_of c))) old new) same
-      (subst (λ j. Comes now (given_of agent.dialler now input
+      (subst (λ j. Acts now (given_of agent.dialler now input
       ++ presents j (with_judging (judging (papers_of was)) (papers_of was))) old new) (is ∙ its)
-      (subst (λ p. Comes now (given_of agent.dialler now input ++ presents told p) old new) are
-      (subst (λ h. Comes now (given_of h now input ++ presents told papers) old new) at comes)))
+      (subst (λ p. Acts now (given_of agent.dialler now input ++ presents told p) old new) are
+      (subst (λ h. Acts now (given_of h now input ++ presents told papers) old new) at comes)))
 
 -- ---- single moves
 
@@ -372,16 +390,16 @@ trail_eq old new v s l d m w t =
 
 pub opened : {A : Type 0} (old new : Trail A) (timeout now : ℕ) (ours : Bool)
     → timeout ≡ old.view.saved.session.timeout → ours ≡ true → Opens timeout now old.dialler new.dialler ours
-    → new ≡ record old { dialler = new.dialler } → Comes now (Opened now ∷ []) old new
+    → new ≡ record old { dialler = new.dialler } → Acts now (Opened now ∷ []) old new
 opened old new timeout now ours is asked opens rest =
-    gives now (Opened now) old new refl refl
+    gives now (Opened now) old new refl refl refl
     (subst (λ t. Opens t now old.dialler new.dialler true) is (subst (Opens timeout now old.dialler new.dialler) asked opens), rest)
 
 pub ended : {A : Type 0} (old new : Trail A) (timeout now : ℕ)
     → timeout ≡ old.view.saved.session.timeout → Ends timeout now old.dialler new.dialler → new ≡ record old { dialler = new.dialler }
-    → Comes now (Ended now ∷ []) old new
+    → Acts now (Ended now ∷ []) old new
 ended old new timeout now is ends rest =
-    gives now (Ended now) old new refl refl (subst (λ t. Ends t now old.dialler new.dialler) is ends, rest)
+    gives now (Ended now) old new refl refl refl (subst (λ t. Ends t now old.dialler new.dialler) is ends, rest)
 
 -- another list, by what the dialler says of it
 module _ {A : Type 0} (kept added : ℕ) (is_listed moves : Bool) (old new : Dialler A)
@@ -414,18 +432,18 @@ module _ {A : Type 0} (kept added : ℕ) (is_listed moves : Bool) (old new : Dia
 pub decided : {A : Type 0} (old new : Trail A) (timeout now : ℕ) (due : Option DialDue)
     → old.view.standing.state ≢ Closed → timeout ≡ old.view.saved.session.timeout
     → DialsWell timeout now old.dialler new.dialler due → is_some due ≡ is_due now old.dialler
-    → new ≡ record old { dialler = new.dialler; told = old.told ++ due_told due } → Comes now [] old new
+    → new ≡ record old { dialler = new.dialler; told = old.told ++ due_told due } → Acts now [] old new
 decided old new timeout now due goes_on is dials all rest =
-    one now (Decides now due) old new refl refl
+    one now (Decides now due) old new refl refl refl
     (record { goes_on = goes_on; all = all; dials = subst (λ t. DialsWell t now old.dialler new.dialler due) is dials; last = rest })
 
 pub closed : {A X E : Type 0} (result : Result X E) (now : ℕ) (old new : Trail A)
     → old.view.standing.state ≡ Closed → new.view ≡ old.view → new.subjects ≡ old.subjects
     → OnOk result (new.line ≡ []) → new.dialler ≡ old.dialler → new.timeout ≡ old.timeout → new.waits ≡ old.waits
     → OnOk result (new.told ≡ old.told ++ closings old.line)
-    → OnOk result (Comes now [] old new)
+    → OnOk result (Acts now [] old new)
 closed (Ok x) now old new is v s l d m w t =
-    one now Closes old new refl tt
+    one now Closes old new refl refl tt
     (record { closed = is; last = trail_eq (record old { line = []; told = old.told ++ closings old.line }) new v s l d m w t })
 closed (Err e) now old new is v s l d m w t = tt
 
@@ -434,9 +452,9 @@ pub renewed : {A X E : Type 0} (result : Result X E) (now : ℕ) (old new : Trai
     → OnOk result (new.subjects ≡ map due_again old.subjects)
     → OnOk result (new.dialler ≡ record old.dialler { backoff = row_ended old.dialler.backoff }) → new.timeout ≡ old.timeout
     → new.waits ≡ old.waits → OnOk result (new.line ≡ [])
-    → OnOk result (new.told ≡ (old.told ++ endings ending.Expired old.line) ++ Begins ∷ []) → OnOk result (Comes now [] old new)
+    → OnOk result (new.told ≡ (old.told ++ endings ending.Expired old.line) ++ Begins ∷ []) → OnOk result (Acts now [] old new)
 renewed (Ok x) now old new expired v s d m w l t =
-    one now Renews old new refl tt
+    one now Renews old new refl refl tt
     (record { expired = expired; view = v; timeout = m; waits = w; subjects = s; dialler = d; line = l; told = t })
 renewed (Err e) now old new expired v s d m w l t = tt
 
@@ -507,16 +525,16 @@ taken_by now input old new between line heard may is takes same_view same_subjec
 -- it hears, and is told of the end of the connection where that is to be
 pub hears_and : {A : Type 0} (now : ℕ) (input : Input) (old new : Trail A) (is_lost : Bool) (hears : HearsSo now input old new)
     → hears.heard.is_lost ≡ is_lost → is_lost ≡ false
-    → Comes now (Hears now input ∷ []) old new
+    → Acts now (Hears now input ∷ []) old new
 hears_and now input old new is_lost hears is lost =
-    gives now (Hears now input) old new refl refl
+    gives now (Hears now input) old new refl refl refl
     (record { between = new; hears = hears; leaves = subst (λ b. LeavesWhere b now new new) (sym (is ∙ lost)) refl })
 
 pub hears_then : {A X E : Type 0} (result : Result X E) (now : ℕ) (input : Input) (old between new : Trail A) (is_lost : Bool)
     (hears : HearsSo now input old between) → hears.heard.is_lost ≡ is_lost
-    → is_lost ≡ true → OnOk result (HearsSo now turns.Cut between new) → OnOk result (Comes now (Hears now input ∷ []) old new)
+    → is_lost ≡ true → OnOk result (HearsSo now turns.Cut between new) → OnOk result (Acts now (Hears now input ∷ []) old new)
 hears_then (Ok x) now input old between new is_lost hears is lost cut =
-    gives now (Hears now input) old new refl refl
+    gives now (Hears now input) old new refl refl refl
     (record { between = between; hears = hears; leaves = subst (λ b. LeavesWhere b now between new) (sym (is ∙ lost)) cut })
 hears_then (Err e) now input old between new is_lost hears is lost cut = tt
 

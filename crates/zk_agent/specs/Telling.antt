@@ -66,6 +66,12 @@ ended_told _ one = Says (turns.Answer one.ticket ConnectionLoss)
 abbrev pub closed_told : Ended → Told
 closed_told one = Says (turns.Answer one.ticket SessionClosed)
 
+-- what is told of trees
+abbrev pub trees_in : List Told → List TreeTold
+trees_in [] = []
+trees_in (TellsTree one ∷ told) = one ∷ trees_in told
+trees_in (_ ∷ told) = trees_in told
+
 -- whether a call of this ticket is settled with that
 abbrev pub is_end_of : (ticket : ℕ) → Told → Bool
 is_end_of ticket (Says (turns.Answer its outcome)) = its == ticket

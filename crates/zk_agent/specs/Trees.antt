@@ -10,7 +10,7 @@ use Rattle.zk_agent.specs.declared.agent.Agent.{Agent}
 use Rattle.zk_agent.specs.declared.input.AgentInput.{AgentInput}
 use Rattle.zk_agent.specs.declared.input.AgentInput.TheVariants as happens
 use Rattle.zk_agent.specs.Agents.{moves_of, trail_of, Comes, Trail}
-use Rattle.zk_agent.specs.Telling.{TellsTree}
+use Rattle.zk_agent.specs.Telling.{told_by, trees_in, TellsTree}
 
 -- A tree is followed, or followed no more, where an input asks for that, and for no other.
 abbrev pub Alters : {A : Type 0} → AgentInput A → (was is : Trees A) → (old new : Footing A) → Type 0
@@ -41,12 +41,14 @@ noted_in trees _ = trees
 abbrev pub noted_by : {A : Type 0} → List (Action A) → List (Tree A) → List (Tree A)
 noted_by said trees = fold noted_in trees said
 
--- So they come along within a step: first they grow, then the agent takes its input, and what was said is noted of each at last.
+-- So they come along within a step: first they grow, then the agent takes its input, and what was said is noted of each at last. What the
+-- program is told of trees in this step is what was told as they grew, in that order, and no more.
 pub record GoesOn {A : Type 0} (now : ℕ) (input : AgentInput A) (old new : Agent A) (said : List (Action A)) : Type 0 where
   pub grown : Trail A
   pub trees : Trees A
   pub grows : Grows now input old.trees trees (trail_of old []) grown
   pub rest : Comes now (moves_of (is_open new.dialler.phase) now input old) grown (trail_of new said)
+  pub told : trees_in (told_by said) ≡ grows.tended.told ++ grows.altered.told
   pub noted : new.trees.all.items ≡ noted_by said trees.all.items
   pub next : new.trees.next ≡ trees.next
   pub due : new.trees.due ≡ trees.due

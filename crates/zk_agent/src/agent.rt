@@ -67,6 +67,7 @@ impl<A: Allocator + Copy> Agent<A> {
     ghost use Rattle.zk_agent.specs.Agents.{leaves_with, left_at, NothingAt, NothingOpen, Unfollows};
     ghost use Rattle.zk_agent.specs.Calls.{endings, how_many, IsInTime, IsServed};
     ghost use Rattle.zk_agent.specs.Telling.{told_by, Begins};
+    ghost use Rattle.zk_agent.specs.inner.Agents.{Acts};
     ghost use Rattle.zk_agent.specs.Trees.{GoesOn};
     ghost use Rattle.zk_agent.specs.Waits.{nothing_waits, waited_of};
 
@@ -327,7 +328,7 @@ impl<A: Allocator + Copy> Agent<A> {
         judged: &[(usize, i32)],
         actions: &mut Vec<Action<A>, A>,
     ) -> Result<(), FollowerStop>
-        ensures comes { OnOk result (Comes now (given_of self.old.dialler now input
+        ensures comes { OnOk result (Acts now (given_of self.old.dialler now input
             ++ Presents judged.now (unwritten (is_open self.new.dialler.phase) (with_credential input (papers_of credentials.old))) ∷ [])
             (trail_of self.old actions.old.items) (trail_of self.new actions.new.items)) }
         ensures papers { OnOk result (papers_of credentials.new
@@ -361,7 +362,7 @@ impl<A: Allocator + Copy> Agent<A> {
         credentials: &mut Credentials<A>,
         actions: &mut Vec<Action<A>, A>,
     ) -> Result<(), FollowerStop>
-        ensures comes { OnOk result (Comes now (given_of self.old.dialler now input) (trail_of self.old actions.old.items)
+        ensures comes { OnOk result (Acts now (given_of self.old.dialler now input) (trail_of self.old actions.old.items)
             (trail_of self.new actions.new.items)) }
         ensures papers { OnOk result (papers_of credentials.new ≡ with_credential input (papers_of credentials.old)) }
         ensures followed { OnOk result
@@ -395,7 +396,7 @@ impl<A: Allocator + Copy> Agent<A> {
     /// The connection that was asked for is there, or another one, which is hung up.
     fn open(&mut self, now: u64, actions: &mut Vec<Action<A>, A>) -> Result<(), FollowerStop>
         ensures comes { OnOk result
-            (Comes now (opened_at self.old.dialler.phase now) (trail_of self.old actions.old.items) (trail_of self.new actions.new.items)) }
+            (Acts now (opened_at self.old.dialler.phase now) (trail_of self.old actions.old.items) (trail_of self.new actions.new.items)) }
         ensures followed { OnOk result
             (AreFollowed now (view_of self.new.asker.follower.client) self.new.asker.follower.subjects.items) }
         ensures broke { OnErr result (IsBroken self.old self.new) }
@@ -410,7 +411,7 @@ impl<A: Allocator + Copy> Agent<A> {
 
     /// The attempt has failed, or the connection is over.
     fn end(&mut self, now: u64, actions: &mut Vec<Action<A>, A>) -> Result<(), FollowerStop>
-        ensures comes { OnOk result (Comes now (over_at now) (trail_of self.old actions.old.items) (trail_of self.new actions.new.items)) }
+        ensures comes { OnOk result (Acts now (over_at now) (trail_of self.old actions.old.items) (trail_of self.new actions.new.items)) }
         ensures followed { OnOk result
             (AreFollowed now (view_of self.new.asker.follower.client) self.new.asker.follower.subjects.items) }
         ensures broke { OnErr result (IsBroken self.old self.new) }
@@ -427,7 +428,7 @@ impl<A: Allocator + Copy> Agent<A> {
         bytes: Vec<u8, A>,
         actions: &mut Vec<Action<A>, A>,
     ) -> Result<(), FollowerStop>
-        ensures comes { OnOk result (Comes now (bytes_at (is_open self.old.dialler.phase) now bytes.items)
+        ensures comes { OnOk result (Acts now (bytes_at (is_open self.old.dialler.phase) now bytes.items)
             (trail_of self.old actions.old.items) (trail_of self.new actions.new.items)) }
         ensures followed { OnOk result
             (AreFollowed now (view_of self.new.asker.follower.client) self.new.asker.follower.subjects.items) }
@@ -456,7 +457,7 @@ impl<A: Allocator + Copy> Agent<A> {
         actions: &mut Vec<Action<A>, A>,
     ) -> Result<(), FollowerStop>
         ensures comes { OnOk result
-            (Comes now (Addressed kept added is_listed ∷ left_at (leaves_with self.old.dialler kept added is_listed) now)
+            (Acts now (Addressed kept added is_listed ∷ left_at (leaves_with self.old.dialler kept added is_listed) now)
             (trail_of self.old actions.old.items) (trail_of self.new actions.new.items)) }
         ensures followed { OnOk result
             (AreFollowed now (view_of self.new.asker.follower.client) self.new.asker.follower.subjects.items) }
@@ -481,7 +482,7 @@ impl<A: Allocator + Copy> Agent<A> {
         until: Option<u64>,
         actions: &mut Vec<Action<A>, A>,
     ) -> Result<(), FollowerStop>
-        ensures comes { OnOk result (Comes now (Asks ticket (call_view call) until ∷ Hears now (turns.Now now) ∷ [])
+        ensures comes { OnOk result (Acts now (Asks ticket (call_view call) until ∷ Hears now (turns.Now now) ∷ [])
             (trail_of self.old actions.old.items) (trail_of self.new actions.new.items)) }
         ensures followed { OnOk result
             (AreFollowed now (view_of self.new.asker.follower.client) self.new.asker.follower.subjects.items) }
@@ -500,7 +501,7 @@ impl<A: Allocator + Copy> Agent<A> {
         path: Path<A>,
         actions: &mut Vec<Action<A>, A>,
     ) -> Result<(), FollowerStop>
-        ensures comes { OnOk result (Comes now (Follows ticket side path ∷ Hears now (turns.Now now) ∷ [])
+        ensures comes { OnOk result (Acts now (Follows ticket side path ∷ Hears now (turns.Now now) ∷ [])
             (trail_of self.old actions.old.items) (trail_of self.new actions.new.items)) }
         ensures followed { OnOk result
             (AreFollowed now (view_of self.new.asker.follower.client) self.new.asker.follower.subjects.items) }
@@ -517,7 +518,7 @@ impl<A: Allocator + Copy> Agent<A> {
         ticket: u64,
         actions: &mut Vec<Action<A>, A>,
     ) -> Result<(), FollowerStop>
-        ensures comes { OnOk result (Comes now (Unfollows ticket ∷ Hears now (turns.Now now) ∷ []) (trail_of self.old actions.old.items)
+        ensures comes { OnOk result (Acts now (Unfollows ticket ∷ Hears now (turns.Now now) ∷ []) (trail_of self.old actions.old.items)
             (trail_of self.new actions.new.items)) }
         ensures followed { OnOk result
             (AreFollowed now (view_of self.new.asker.follower.client) self.new.asker.follower.subjects.items) }
@@ -561,7 +562,7 @@ impl<A: Allocator + Copy> Agent<A> {
 
     /// After an expiry another session begins.
     fn renew(&mut self, actions: &mut Vec<Action<A>, A>) -> Result<(), FollowerStop>
-        ensures comes { (now : ℕ) → OnOk result (Comes now [] (trail_of self.old actions.old.items) (trail_of self.new actions.new.items)) }
+        ensures comes { (now : ℕ) → OnOk result (Acts now [] (trail_of self.old actions.old.items) (trail_of self.new actions.new.items)) }
         ensures renewed { OnOk result ((view_of self.new.asker.follower.client).standing.state ≢ Expired) }
         ensures followed { (now : ℕ) → AreFollowed now (view_of self.old.asker.follower.client) self.old.asker.follower.subjects.items
             → OnOk result (AreFollowed now (view_of self.new.asker.follower.client) self.new.asker.follower.subjects.items) }
@@ -575,7 +576,7 @@ impl<A: Allocator + Copy> Agent<A> {
 
     /// The calls wait no more whose limit has come; after a close none does.
     fn give_up(&mut self, now: u64, actions: &mut Vec<Action<A>, A>) -> Result<(), AllocError>
-        ensures comes { OnOk result (Comes now [] (trail_of self.old actions.old.items) (trail_of self.new actions.new.items)) }
+        ensures comes { OnOk result (Acts now [] (trail_of self.old actions.old.items) (trail_of self.new actions.new.items)) }
         ensures limits { OnOk result (All (IsInTime now) self.new.asker.line.entries.items) }
         ensures closed { (view_of self.old.asker.follower.client).standing.state ≡ Closed
             → OnOk result (self.new.asker.line.entries.items ≡ []) }
@@ -593,7 +594,7 @@ impl<A: Allocator + Copy> Agent<A> {
         now: u64,
         actions: &mut Vec<Action<A>, A>,
     ) -> Result<(), AllocError>
-        ensures comes { OnOk result (Comes now [] (trail_of self.old actions.old.items) (trail_of self.new actions.new.items)) }
+        ensures comes { OnOk result (Acts now [] (trail_of self.old actions.old.items) (trail_of self.new actions.new.items)) }
         ensures dials { (view_of self.new.asker.follower.client).standing.state ≢ Closed
             → OnOk result (IsDecided now (trail_of self.new actions.new.items)) }
         ensures open { is_open self.new.dialler.phase ≡ is_open self.old.dialler.phase }

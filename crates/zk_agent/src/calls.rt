@@ -103,6 +103,7 @@ fn push_answer<A: Allocator + Copy>(
 }
 
 /// Adds what a program is told of an output.
+#[inline(always)]
 fn push_output<A: Allocator + Copy>(
     line: &mut Line<A>,
     output: Output<A>,

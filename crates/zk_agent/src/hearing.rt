@@ -30,8 +30,8 @@ impl<A: Allocator + Copy> Agent<A> {
     ghost use Rattle.zk_client.specs.Views.{input_view};
     ghost use Rattle.zk_dialler.specs.Dialling.{is_open, Ends};
     ghost use Rattle.zk_follow.specs.Following.{AreFollowed};
-    ghost use Rattle.zk_agent.specs.Agents.{noted, row_after, trail_of, Comes, Hears, HearsSo, IsBroken, LetsGo};
-    ghost use Rattle.zk_agent.specs.inner.Agents.{MayTake};
+    ghost use Rattle.zk_agent.specs.Agents.{noted, row_after, trail_of, Hears, HearsSo, IsBroken, LetsGo};
+    ghost use Rattle.zk_agent.specs.inner.Agents.{Acts, MayTake};
     ghost use Rattle.zk_agent.specs.inner.Calls.{how_many_wait, IsDone};
     ghost use Rattle.zk_agent.specs.Calls.{IsInTime};
     ghost use Rattle.zk_agent.specs.Telling.{told_by, HangsUp};
@@ -174,7 +174,7 @@ impl<A: Allocator + Copy> Agent<A> {
     ) -> Result<(), FollowerStop>
         requires { MayTake (input_view input) (is_open self.old.dialler.phase) }
         ensures comes { OnOk result
-            (Comes now (Hears now (input_view input) ∷ []) (trail_of self.old actions.old.items) (trail_of self.new actions.new.items)) }
+            (Acts now (Hears now (input_view input) ∷ []) (trail_of self.old actions.old.items) (trail_of self.new actions.new.items)) }
         ensures followed { OnOk result
             (AreFollowed now (view_of self.new.asker.follower.client) self.new.asker.follower.subjects.items) }
         ensures broke { OnErr result (IsBroken self.old self.new) }

@@ -37,9 +37,10 @@ impl<A: Allocator + Copy> Agent<A> {
     ghost use Rattle.zk_trees.specs.Tending.{are_at_rest};
     ghost use Rattle.zk_calls.specs.Lines.{ended, next_call};
     ghost use Rattle.zk_calls.specs.declared.entry.Ending.TheVariants.{Late};
-    ghost use Rattle.zk_agent.specs.Agents.{trail_of, Comes, Hears, IsBroken};
+    ghost use Rattle.zk_agent.specs.Agents.{trail_of, Hears, IsBroken};
     ghost use Rattle.zk_agent.specs.Credentials.{papers_of};
     ghost use Rattle.zk_agent.specs.Waits.{ends_at, waited_of};
+    ghost use Rattle.zk_agent.specs.inner.Agents.{Acts};
 
     /// Whether nothing happens but the moment, and it is known that nothing is due at it, on a connection that a server has accepted, and
     /// that nothing is left to be done there.
@@ -69,7 +70,7 @@ impl<A: Allocator + Copy> Agent<A> {
     pub(crate) fn pass(&mut self, now: u64) -> Result<(), FollowerStop>
         requires due { NothingIsDue (view_of self.old.asker.follower.client) now }
         requires quiet { AreQuiet (view_of self.old.asker.follower.client) self.old.asker.follower.subjects.items }
-        ensures comes { OnOk result ((said : List (Action A)) → Comes now (Hears now (Now now) ∷ []) (trail_of self.old said)
+        ensures comes { OnOk result ((said : List (Action A)) → Acts now (Hears now (Now now) ∷ []) (trail_of self.old said)
             (trail_of self.new said)) }
         ensures followed { OnOk result
             (AreFollowed now (view_of self.new.asker.follower.client) self.new.asker.follower.subjects.items) }
@@ -95,7 +96,7 @@ impl<A: Allocator + Copy> Agent<A> {
         actions: &mut Vec<Action<A>, A>,
     ) -> Result<(), FollowerStop>
         ensures comes { OnOk result
-            (Comes now (Hears now (Now now) ∷ []) (trail_of self.old actions.old.items) (trail_of self.new actions.new.items)) }
+            (Acts now (Hears now (Now now) ∷ []) (trail_of self.old actions.old.items) (trail_of self.new actions.new.items)) }
         ensures followed { OnOk result
             (AreFollowed now (view_of self.new.asker.follower.client) self.new.asker.follower.subjects.items) }
         ensures broke { OnErr result (IsBroken self.old self.new) }

@@ -17,8 +17,9 @@ impl<A: Allocator + Copy> Agent<A> {
     ghost use Rattle.zk_client.specs.Clients.{view_of};
     ghost use Rattle.zk_dialler.specs.Dialling.{is_open};
     ghost use Rattle.zk_follow.specs.Following.{AreFollowed};
-    ghost use Rattle.zk_agent.specs.Agents.{trail_of, Comes, Hears, IsBroken, IsDecided, Presents};
+    ghost use Rattle.zk_agent.specs.Agents.{trail_of, Hears, IsBroken, IsDecided, Presents};
     ghost use Rattle.zk_agent.specs.Credentials.{all_written, judging_of, papers_of, unwritten, with_judging};
+    ghost use Rattle.zk_agent.specs.inner.Agents.{Acts};
 
     /// Notes which credentials these bytes answer, which the agent is handed next, and with which codes.
     pub(crate) fn judge(
@@ -56,7 +57,7 @@ impl<A: Allocator + Copy> Agent<A> {
         credentials: &mut Credentials<A>,
         actions: &mut Vec<Action<A>, A>,
     ) -> Result<(), FollowerStop>
-        ensures comes { OnOk result (Comes now (Hears now (turns.Now now) ∷ []) (trail_of self.old actions.old.items)
+        ensures comes { OnOk result (Acts now (Hears now (turns.Now now) ∷ []) (trail_of self.old actions.old.items)
             (trail_of self.new actions.new.items)) }
         ensures followed { OnOk result
             (AreFollowed now (view_of self.new.asker.follower.client) self.new.asker.follower.subjects.items) }
@@ -77,7 +78,7 @@ impl<A: Allocator + Copy> Agent<A> {
         actions: &mut Vec<Action<A>, A>,
     ) -> Result<(), AllocError>
         ensures comes { OnOk result
-            (Comes now (Presents judged.now (unwritten (is_open self.new.dialler.phase) (papers_of credentials.old)) ∷ [])
+            (Acts now (Presents judged.now (unwritten (is_open self.new.dialler.phase) (papers_of credentials.old)) ∷ [])
             (trail_of self.old actions.old.items) (trail_of self.new actions.new.items)) }
         ensures papers { OnOk result
             (papers_of credentials.new ≡ all_written (is_open self.new.dialler.phase) (papers_of credentials.old)) }

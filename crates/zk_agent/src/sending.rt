@@ -13,8 +13,8 @@ impl<A: Allocator + Copy> Agent<A> {
     ghost use Rattle.zk_session.specs.States.{is_final};
     ghost use Rattle.zk_client.specs.Clients.{view_of};
     ghost use Rattle.zk_follow.specs.Following.{AreFollowed};
-    ghost use Rattle.zk_agent.specs.Agents.{trail_of, Comes, IsBroken};
-    ghost use Rattle.zk_agent.specs.inner.Agents.{Sends};
+    ghost use Rattle.zk_agent.specs.Agents.{trail_of, IsBroken};
+    ghost use Rattle.zk_agent.specs.inner.Agents.{Acts, Sends};
     ghost use Rattle.zk_agent.specs.inner.Calls.{how_many_wait, IsDone};
     ghost use Rattle.zk_agent.specs.Calls.{IsInTime};
 
@@ -59,7 +59,7 @@ impl<A: Allocator + Copy> Agent<A> {
         actions: &mut Vec<Action<A>, A>,
     ) -> Result<(), FollowerStop>
         requires followed { AreFollowed now (view_of self.old.asker.follower.client) self.old.asker.follower.subjects.items }
-        ensures comes { OnOk result (Comes now [] (trail_of self.old actions.old.items) (trail_of self.new actions.new.items)) }
+        ensures comes { OnOk result (Acts now [] (trail_of self.old actions.old.items) (trail_of self.new actions.new.items)) }
         ensures followed { OnOk result
             (AreFollowed now (view_of self.new.asker.follower.client) self.new.asker.follower.subjects.items) }
         ensures limits { All (IsInTime now) self.old.asker.line.entries.items

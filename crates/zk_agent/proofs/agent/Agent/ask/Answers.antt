@@ -21,7 +21,7 @@ returns-clause-comes g c =
     } in
     ok_after c.hear_moment.result c.args.now (Asks c.args.ticket (call_view c.args.call) c.args.until ∷ [])
     (Hears c.args.now (Now c.args.now) ∷ []) old between (trail_of c.hear_moment.new.self c.hear_moment.new.actions.items)
-    (gives c.args.now (Asks c.args.ticket (call_view c.args.call) c.args.until) old between refl tt (record {
+    (gives c.args.now (Asks c.args.ticket (call_view c.args.call) c.args.until) old between refl refl tt (record {
       entry = entry;
       its_ticket = refl;
       its_call = refl;

@@ -4,7 +4,8 @@ use Rattle.std.proofs.Common.{◌++◌, ◌∷◌, [], refl, sym, subst, ◌∙�
 use Rattle.std.specs.Prelude.{OnOk}
 use Rattle.zk_turns.specs.Turns.{Now}
 use Rattle.zk_client.specs.Clients.{view_of}
-use Rattle.zk_agent.specs.Agents.{left_at, over_at, trail_of, Addressed, Comes, Hears, HungUp}
+use Rattle.zk_agent.specs.Agents.{left_at, over_at, trail_of, Addressed, Hears, HungUp}
+use Rattle.zk_agent.specs.inner.Agents.{Acts}
 use Rattle.zk_agent.specs.Telling.{told_by, HangsUp}
 use Rattle.zk_agent.proofs.Breaking.{beside, err_always}
 use Rattle.zk_agent.proofs.Moves.{after, gives, leaves_so, ok_after, readdressed, trail_eq}
@@ -19,17 +20,17 @@ returns-then-is_leaving-clause-comes g c =
     let new = trail_of c.end.new.self c.end.new.actions.items in
     let addressed = Addressed c.args.kept c.args.added c.args.is_listed in
     let so = c.in_ok-moves.ensures in
-    subst (λ leaves. OnOk c.end.result (Comes now (addressed ∷ left_at leaves now) old new))
+    subst (λ leaves. OnOk c.end.result (Acts now (addressed ∷ left_at leaves now) old new))
     (sym c.if-is_leaving.true ∙ leaves_so c.args.kept c.args.added c.args.is_listed c.in_ok-moves.moves c.args.self.now.dialler
     c.change_addresses.new.self so.moves so.phase c.is_leaving.result c.is_leaving.ensures)
     (ok_after c.end.result now (addressed ∷ HungUp ∷ []) (over_at now) old hung new
     (after now (addressed ∷ []) (HungUp ∷ []) old changed hung
-    (gives now addressed old changed refl tt (
+    (gives now addressed old changed refl refl tt (
       readdressed c.args.kept c.args.added c.args.is_listed c.in_ok-moves.moves c.args.self.now.dialler c.change_addresses.new.self
           so.moves so.phase so.order so.each so.first so.backoff,
       refl,
     ))
-    (gives now HungUp changed hung refl tt
+    (gives now HungUp changed hung refl refl tt
     (trail_eq (record changed { told = old.told ++ HangsUp ∷ [] }) hung refl refl refl refl refl refl c.in_ok-push.ensures)))
     c.end.ensures.comes)
 
@@ -41,11 +42,11 @@ returns-clause-comes g c =
     let new = trail_of c.step_client.new.self c.step_client.new.actions.items in
     let addressed = Addressed c.args.kept c.args.added c.args.is_listed in
     let so = c.in_ok-moves.ensures in
-    subst (λ leaves. OnOk c.step_client.result (Comes now (addressed ∷ left_at leaves now) old new))
+    subst (λ leaves. OnOk c.step_client.result (Acts now (addressed ∷ left_at leaves now) old new))
     (sym c.if-is_leaving.false ∙ leaves_so c.args.kept c.args.added c.args.is_listed c.in_ok-moves.moves c.args.self.now.dialler
     c.change_addresses.new.self so.moves so.phase c.is_leaving.result c.is_leaving.ensures)
     (ok_after c.step_client.result now (addressed ∷ []) (Hears now (Now now) ∷ []) old changed new
-    (gives now addressed old changed refl tt (
+    (gives now addressed old changed refl refl tt (
       readdressed c.args.kept c.args.added c.args.is_listed c.in_ok-moves.moves c.args.self.now.dialler c.change_addresses.new.self
           so.moves so.phase so.order so.each so.first so.backoff,
       refl,

@@ -18,7 +18,7 @@ returns-clause-comes g c =
     } in
     ok_after c.step_client.result c.args.now (Follows c.args.ticket c.args.side c.args.path ∷ [])
     (Hears c.args.now (Now c.args.now) ∷ []) old between (trail_of c.step_client.new.self c.step_client.new.actions.items)
-    (gives c.args.now (Follows c.args.ticket c.args.side c.args.path) old between refl tt
+    (gives c.args.now (Follows c.args.ticket c.args.side c.args.path) old between refl refl tt
     (trail_eq _ between (ap view_of c.follow.ensures.client) c.in_ok-follow.ensures.subjects
     (ap (λ (l : Line g.row.A.Denot). l.entries.items) c.follow.ensures.line) refl refl refl refl)) c.step_client.ensures.comes
 

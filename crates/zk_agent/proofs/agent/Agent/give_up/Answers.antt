@@ -18,7 +18,7 @@ returns-clause-comes g c =
     let old = trail_of c.args.self.now c.args.actions.now.items in
     let new = trail_of (record c.args.self.now { asker = c.give_up.new.self }) c.give_up.new.actions.items in
     both_ok c.give_up.result (λ line told.
-    one c.args.now (GivesUp c.args.now) old new refl refl
+    one c.args.now (GivesUp c.args.now) old new refl refl refl
     (trail_eq (record old { line = left (Late c.args.now) old.line; told = old.told ++ endings (Late c.args.now) old.line }) new
     (ap (λ (f : Follower g.row.A.Denot). view_of f.client) c.give_up.ensures.follower)
     (ap (λ (f : Follower g.row.A.Denot). f.subjects.items) c.give_up.ensures.follower) line refl refl refl told))

@@ -22,9 +22,10 @@ use Rattle.zk_agent.specs.declared.input.AgentInput.{AgentInput}
 use Rattle.zk_agent.specs.declared.waits.Waits.{Waits}
 use Rattle.zk_agent.proofs.Idling.{comes_idle, decided_idle, in_time, other_state, papers_idle, trees_idle}
 use Rattle.zk_agent.proofs.Lines.{all_served}
-use Rattle.zk_agent.proofs.Moves.{after, made}
+use Rattle.zk_agent.proofs.Moves.{comes_after, made}
 use Rattle.zk_agent.proofs.Breaking.{after_comes, beside, err_always}
 use Rattle.zk_agent.proofs.Saying.{ok_always, on_ok}
+use Rattle.zk_agent.proofs.Tended.{told_grown}
 use Rattle.zk_agent.proofs.agent.Agent.go_on.Goals as goal
 
 pub returns-clause-comes : goal.returns-clause-comes
@@ -34,13 +35,13 @@ returns-clause-comes g c =
     let given = moves_of (is_open c.take.new.self.dialler.phase) now c.args.input c.args.self.now in
     let grown = trail_of c.prepare.new.self c.prepare.new.actions.items in
     let new = trail_of c.take.new.self c.take.new.actions.items in
-    after now [] given (old []) grown new
+    comes_after now [] given (old []) grown new
     (subst (λ items. Comes now [] (old items) grown) c.requires c.in_ok-judged.ensures.comes)
     (made (is_open c.take.new.self.dialler.phase) now c.args.input c.args.self.now c.replace-credentials.result c.as_slice-told.result.now
     c.in_ok-judged.judged.items
     (papers_of c.prepare.new.credentials) c.prepare.new.self.dialler grown new c.replace-credentials.ensures.value
     c.as_slice-told.ensures.value c.in_ok-judged.ensures.judged c.in_ok-judged.ensures.papers
-    c.prepare.ensures.dialler c.in_ok-take.ensures.comes)
+    c.prepare.ensures.dialler c.in_ok-take.ensures.comes).comes
 
 pub returns-clause-trees : goal.returns-clause-trees
 returns-clause-trees g c =
@@ -48,17 +49,22 @@ returns-clause-trees g c =
     let old = trail_of c.args.self.now in
     let grown = trail_of c.prepare.new.self c.prepare.new.actions.items in
     let new = trail_of c.take.new.self c.take.new.actions.items in
+    let grows = subst (λ (t : Trees g.row.A.Denot). Grows now c.args.input t c.prepare.new.trees (old []) grown)
+    c.replace-trees.ensures.value
+    (subst (λ items. Grows now c.args.input c.replace-trees.result c.prepare.new.trees (old items) grown) c.requires
+    c.in_ok-judged.ensures.grows) in
+    let acts = made (is_open c.take.new.self.dialler.phase) now c.args.input c.args.self.now c.replace-credentials.result
+    c.as_slice-told.result.now c.in_ok-judged.judged.items
+    (papers_of c.prepare.new.credentials) c.prepare.new.self.dialler grown new c.replace-credentials.ensures.value
+    c.as_slice-told.ensures.value c.in_ok-judged.ensures.judged c.in_ok-judged.ensures.papers
+    c.prepare.ensures.dialler c.in_ok-take.ensures.comes in
     record {
       grown = grown;
       trees = c.prepare.new.trees;
-      grows = subst (λ (t : Trees g.row.A.Denot). Grows now c.args.input t c.prepare.new.trees (old []) grown) c.replace-trees.ensures.value
-          (subst (λ items. Grows now c.args.input c.replace-trees.result c.prepare.new.trees (old items) grown) c.requires
-          c.in_ok-judged.ensures.grows);
-      rest = made (is_open c.take.new.self.dialler.phase) now c.args.input c.args.self.now c.replace-credentials.result
-          c.as_slice-told.result.now c.in_ok-judged.judged.items
-          (papers_of c.prepare.new.credentials) c.prepare.new.self.dialler grown new c.replace-credentials.ensures.value
-          c.as_slice-told.ensures.value c.in_ok-judged.ensures.judged c.in_ok-judged.ensures.papers
-          c.prepare.ensures.dialler c.in_ok-take.ensures.comes;
+      grows = grows;
+      rest = acts.comes;
+      told = told_grown now (moves_of (is_open c.take.new.self.dialler.phase) now c.args.input c.args.self.now) c.args.input c.args.self.now
+          c.prepare.new.trees grown new grows acts;
       noted = c.note_all.ensures.all
           ∙ ap (λ (l : List (Action g.row.A.Denot)). noted_by l c.prepare.new.trees.all.items) c.as_slice.ensures.value;
       next = c.note_all.ensures.next;

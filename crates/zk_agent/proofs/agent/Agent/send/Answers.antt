@@ -7,7 +7,7 @@ use Rattle.zk_agent.specs.Agents.{trail_of}
 use Rattle.zk_agent.specs.inner.Calls.{how_many_wait}
 use Rattle.zk_agent.proofs.Handing.{fewer_left}
 use Rattle.zk_agent.proofs.Moves.{nothing, then_none}
-use Rattle.zk_agent.proofs.Breaking.{after_comes, err_always}
+use Rattle.zk_agent.proofs.Breaking.{after_acts, err_always}
 use Rattle.zk_agent.proofs.agent.Agent.send.Goals as goal
 
 pub loop-goes_on-init : goal.loop-goes_on-init
@@ -24,7 +24,7 @@ pub loop-goes_on-preserved : goal.loop-goes_on-preserved
 loop-goes_on-preserved g c = record {
   comes = then_none c.args.now [] (trail_of c.args.self.now c.args.actions.now.items)
       (trail_of c.loop-goes_on.self c.loop-goes_on.actions.items) (trail_of c.try_one.new.self c.try_one.new.actions.items)
-      c.loop-goes_on.invariant.comes c.in_ok-goes_on.ensures.sends.comes;
+      c.loop-goes_on.invariant.comes c.in_ok-goes_on.ensures.sends.acts;
   followed = c.in_ok-goes_on.ensures.followed;
   limits = λ all. c.in_ok-goes_on.ensures.sends.limits (c.loop-goes_on.invariant.limits all);
   same = λ away.
@@ -49,6 +49,6 @@ returns-clause-done g c = c.loop-goes_on.invariant.done c.loop-goes_on-test.fals
 
 pub returns-in_err-goes_on-clause-broke : goal.returns-in_err-goes_on-clause-broke
 returns-in_err-goes_on-clause-broke g c =
-    err_always c.from_residual.result (after_comes c.args.now [] (trail_of c.args.self.now c.args.actions.now.items)
+    err_always c.from_residual.result (after_acts c.args.now [] (trail_of c.args.self.now c.args.actions.now.items)
     (trail_of c.loop-goes_on.self c.loop-goes_on.actions.items) (view_of c.try_one.new.self.asker.follower.client)
     c.loop-goes_on.invariant.comes c.in_err-goes_on.ensures.broke)

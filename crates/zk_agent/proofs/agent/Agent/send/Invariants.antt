@@ -7,7 +7,8 @@ use Rattle.zk_session.specs.declared.states.State.TheVariants.{Connected}
 use Rattle.zk_session.specs.States.{is_final}
 use Rattle.zk_client.specs.Clients.{view_of}
 use Rattle.zk_follow.specs.Following.{AreFollowed}
-use Rattle.zk_agent.specs.Agents.{trail_of, Comes}
+use Rattle.zk_agent.specs.Agents.{trail_of}
+use Rattle.zk_agent.specs.inner.Agents.{Acts}
 use Rattle.zk_agent.specs.inner.Calls.{how_many_wait, IsDone}
 use Rattle.zk_agent.specs.Calls.{IsInTime}
 use Rattle.zk_agent.proofs.agent.Agent.send.Given as goal
@@ -15,7 +16,7 @@ use Rattle.zk_agent.proofs.agent.Agent.send.Given as goal
 -- so far calls were handed over, and where no further one is to be, none can be or none waits
 abbrev pub invariant-loop-goes_on : goal.invariant-loop-goes_on
 invariant-loop-goes_on g l = record {
-  comes : Comes l.now [] (trail_of l.fn.self l.fn.actions.items) (trail_of l.self l.actions.items);
+  comes : Acts l.now [] (trail_of l.fn.self l.fn.actions.items) (trail_of l.self l.actions.items);
   followed : AreFollowed l.now (view_of l.self.asker.follower.client) l.self.asker.follower.subjects.items;
   limits : All (IsInTime l.now) l.fn.self.asker.line.entries.items → All (IsInTime l.now) l.self.asker.line.entries.items;
   same : (view_of l.fn.self.asker.follower.client).standing.state ≢ Connected → l.self.asker ≡ l.fn.self.asker;

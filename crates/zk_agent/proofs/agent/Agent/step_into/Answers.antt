@@ -6,7 +6,7 @@ use Rattle.zk_client.specs.Clients.{view_of}
 use Rattle.zk_dialler.specs.Dialling.{is_open}
 use Rattle.zk_agent.specs.Agents.{heard_after, moves_of, trail_of, Comes, IsDecided}
 use Rattle.zk_agent.specs.Calls.{how_many}
-use Rattle.zk_agent.specs.Trees.{Grows}
+use Rattle.zk_agent.specs.Trees.{GoesOn}
 use Rattle.zk_agent.proofs.Counting.{asks_made, calls_balance}
 use Rattle.zk_agent.proofs.agent.Agent.step_into.Goals as goal
 
@@ -30,13 +30,13 @@ pub returns-clause-trees : goal.returns-clause-trees
 returns-clause-trees g c =
     let old = c.args.self.now in
     let new = c.go_on.new.self in
-    let goes = c.in_ok-go_on.ensures.trees in
+    let goes = subst (λ now. GoesOn now c.args.input old new c.go_on.new.actions.items) c.max-now.ensures c.in_ok-go_on.ensures.trees in
     record {
       grown = goes.grown;
       trees = goes.trees;
-      grows = subst (λ now. Grows now c.args.input old.trees goes.trees (trail_of old []) goes.grown) c.max-now.ensures goes.grows;
-      rest = subst (λ now. Comes now (moves_of (is_open new.dialler.phase) now c.args.input old) goes.grown
-          (trail_of new c.go_on.new.actions.items)) c.max-now.ensures goes.rest;
+      grows = goes.grows;
+      rest = goes.rest;
+      told = goes.told;
       noted = goes.noted;
       next = goes.next;
       due = goes.due;

@@ -9,14 +9,15 @@ use Rattle.zk_follow.specs.Following.{AreFollowed}
 use Rattle.zk_dialler.specs.Dialling.{has_come, is_open}
 use Rattle.zk_agent.specs.declared.asker.Asker.{Asker}
 use Rattle.zk_agent.specs.declared.waits.Waits.{Waits}
-use Rattle.zk_agent.specs.Agents.{given_of, trail_of, Comes, Presents}
+use Rattle.zk_agent.specs.Agents.{given_of, trail_of, Presents}
+use Rattle.zk_agent.specs.inner.Agents.{Acts}
 use Rattle.zk_agent.specs.Calls.{IsInTime}
 use Rattle.zk_agent.specs.Credentials.{all_written, unwritten, Papers}
 use Rattle.zk_agent.specs.inner.Calls.{IsDone}
 use Rattle.zk_agent.specs.Waits.{ends_at, waited_of}
 use Rattle.zk_agent.proofs.Lines.{all_served}
 use Rattle.zk_agent.proofs.Moves.{in_turn}
-use Rattle.zk_agent.proofs.Breaking.{after_comes, beside, err_always}
+use Rattle.zk_agent.proofs.Breaking.{after_acts, beside, err_always}
 use Rattle.zk_agent.proofs.agent.Agent.take.Goals as goal
 
 pub returns-clause-comes : goal.returns-clause-comes
@@ -27,12 +28,12 @@ returns-clause-comes g c =
     let old = trail_of c.args.self.now c.args.actions.now.items in
     let new = trail_of c.settle.new.self c.settle.new.actions.items in
     let more = λ (papers : Papers). Presents c.args.judged.now (unwritten (is_open c.settle.new.self.dialler.phase) papers) ∷ [] in
-    subst (λ papers. Comes now (given ++ more papers) old new) c.in_ok-apply_happening.ensures.papers
+    subst (λ papers. Acts now (given ++ more papers) old new) c.in_ok-apply_happening.ensures.papers
     (in_turn now given _ old first (trail_of c.renew.new.self c.renew.new.actions.items)
     (trail_of c.give_up.new.self c.give_up.new.actions.items)
     (trail_of c.send.new.self c.send.new.actions.items) (trail_of c.tire.new.self c.tire.new.actions.items) new
     c.in_ok-apply_happening.ensures.comes (c.in_ok-renew.ensures.comes now)
-    c.in_ok-give_up.ensures.comes c.in_ok-send.ensures.comes c.in_ok-tire.ensures.tired.comes c.in_ok-settle.ensures.comes)
+    c.in_ok-give_up.ensures.comes c.in_ok-send.ensures.comes c.in_ok-tire.ensures.tired.acts c.in_ok-settle.ensures.comes)
 
 pub returns-clause-papers : goal.returns-clause-papers
 returns-clause-papers g c =
@@ -101,7 +102,7 @@ returns-in_err-renew-clause-broke g c =
     let happened = trail_of c.apply_happening.new.self c.apply_happening.new.actions.items in
     let first = c.in_ok-apply_happening.ensures.comes in
     err_always c.from_residual-in_err-renew.result
-    (after_comes now given old happened (view_of c.renew.new.self.asker.follower.client) first c.in_err-renew.ensures.broke)
+    (after_acts now given old happened (view_of c.renew.new.self.asker.follower.client) first c.in_err-renew.ensures.broke)
 
 pub returns-in_err-give_up-clause-broke : goal.returns-in_err-give_up-clause-broke
 returns-in_err-give_up-clause-broke g c =
@@ -113,7 +114,7 @@ returns-in_err-give_up-clause-broke g c =
     let new = view_of c.give_up.new.self.asker.follower.client in
     let renewed = trail_of c.renew.new.self c.renew.new.actions.items in
     err_always c.from_residual-in_err-give_up.result
-    (after_comes now given old happened new first (after_comes now [] happened renewed new (c.in_ok-renew.ensures.comes now)
+    (after_acts now given old happened new first (after_acts now [] happened renewed new (c.in_ok-renew.ensures.comes now)
     (beside renewed.timeout renewed.view new (ap (λ (f : Follower g.row.A.Denot). view_of f.client) c.give_up.ensures.follower))))
 
 pub returns-in_err-send-clause-broke : goal.returns-in_err-send-clause-broke
@@ -127,8 +128,8 @@ returns-in_err-send-clause-broke g c =
     let renewed = trail_of c.renew.new.self c.renew.new.actions.items in
     let left = trail_of c.give_up.new.self c.give_up.new.actions.items in
     err_always c.from_residual-in_err-send.result
-    (after_comes now given old happened new first (after_comes now [] happened renewed new (c.in_ok-renew.ensures.comes now)
-    (after_comes now [] renewed left new c.in_ok-give_up.ensures.comes c.in_err-send.ensures.broke)))
+    (after_acts now given old happened new first (after_acts now [] happened renewed new (c.in_ok-renew.ensures.comes now)
+    (after_acts now [] renewed left new c.in_ok-give_up.ensures.comes c.in_err-send.ensures.broke)))
 
 pub returns-in_err-tire-clause-broke : goal.returns-in_err-tire-clause-broke
 returns-in_err-tire-clause-broke g c =
@@ -142,9 +143,9 @@ returns-in_err-tire-clause-broke g c =
     let left = trail_of c.give_up.new.self c.give_up.new.actions.items in
     let sent = trail_of c.send.new.self c.send.new.actions.items in
     err_always c.from_residual-in_err-tire.result
-    (after_comes now given old happened new first (after_comes now [] happened renewed new (c.in_ok-renew.ensures.comes now)
-    (after_comes now [] renewed left new c.in_ok-give_up.ensures.comes
-    (after_comes now [] left sent new c.in_ok-send.ensures.comes c.in_err-tire.ensures.broke))))
+    (after_acts now given old happened new first (after_acts now [] happened renewed new (c.in_ok-renew.ensures.comes now)
+    (after_acts now [] renewed left new c.in_ok-give_up.ensures.comes
+    (after_acts now [] left sent new c.in_ok-send.ensures.comes c.in_err-tire.ensures.broke))))
 
 pub returns-in_err-settle-clause-broke : goal.returns-in_err-settle-clause-broke
 returns-in_err-settle-clause-broke g c =
@@ -159,7 +160,7 @@ returns-in_err-settle-clause-broke g c =
     let sent = trail_of c.send.new.self c.send.new.actions.items in
     let tired = trail_of c.tire.new.self c.tire.new.actions.items in
     err_always c.from_residual-in_err-settle.result
-    (after_comes now given old happened new first (after_comes now [] happened renewed new (c.in_ok-renew.ensures.comes now)
-    (after_comes now [] renewed left new c.in_ok-give_up.ensures.comes
-    (after_comes now [] left sent new c.in_ok-send.ensures.comes (after_comes now [] sent tired new c.in_ok-tire.ensures.tired.comes
+    (after_acts now given old happened new first (after_acts now [] happened renewed new (c.in_ok-renew.ensures.comes now)
+    (after_acts now [] renewed left new c.in_ok-give_up.ensures.comes
+    (after_acts now [] left sent new c.in_ok-send.ensures.comes (after_acts now [] sent tired new c.in_ok-tire.ensures.tired.acts
     (beside tired.timeout tired.view new (ap (λ (a : Asker g.row.A.Denot). view_of a.follower.client) c.settle.ensures.asker)))))))

@@ -17,6 +17,6 @@ returns-clause-comes g c =
     } in
     ok_after c.step_client.result c.args.now (Unfollows c.args.ticket ∷ []) (Hears c.args.now (Now c.args.now) ∷ []) old between
     (trail_of c.step_client.new.self c.step_client.new.actions.items)
-    (gives c.args.now (Unfollows c.args.ticket) old between refl tt (trail_eq _ between (ap view_of c.unfollow.ensures.client)
+    (gives c.args.now (Unfollows c.args.ticket) old between refl refl tt (trail_eq _ between (ap view_of c.unfollow.ensures.client)
     c.unfollow.ensures.subjects (ap (λ (l : Line g.row.A.Denot). l.entries.items) c.unfollow.ensures.line) refl refl refl refl))
     c.step_client.ensures.comes
