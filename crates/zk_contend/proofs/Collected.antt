@@ -39,6 +39,17 @@ module _ {A : Type 0} (old new : Contenders A) where
     next = next;
   }
 
+  -- the same, if it is looked at in the end
+  pub heard_if : {Y E : Type 0} (result : Result Y E) (view : View) (now call : ℕ) (outcome : Outcome) (asker : ℕ)
+      → asker_of old call ≡ Some asker → Changes asker (IsHeard view now outcome) old new
+      → OnOk result (new.stirred.awake.items ≡ old.stirred.awake.items ++ asker ∷ [])
+      → OnOk result (new.stirred.untold.items ≡ old.stirred.untold.items ++ asker ∷ [])
+      → ((other : ℕ) → asker_of new other ≡ update nat_eq (asker_of old) call None other) → new.calls.next ≡ old.calls.next
+      → OnOk result (Hears view now call outcome old new)
+  heard_if (Ok done) view now call outcome asker asked changes awake untold calls next =
+      heard_of view now call outcome asker asked changes awake untold calls next
+  heard_if (Err fault) view now call outcome asker asked changes awake untold calls next = tt
+
   -- nobody asked it
   pub unheard : (view : View) (now call : ℕ) (outcome : Outcome) → asker_of old call ≡ None → AreSame old new
       → ((other : ℕ) → asker_of new other ≡ update nat_eq (asker_of old) call None other) → new.calls.next ≡ old.calls.next

@@ -16,7 +16,9 @@ use Rattle.zk_conclusions.proofs.Made.{made_before}
 use Rattle.zk_conclusions.proofs.Numbered.{before_or_same, before_trans, own_is_one, rival_is_one}
 use Rattle.zk_conclusions.proofs.Stays.{is_there, is_made}
 use Rattle.zk_conclusions.proofs.Truths.{data_fits}
-use Rattle.zk_contend.specs.Leases.{AreBefore, IsAmongOf, ShowsLease, AmongStays, LeaseIsTrue, OneIsFirst}
+use Rattle.zk_contend.specs.declared.naming.Naming.{Naming}
+use Rattle.zk_contend.specs.Leases.{AreBefore, IsAmongOf, ShowsLease, StandsBy, AmongStays, LeaseIsTrue, OneIsFirst}
+use Rattle.zk_contend.specs.Namings.{is_mixed, kind_in, most_in}
 
 -- ---- one last rival after the other
 
@@ -64,14 +66,16 @@ stands_alone view dir kind most names listed path token shows = record {
   seen = shows.seen;
 }
 
+name_same : (one other : Name) → Some one ≡ Some other → one ≡ other
+name_same one other e = ap (λ (o : Option Name). elim o [ None ↦ one | Some name ↦ name ]) e
+
 -- And its name is that of its path.
 pub among_alone : (view : View) (dir : Text) (kind : Kind) (most : ℕ) (names : List Name) (listed : ℤ) (path : Text) (token : ℤ)
     (own : Name) → Some own ≡ name_of (path_of path) → IsAmongOf kind most names own
     → ShowsStanding view dir (record { own = kind.own; against = [] }) names listed path token
     → ShowsLease view dir kind most names listed path token
 among_alone view dir kind most names listed path token own named among shows =
-    let same : own ≡ shows.own = name_same own shows.own (named ∙ ap name_of shows.below) in
-    record {
+    let same : own ≡ shows.own = name_same own shows.own (named ∙ ap name_of shows.below) in record {
       own = shows.own;
       below = shows.below;
       numbered = shows.numbered;
@@ -82,9 +86,39 @@ among_alone view dir kind most names listed path token own named among shows =
       after = shows.after;
       seen = shows.seen;
     }
-  where
-    name_same : (one other : Name) → Some one ≡ Some other → one ≡ other
-    name_same one other e = ap (λ (o : Option Name). elim o [ None ↦ one | Some name ↦ name ]) e
+
+-- ---- beside its own family
+
+module _ (view : View) (dir : Text) (naming : Naming) (names : List Name) (listed : ℤ) (path : Text) (token : ℤ) where
+  abbrev Stands : Type 0
+  Stands = StandsBy view dir naming names listed path token
+
+  pub unnamed_never : None ≡ name_of (path_of path) → Stands → ⊥
+  unnamed_never none stands = true≢false (sym (ap is_some (none ∙ ap name_of stands.shows.below)))
+
+  module _ (kind : Kind) (most : ℕ) (own : Name) (is : kind ≡ kind_in naming) (as_many : most ≡ most_in naming)
+      (named : Some own ≡ name_of (path_of path)) where
+    pub lease_by : Stands → ShowsLease view dir kind most names listed path token
+    lease_by stands =
+        subst (λ (m : ℕ). ShowsLease view dir kind m names listed path token) (sym as_many)
+        (subst (λ (k : Kind). ShowsLease view dir k (most_in naming) names listed path token) (sym is) stands.shows)
+
+    -- as many are before it
+    pub before_never : AreBefore (λ name. Among name names) kind own most → Stands → ⊥
+    before_never are stands =
+        let lease = lease_by stands in
+        let same : own ≡ lease.own = name_same own lease.own (named ∙ ap name_of lease.below) in
+        lease.among (subst (λ (n : Name). AreBefore (λ name. Among name names) kind n most) same are)
+
+    -- fewer are, and it stands first among no rivals
+    pub stands_among : is_mixed naming names ≡ false → IsAmongOf kind most names own
+        → ShowsStanding view dir (record { own = kind.own; against = [] }) names listed path token → Stands
+    stands_among unmixed among shows = record {
+      unmixed = unmixed;
+      shows = subst (λ (k : Kind). ShowsLease view dir k (most_in naming) names listed path token) is
+          (subst (λ (m : ℕ). ShowsLease view dir kind m names listed path token) as_many
+          (among_alone view dir kind most names listed path token own named among shows));
+    }
 
 -- ---- one may hold at once
 

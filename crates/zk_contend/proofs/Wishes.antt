@@ -1,7 +1,9 @@
 -- What is wanted at a place, and what becomes of one by an answer that is about it.
-use Rattle.std.proofs.Common.{ℕ, ℤ, ◌≡◌, ◌∙◌, true, false, arith, List, [], ◌∷◌, length, Option, sym, refl, subst, true≢false}
-use Rattle.std.specs.List.{list_all}
-use Rattle.zk_nodes.specs.Path.{Text}
+use Rattle.std.proofs.Common.{ℕ, ℤ, ◌≡◌, ◌∙◌, inl, inr, Bool, true, false, arith, List, [], ◌∷◌, length, Option}
+use Rattle.std.proofs.Common.{None, sym, refl, ap, subst, true≢false}
+use Rattle.std.specs.List.{list_all, list_any}
+use Rattle.zk_nodes.specs.Path.{Text, Name, path_of, name_of}
+use Rattle.zk_conclusions.specs.Numbers.{Kind}
 use Rattle.zk_turns.specs.View.{View}
 use Rattle.zk_turns.specs.Turns.{Outcome}
 use Rattle.zk_contend.specs.declared.contender.LockContender.{LockContender}
@@ -12,11 +14,12 @@ use Rattle.zk_contend.specs.declared.place.Ask.TheVariants.{List as ListsAgain, 
 use Rattle.zk_contend.specs.declared.place.Place.{Place}
 use Rattle.zk_contend.specs.declared.refused.Obstacle.{Obstacle}
 use Rattle.zk_contend.specs.declared.refused.Obstacle.TheVariants.{Code, TooManyWatches, TooLarge, SessionClosed, NumbersUsedUp, MixedNames}
+use Rattle.zk_contend.specs.Contenders.{is_listing}
 use Rattle.zk_contend.specs.Dues.{RestsBy, RestsListed, StandsAt, WantsBy, WantsListed}
-use Rattle.zk_contend.specs.Places.{shows_node}
-use Rattle.zk_contend.specs.Settling.{moved, Becomes, Hears}
+use Rattle.zk_contend.specs.Places.{shows_node, IsBehindOne, IsBehindWhere}
+use Rattle.zk_contend.specs.Settling.{clearing, found, is_surplus, moved, Becomes, Hears, IsFound}
 use Rattle.zk_contend.specs.Standings.{is_mixed_in, IsObstacle, IsStuckIn}
-use Rattle.zk_contend.specs.inner.Abouts.{is_about_place}
+use Rattle.zk_contend.specs.inner.Abouts.{is_about_place, IsSurplusOf}
 
 -- a list of no length
 pub no_items : {X : Type 0} (items : List X) → length items ≡ 0 → items ≡ []
@@ -56,6 +59,10 @@ about_place ListsAgain lists reads = absurd (lists refl)
 about_place (ReadBehind at) lists reads = absurd (reads at refl)
 about_place ask lists reads = refl
 
+pub not_listing : (ask : Ask) → (ask ≡ ListsAgain → ⊥) → is_listing ask ≡ true → ⊥
+not_listing ListsAgain other is = other refl
+not_listing ask other is = true≢false (sym is)
+
 -- nothing is in its way
 pub no_obstacle : {A : Type 0} (view : View) (dir : Text) (naming : Naming) (place : Place A) → is_mixed_in naming place ≡ false
     → ¬ (IsStuckIn view dir naming place) → (why : Obstacle) → IsObstacle view dir naming place why → ⊥
@@ -65,3 +72,22 @@ no_obstacle view dir naming place unmixed free (Code code) is = is
 no_obstacle view dir naming place unmixed free TooManyWatches is = is
 no_obstacle view dir naming place unmixed free TooLarge is = is
 no_obstacle view dir naming place unmixed free SessionClosed is = is
+
+-- A node is to be deleted; or the least is the place.
+module _ {A : Type 0} (dir : Text) (names : List Name) (front least : Name) (place : Option (Place A)) where
+  pub found_surplus : (is_given_up : Bool) (name : Name) → IsSurplusOf names front least is_given_up name → place ≡ clearing dir name
+      → IsFound dir names front least is_given_up place
+  found_surplus true name is e = e ∙ ap (clearing dir) is
+  found_surplus false name is e = inl (name, is.0, is.1, e)
+
+  pub found_least : (is_given_up : Bool) → is_given_up ≡ false → list_any (is_surplus front least) names ≡ false
+      → place ≡ found dir least → IsFound dir names front least is_given_up place
+  found_least true stays none e = absurd (true≢false stays)
+  found_least false stays none e = inr (none, e)
+
+-- a path with no name waits for nobody
+pub nobody_named : (is_mixed : Bool) (dir : Text) (kind : Kind) (most : ℕ) (names : List Name) (own : Text) (behind : List Text)
+    → None ≡ name_of (path_of own) → behind ≡ [] → IsBehindWhere is_mixed dir kind most names own behind
+nobody_named true dir kind most names own behind unnamed none = none
+nobody_named false dir kind most names own behind unnamed none =
+    subst (λ (o : Option Name). IsBehindOne dir kind most names o behind) unnamed none

@@ -15,7 +15,7 @@ use zk_jute::{BytesRef, Cursor, List, Record, TakeError, Then, take};
 use zk_records::Acl;
 
 /// Why bytes are no ACL.
-#[derive(Clone, Copy, Debug)]
+#[derive(Clone, Copy)]
 pub enum AclFault {
     /// They spell no vector of ACL entries, one without an entry, or one with more after it.
     NotAcl,

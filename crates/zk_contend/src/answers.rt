@@ -4,7 +4,7 @@ ghost use Rattle.std.specs.Prelude.{◌≡◌, true, IfOk, OnErr, OnOk};
 ghost use Rattle.zk_records.specs.Codes.{code_number};
 ghost use Rattle.zk_conversation.specs.Views.{code_result};
 ghost use Rattle.zk_client.specs.Views.{call_result_view, outcome_view};
-ghost use Rattle.zk_contend.specs.Settling.{cleared, fenced, is_gone, is_others, is_unread_by, left_by, lost, moved, own_read};
+ghost use Rattle.zk_contend.specs.Settling.{cleared, fenced, is_gone, left_by, lost, own_read};
 ghost use Rattle.zk_contend.specs.Settling.{unlisted, unlisted_by, Becomes, Hears, IsListed, IsListedAt};
 ghost use Rattle.zk_contend.specs.inner.Abouts.{is_about_place};
 
@@ -67,43 +67,21 @@ fn left_by<A: Allocator>(outcome: &Outcome<A>) -> Option<Place<A>>
     }
 }
 
-/// Whether the place is not there, or is another session's, by a read of it.
-fn is_others<A: Allocator>(session: i64, reply: &CallResult<A>) -> bool
-    ensures { result ≡ is_others session (call_result_view reply.now) }
-{
-    match reply {
-        CallResult::Data { stat, .. } => stat.ephemeral_owner != session,
-        CallResult::Code(code) => code.is_no_node(),
-        _ => false,
-    }
-}
-
-/// The place after a read of it.
+/// The place after a read of it: whether it is not there, or is another session's.
 fn own_read<A: Allocator>(session: i64, outcome: &Outcome<A>) -> Option<Place<A>>
     ensures { result ≡ own_read session (outcome_view outcome.now) }
 {
     match outcome {
-        Outcome::Replied { result, .. } => {
-            if is_others(session, result) {
-                return Some(Place::Entering);
-            }
-            None
-        }
+        Outcome::Replied {
+            result: CallResult::Data { stat, .. },
+            ..
+        } if stat.ephemeral_owner != session => Some(Place::Entering),
+        Outcome::Replied {
+            result: CallResult::Code(code),
+            ..
+        } if code.is_no_node() => Some(Place::Entering),
         _ => None,
     }
-}
-
-/// Whether one that it waits for is not there, or is not for this session to read, by a read of it.
-fn is_unread<A: Allocator>(outcome: &Outcome<A>) -> bool
-    ensures { result ≡ is_unread_by (outcome_view outcome.now) }
-{
-    matches!(
-        outcome,
-        Outcome::Replied {
-            result: CallResult::Code(_),
-            ..
-        }
-    )
 }
 
 impl<A: Allocator + Copy> LockContender<A> {
@@ -141,15 +119,6 @@ impl<A: Allocator + Copy> LockContender<A> {
         }
     }
 
-    /// Takes the next place, if there is one.
-    fn go(&mut self, next: Option<Place<A>>)
-        ensures { self.new ≡ record self.old { place = moved self.old.place next } }
-    {
-        if let Some(place) = next {
-            self.place = place;
-        }
-    }
-
     /// Hears an answer that is about the place.
     fn hear_of_place(
         &mut self,
@@ -163,7 +132,9 @@ impl<A: Allocator + Copy> LockContender<A> {
         ensures rest { self.new ≡ record self.old { place = self.new.place } }
     {
         let next = self.next_place(session, ask, outcome)?;
-        self.go(next);
+        if let Some(place) = next {
+            self.place = place;
+        }
         Ok(())
     }
 
@@ -176,11 +147,15 @@ impl<A: Allocator + Copy> LockContender<A> {
         }
     }
 
-    /// Hears of a read of one that it waits for.
+    /// Hears of a read of one that it waits for: whether that is not there, or is not for this session to read.
     fn hear_of_behind(&mut self, outcome: &Outcome<A>)
         ensures { self.new ≡ record self.old { place = unlisted_by (outcome_view outcome.now) self.old.place } }
     {
-        if is_unread(outcome) {
+        if let Outcome::Replied {
+            result: CallResult::Code(_),
+            ..
+        } = outcome
+        {
             self.forget_listing();
         }
     }

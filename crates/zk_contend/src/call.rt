@@ -4,32 +4,14 @@ ghost use Rattle.std.specs.Prelude.{◌≡◌, IfOk};
 ghost use Rattle.std.specs.Option.{option_map};
 ghost use Rattle.zk_conversation.specs.Views.{call_view, mode_number};
 ghost use Rattle.zk_contend.specs.Acls.{create_body, create_with};
-ghost use Rattle.zk_contend.specs.Dues.{acl_of, behind_or, call_about, call_asked, path_asked};
+ghost use Rattle.zk_contend.specs.Dues.{acl_of, call_asked, path_asked};
 
 use crate::contender::LockContender;
-use crate::listed::Listed;
 use crate::made::copied;
 use crate::place::{Ask, Place};
 use std::alloc::{AllocError, Allocator};
 use zk_client::{Call, CreateMode, Path, RawOperation};
 use zk_nodes::copied_data;
-
-/// The path of one that it waits for, at this place of theirs, and the directory if there is none.
-fn behind_or<'a, A: Allocator>(
-    directory: &'a Path<A>,
-    listing: &'a Option<Listed<A>>,
-    place: usize,
-) -> &'a Path<A>
-    ensures { result.now ≡ behind_or directory.now listing.now place }
-{
-    match listing {
-        Some(listed) => match listed.behind.get(place) {
-            Some(path) => path,
-            None => directory,
-        },
-        None => directory,
-    }
-}
 
 /// The path that this is about.
 fn path_asked<'a, A: Allocator>(
@@ -43,9 +25,16 @@ fn path_asked<'a, A: Allocator>(
         (Place::Making { path }, Ask::Make) => path,
         (Place::Clearing { leaving }, Ask::Clear) => leaving,
         (Place::At { own, listing: _ }, Ask::ReadOwn) => own,
-        (Place::At { own: _, listing }, Ask::ReadBehind { place }) => {
-            behind_or(directory, listing, place)
-        }
+        (
+            Place::At {
+                own: _,
+                listing: Some(listed),
+            },
+            Ask::ReadBehind { place },
+        ) => match listed.behind.get(place) {
+            Some(path) => path,
+            None => directory,
+        },
         (Place::Leaving { own }, Ask::Leave) => own,
         _ => directory,
     }
@@ -95,17 +84,16 @@ impl<A: Allocator + Copy> LockContender<A> {
                 self.create(&self.entry, data, CreateMode::EphemeralSequential)
             }
             Ask::Make | Ask::Fence => self.create(path, None, CreateMode::Persistent),
-            Ask::Look | Ask::List => {
+            _ => {
                 let path = copied(self.alloc, path)?;
-                Ok(Call::GetChildren { path, watch: false })
-            }
-            Ask::ReadOwn | Ask::ReadBehind { .. } => {
-                let path = copied(self.alloc, path)?;
-                Ok(Call::GetData { path, watch: true })
-            }
-            Ask::Clear | Ask::Leave => {
-                let path = copied(self.alloc, path)?;
-                Ok(Call::Delete { path, version: -1 })
+                match ask {
+                    Ask::ReadOwn | Ask::ReadBehind { .. } => Ok(Call::GetData {
+                        path,
+                        watch: true,
+                    }),
+                    Ask::Clear | Ask::Leave => Ok(Call::Delete { path, version: -1 }),
+                    _ => Ok(Call::GetChildren { path, watch: false }),
+                }
             }
         }
     }

@@ -1,12 +1,12 @@
 //! The calls of contenders that were asked and not heard of.
 
-ghost use Rattle.std.specs.Prelude.{◌≡◌, ◌≤◌, ◌+◌, ℕ, true, false, nat_eq, nat_lt, not, is_some, None, Some, IfOk, OnOk};
+ghost use Rattle.std.specs.Prelude.{◌≡◌, ◌≤◌, ◌+◌, ℕ, false, nat_eq, nat_lt, not, None, Some, IfOk, OnOk};
 ghost use Rattle.std.specs.Map.{update};
 ghost use Rattle.std.proofs.Props.{props};
 ghost use Rattle.indexmap.specs.IndexMap.{get};
 ghost use Rattle.zk_contend.specs.Tickets.{first_call};
 
-use crate::roll::{ByTicket, forget_all, has_none, put, take_out};
+use crate::roll::{ByTicket, put};
 use indexmap::IndexMap;
 use std::alloc::{AllocError, Allocator};
 
@@ -40,21 +40,6 @@ impl<A: Allocator + Copy> Calls<A> {
         }
     }
 
-    /// Whether each call was heard of.
-    pub(crate) fn is_empty(&self) -> bool
-        ensures none { result ≡ true → (call : ℕ) → get nat_eq self.now.askers call ≡ None }
-        ensures one { result ≡ false → (call : ℕ) × (is_some (get nat_eq self.now.askers call) ≡ true) }
-    {
-        has_none(&self.askers)
-    }
-
-    /// Whether this call was asked and not heard of.
-    pub(crate) fn has(&self, call: u64) -> bool
-        ensures { result ≡ is_some (get nat_eq self.now.askers call) }
-    {
-        self.askers.contains_key(&call)
-    }
-
     /// The contender of this ticket asks a call: its ticket, which no other call has or had. An error means that memory ran out, or that
     /// the tickets are used up.
     pub(crate) fn ask(&mut self, ticket: u64) -> Result<u64, AllocError>
@@ -71,22 +56,5 @@ impl<A: Allocator + Copy> Calls<A> {
         put(&mut self.askers, number, ticket)?;
         self.next = next;
         Ok(number)
-    }
-
-    /// This call is heard of: the ticket of the contender that asked it.
-    pub(crate) fn hear(&mut self, call: u64) -> Option<u64>
-        ensures found { result ≡ get nat_eq self.old.askers call }
-        ensures rest { (other : ℕ) → get nat_eq self.new.askers other ≡ update nat_eq (get nat_eq self.old.askers) call None other }
-        ensures next { self.new.next ≡ self.old.next }
-    {
-        take_out(&mut self.askers, call)
-    }
-
-    /// None is to be heard of any more.
-    pub(crate) fn forget(&mut self)
-        ensures none { (call : ℕ) → get nat_eq self.new.askers call ≡ None }
-        ensures next { self.new.next ≡ self.old.next }
-    {
-        forget_all(&mut self.askers);
     }
 }

@@ -4,7 +4,8 @@ use crate::calls::Calls;
 use crate::contender::LockContender;
 use crate::kept::is_ready;
 use crate::roll::{
-    Roll, ask_at, close_each, give_up_at, has_none, hear_at, note_each, put, renew_each, tell_each,
+    Roll, ask_at, close_each, forget_all, give_up_at, has_none, hear_at, note_each, put,
+    renew_each, take_out, tell_each,
 };
 use crate::status::LockStatus;
 use crate::stirred::Stirred;
@@ -57,7 +58,7 @@ impl<A: Allocator + Copy> Contenders<A> {
         ensures otherwise { result ≡ false → ((ticket : ℕ) × (is_some (one_of self.now ticket) ≡ true))
             ⊎ ((call : ℕ) × (is_some (asker_of self.now call) ≡ true)) }
     {
-        has_none(&self.all) && self.calls.is_empty()
+        has_none(&self.all) && has_none(&self.calls.askers)
     }
 
     /// A contender joins, unless another one has the ticket: it says whether it does. An error means that memory ran out, and it did not.
@@ -69,9 +70,13 @@ impl<A: Allocator + Copy> Contenders<A> {
         ensures calls { KeepsCalls self.old self.new }
     {
         if self.all.contains_key(&ticket) {
+            drop(contender);
             return Ok(false);
         }
-        self.stirred.add(ticket)?;
+        if let Err(fault) = self.stirred.add(ticket) {
+            drop(contender);
+            return Err(fault);
+        }
         put(&mut self.all, ticket, contender)?;
         Ok(true)
     }
@@ -97,7 +102,7 @@ impl<A: Allocator + Copy> Contenders<A> {
     pub fn has_asked(&self, ticket: u64) -> bool
         ensures { result ≡ is_some (asker_of self.now ticket) }
     {
-        self.calls.has(ticket)
+        self.calls.askers.contains_key(&ticket)
     }
 
     /// Hears the outcome of the call of this ticket: the contender that asked it does, and no other. If there is no such call, nothing
@@ -111,16 +116,12 @@ impl<A: Allocator + Copy> Contenders<A> {
     ) -> Result<(), AllocError>
         ensures { OnOk result (Hears (view_of client.now) now ticket (outcome_view outcome) self.old self.new) }
     {
-        match self.calls.hear(ticket) {
-            Some(asker) => {
-                self.stirred.add(asker)?;
-                hear_at(&mut self.all, asker, client, now, outcome)
-            }
-            None => {
-                drop(outcome);
-                Ok(())
-            }
-        }
+        let Some(asker) = take_out(&mut self.calls.askers, ticket) else {
+            drop(outcome);
+            return Ok(());
+        };
+        hear_at(&mut self.all, asker, client, now, outcome)?;
+        self.stirred.add(asker)
     }
 
     /// Notes a report of the client. Each report is to be given to it. An error is that of [`hear`](Contenders::hear).
@@ -197,7 +198,7 @@ impl<A: Allocator + Copy> Contenders<A> {
         ensures stirs { OnOk result (StirsAll self.new) }
         ensures calls { ForgetsCalls self.old self.new }
     {
-        self.calls.forget();
+        forget_all(&mut self.calls.askers);
         renew_each(&mut self.all);
         self.stirred.add_all(&self.all)
     }
@@ -208,7 +209,7 @@ impl<A: Allocator + Copy> Contenders<A> {
         ensures stirs { OnOk result (StirsAll self.new) }
         ensures calls { ForgetsCalls self.old self.new }
     {
-        self.calls.forget();
+        forget_all(&mut self.calls.askers);
         close_each(&mut self.all);
         self.stirred.add_all(&self.all)
     }

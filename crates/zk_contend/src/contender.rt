@@ -6,7 +6,7 @@ ghost use Rattle.zk_client.specs.Clients.{view_of};
 ghost use Rattle.zk_nodes.specs.Path.{child_text};
 ghost use Rattle.zk_nodes.specs.PathFault.{child_fault};
 ghost use Rattle.zk_nodes.specs.declared.path_fault.PathFault.TheVariants.{Memory};
-ghost use Rattle.zk_contend.specs.Contenders.{entry_fault, is_entering, is_listing, is_named, leaves};
+ghost use Rattle.zk_contend.specs.Contenders.{entry_fault, is_named};
 ghost use Rattle.zk_contend.specs.Places.{shows_node};
 ghost use Rattle.zk_contend.specs.Standings.{waiting, waits_for};
 
@@ -14,11 +14,10 @@ use crate::acl::AccessList;
 use crate::kept::{session_of, shows_node, shows_own};
 use crate::lease::token_by;
 use crate::listed::Listed;
-use crate::made::entering;
 use crate::mixed::is_mixed;
 use crate::naming::Naming;
 use crate::place::{Ask, Place};
-use crate::refused::{Obstacle, Refused, later, refused_after};
+use crate::refused::{Obstacle, Refused, refusal_of, refused_for};
 use crate::status::{LockStatus, news_of, without_refusal};
 use std::alloc::{AllocError, Allocator, Global};
 use std::mem;
@@ -51,7 +50,7 @@ pub struct LockContender<A: Allocator + Copy = Global> {
 }
 
 impl<A: Allocator + Copy> LockContender<A> {
-    ghost use Rattle.std.specs.Prelude.{◌≡◌, ◌≢◌, ◌≤◌, ◌+◌, ℤ, true, false, length, None, Some, IfErr, IfOk, OnErr, OnOk, IfSome};
+    ghost use Rattle.std.specs.Prelude.{◌≡◌, ◌≢◌, ◌≤◌, ◌+◌, ℕ, ℤ, true, false, length, None, Some, IfErr, IfOk, OnErr, OnOk, IfSome};
     ghost use Rattle.zk_nodes.specs.declared.path_fault.PathFault.TheVariants.{Memory};
     ghost use Rattle.std.specs.Option.{option_copied, option_map};
     ghost use Rattle.zk_client.specs.Clients.{view_of};
@@ -60,10 +59,11 @@ impl<A: Allocator + Copy> LockContender<A> {
     ghost use Rattle.zk_contend.specs.Dues.{call_asked, IsAtRest, StandsAt};
     ghost use Rattle.zk_contend.specs.declared.status.LockStatus.{LockStatus};
     ghost use Rattle.zk_contend.specs.Standings.{is_left, news_of, otherwise, standing_in, told_after};
-    ghost use Rattle.zk_contend.specs.Standings.{IsOtherwise, IsStuckAt, IsStuckBy, IsStuckIn, IsUnshown, ShowsContender, TellsHeld};
-    ghost use Rattle.zk_contend.specs.Standings.{is_mixed_in, IsObstacle};
+    ghost use Rattle.zk_contend.specs.Standings.{IsObstacle, IsOtherwise, ShowsContender, TellsHeld};
+    ghost use Rattle.zk_contend.specs.Hearing.{refused_for};
     ghost use Rattle.zk_contend.specs.Namings.{is_mixed};
     ghost use Rattle.zk_contend.specs.declared.refused.Obstacle.{Obstacle};
+    ghost use Rattle.zk_contend.specs.declared.place.Place.TheVariants.{At};
     ghost use Rattle.zk_contend.specs.Contenders.{closed, forgotten, given_up, has_left, is_about, is_at, is_behind, noted, own_of};
     ghost use Rattle.zk_contend.specs.Contenders.{contender_fault, renewed};
     ghost use Rattle.zk_contend.specs.Contenders.{IsAsked, IsFresh, IsHeard, IsHeardOf, IsRefusal};
@@ -178,51 +178,6 @@ impl<A: Allocator + Copy> LockContender<A> {
         }
     }
 
-    /// Whether the place is watched, and does not hold.
-    fn is_unshown(&self, client: &Client<A>, own: &Path<A>, listed: &Listed<A>) -> bool
-        ensures yes { result ≡ true → IsUnshown (view_of client.now) self.now.directory self.now.naming own.now listed.now }
-        ensures no { result ≡ false → ¬ (IsUnshown (view_of client.now) self.now.directory self.now.naming own.now listed.now) }
-    {
-        if !shows_own(client, own) {
-            return false;
-        }
-        match self.token_at(client, own, listed) {
-            Some(_) => false,
-            None => true,
-        }
-    }
-
-    fn is_stuck_at(&self, client: &Client<A>, own: &Path<A>, listed: &Listed<A>) -> bool
-        ensures yes { result ≡ true → IsStuckAt (view_of client.now) self.now.directory self.now.naming own.now listed.now }
-        ensures no { result ≡ false → ¬ (IsStuckAt (view_of client.now) self.now.directory self.now.naming own.now listed.now) }
-    {
-        if !listed.behind.is_empty() {
-            return false;
-        }
-        self.is_unshown(client, own, listed)
-    }
-
-    fn is_stuck_by(&self, client: &Client<A>, own: &Path<A>, listing: &Option<Listed<A>>) -> bool
-        ensures yes { result ≡ true → IsStuckBy (view_of client.now) self.now.directory self.now.naming own.now listing.now }
-        ensures no { result ≡ false → ¬ (IsStuckBy (view_of client.now) self.now.directory self.now.naming own.now listing.now) }
-    {
-        match listing {
-            Some(listed) => self.is_stuck_at(client, own, listed),
-            None => false,
-        }
-    }
-
-    /// Whether it waits for nobody by its listing, the place is watched, and yet it does not hold.
-    fn is_stuck(&self, client: &Client<A>) -> bool
-        ensures yes { result ≡ true → IsStuckIn (view_of client.now) self.now.directory self.now.naming self.now.place }
-        ensures no { result ≡ false → ¬ (IsStuckIn (view_of client.now) self.now.directory self.now.naming self.now.place) }
-    {
-        match &self.place {
-            Place::At { own, listing } => self.is_stuck_by(client, own, listing),
-            _ => false,
-        }
-    }
-
     /// Whether a name of this listing is another family's.
     fn is_mixed_by(&self, listed: &Listed<A>) -> bool
         ensures { result ≡ is_mixed self.now.naming listed.now.names }
@@ -241,53 +196,53 @@ impl<A: Allocator + Copy> LockContender<A> {
         found
     }
 
-    /// Whether a name of its listing is another family's.
-    fn is_mixed(&self) -> bool
-        ensures { result ≡ is_mixed_in self.now.naming self.now.place }
+    /// What is in its way by its listing: a name of another family, or that it waits for nobody, its place is watched, and yet it does not
+    /// hold.
+    fn obstacle_at(&self, client: &Client<A>, own: &Path<A>, listed: &Listed<A>) -> Option<Obstacle>
+        ensures some { IfSome result (IsObstacle (view_of client.now) self.now.directory self.now.naming (At own.now (Some listed.now))) }
+        ensures none { result ≡ None → (why : Obstacle)
+            → ¬ (IsObstacle (view_of client.now) self.now.directory self.now.naming (At own.now (Some listed.now)) why) }
     {
-        match &self.place {
-            Place::At {
-                listing: Some(listed),
-                ..
-            } => self.is_mixed_by(listed),
-            _ => false,
+        if self.is_mixed_by(listed) {
+            return Some(Obstacle::MixedNames);
+        }
+        if !listed.behind.is_empty() {
+            return None;
+        }
+        if !shows_own(client, own) {
+            return None;
+        }
+        match self.token_at(client, own, listed) {
+            Some(_) => None,
+            None => Some(Obstacle::NumbersUsedUp),
         }
     }
 
-    /// What is in its way by its listing.
     fn obstacle(&self, client: &Client<A>) -> Option<Obstacle>
         ensures some { IfSome result (IsObstacle (view_of client.now) self.now.directory self.now.naming self.now.place) }
         ensures none { result ≡ None → (why : Obstacle)
             → ¬ (IsObstacle (view_of client.now) self.now.directory self.now.naming self.now.place why) }
     {
-        if self.is_mixed() {
-            return Some(Obstacle::MixedNames);
+        match &self.place {
+            Place::At {
+                own,
+                listing: Some(listed),
+            } => self.obstacle_at(client, own, listed),
+            _ => None,
         }
-        if self.is_stuck(client) {
-            return Some(Obstacle::NumbersUsedUp);
-        }
-        None
     }
 
-    /// The refusal after an answer, if it is one.
-    fn refusal(
-        &self,
-        client: &Client<A>,
-        now: u64,
-        ask: Ask,
-        told: Option<Refused>,
-    ) -> Option<Refused>
-        ensures { IsRefusal (view_of client.now) now ask self.now.directory self.now.naming self.now.place told result }
+    /// Why the answer to this is a refusal, if it is one.
+    fn refusal(&self, client: &Client<A>, ask: Ask, told: Option<Obstacle>) -> Option<Obstacle>
+        ensures { (now : ℕ) → IsRefusal (view_of client.now) now ask self.now.directory self.now.naming self.now.place
+            (refused_for now told) (refused_for now result) }
     {
-        if !is_listing(ask) {
-            return told;
-        }
-        match self.obstacle(client) {
-            Some(why) => Some(Refused {
-                why,
-                until: later(now),
-            }),
-            None => told,
+        match ask {
+            Ask::List => match self.obstacle(client) {
+                Some(why) => Some(why),
+                None => told,
+            },
+            _ => told,
         }
     }
 
@@ -302,11 +257,11 @@ impl<A: Allocator + Copy> LockContender<A> {
         ensures heard { OnOk result (IsHeardOf (view_of client.now) now ask (outcome_view outcome) self.old self.new) }
         ensures same { OnErr result (self.new ≡ self.old) }
     {
-        let told = refused_after(now, ask, &outcome);
+        let told = refusal_of(ask, &outcome);
         let session = session_of(client);
         self.take_in(session, ask, outcome)?;
         self.asked = None;
-        self.refused = self.refusal(client, now, ask, told);
+        self.refused = refused_for(now, self.refusal(client, ask, told));
         Ok(())
     }
 
@@ -322,6 +277,7 @@ impl<A: Allocator + Copy> LockContender<A> {
         ensures forgotten { OnErr result (self.new ≡ forgotten self.old) }
     {
         let Some(ask) = self.asked else {
+            drop(outcome);
             return Ok(());
         };
         match self.hear_of(client, now, ask, outcome) {
@@ -404,13 +360,8 @@ impl<A: Allocator + Copy> LockContender<A> {
         ensures { result ≡ otherwise (view_of client.now) self.now }
     {
         match self.refused {
-            Some(refused) => {
-                if self.is_left() {
-                    return self.unrefused(client);
-                }
-                LockStatus::Refused { why: refused.why }
-            }
-            None => self.unrefused(client),
+            Some(refused) if !self.is_left() => LockStatus::Refused { why: refused.why },
+            _ => self.unrefused(client),
         }
     }
 
@@ -425,18 +376,6 @@ impl<A: Allocator + Copy> LockContender<A> {
         }
     }
 
-    /// Notes that it is told how it stands, if there is something to tell.
-    fn take_news(&mut self, stands: LockStatus) -> Option<LockStatus>
-        ensures news { result ≡ news_of self.old.told stands }
-        ensures told { self.new ≡ record self.old { told = told_after self.old.told (news_of self.old.told stands) } }
-    {
-        let news = news_of(self.told, stands);
-        if let Some(stands) = news {
-            self.told = stands;
-        }
-        news
-    }
-
     /// What there is to tell, once after each step of the client and each input: how it stands, if that is not what was told last. So the
     /// step that hears of a loss tells it. That it contends is told only after that it holds.
     pub fn tell(&mut self, client: &Client<A>) -> Option<LockStatus>
@@ -446,7 +385,11 @@ impl<A: Allocator + Copy> LockContender<A> {
         ensures told { self.new ≡ record self.old { told = told_after self.old.told result } }
     {
         let stands = self.stands(client);
-        self.take_news(stands)
+        let news = news_of(self.told, stands);
+        if let Some(stands) = news {
+            self.told = stands;
+        }
+        news
     }
 
     /// The contender is given up, and pauses no more. Its place is deleted, however often the connection is lost; a create that may be
@@ -456,11 +399,18 @@ impl<A: Allocator + Copy> LockContender<A> {
         ensures gives { self.new ≡ given_up self.old }
         ensures tells { (why : Obstacle) → news_of self.new.told (LockStatus.Refused why) ≡ Some (LockStatus.Refused why) }
     {
-        let place = mem::replace(&mut self.place, Place::Left);
-        self.place = leaves(self.asked, place);
+        self.told = without_refusal(self.told);
         self.refused = None;
         self.is_given_up = true;
-        self.told = without_refusal(self.told);
+        self.place = match mem::replace(&mut self.place, Place::Left) {
+            Place::Making { path: _path } => Place::Left,
+            Place::Entering if !matches!(self.asked, Some(Ask::Enter)) => Place::Left,
+            Place::At {
+                own,
+                listing: _listing,
+            } => Place::Leaving { own },
+            place => place,
+        };
     }
 
     /// Whether it is given up, no node of it is there, and no call of it is under way.
@@ -475,7 +425,11 @@ impl<A: Allocator + Copy> LockContender<A> {
     pub fn renew(&mut self)
         ensures { self.new ≡ renewed self.old }
     {
-        self.place = entering(self.is_given_up);
+        self.place = if self.is_given_up {
+            Place::Left
+        } else {
+            Place::Entering
+        };
         self.asked = None;
         self.refused = None;
     }
@@ -529,33 +483,6 @@ fn entry_in<A: Allocator + Copy>(
         return Err(PathFault::TooLong);
     }
     Ok(entry)
-}
-
-fn is_entering(asked: Option<Ask>) -> bool
-    ensures { result ≡ is_entering asked }
-{
-    matches!(asked, Some(Ask::Enter))
-}
-
-/// The place of a contender that is given up.
-fn leaves<A: Allocator>(asked: Option<Ask>, place: Place<A>) -> Place<A>
-    ensures { result ≡ leaves asked place }
-{
-    match place {
-        Place::Making { path: _path } => Place::Left,
-        Place::Entering if !is_entering(asked) => Place::Left,
-        Place::At {
-            own,
-            listing: _listing,
-        } => Place::Leaving { own },
-        place => place,
-    }
-}
-
-fn is_listing(ask: Ask) -> bool
-    ensures { result ≡ is_listing ask }
-{
-    matches!(ask, Ask::List)
 }
 
 /// Whether the path is one of these.

@@ -31,30 +31,20 @@ fn first_unwatched<A: Allocator + Copy>(client: &Client<A>, behind: &[Path<A>]) 
 }
 
 impl<A: Allocator + Copy> LockContender<A> {
-    /// What is to be asked at its place, by the last listing, if all that it waits for are watched: nothing if there is one, or if it
-    /// holds.
-    fn wants_again(&self, client: &Client<A>, own: &Path<A>, listed: &Listed<A>) -> Option<Ask>
-        requires { list_all (shows_node (view_of client.now)) listed.now.behind.items ≡ true }
+    /// What is to be asked at its place, by the last listing: nothing if it holds, or if each that it waits for is watched.
+    fn wants_listed(&self, client: &Client<A>, own: &Path<A>, listed: &Listed<A>) -> Option<Ask>
         ensures some { IfSome result (λ ask. WantsListed (view_of client.now) self.now own.now listed.now ask) }
         ensures none { result ≡ None → RestsListed (view_of client.now) self.now own.now listed.now }
     {
+        if let Some(place) = first_unwatched(client, listed.behind.as_slice()) {
+            return Some(Ask::ReadBehind { place });
+        }
         if !listed.behind.is_empty() {
             return None;
         }
         match self.token_at(client, own, listed) {
             Some(_) => None,
             None => Some(Ask::List),
-        }
-    }
-
-    /// What is to be asked at its place, by the last listing: nothing if it holds, or if each that it waits for is watched.
-    fn wants_listed(&self, client: &Client<A>, own: &Path<A>, listed: &Listed<A>) -> Option<Ask>
-        ensures some { IfSome result (λ ask. WantsListed (view_of client.now) self.now own.now listed.now ask) }
-        ensures none { result ≡ None → RestsListed (view_of client.now) self.now own.now listed.now }
-    {
-        match first_unwatched(client, listed.behind.as_slice()) {
-            Some(place) => Some(Ask::ReadBehind { place }),
-            None => self.wants_again(client, own, listed),
         }
     }
 

@@ -1,37 +1,18 @@
 //! What a client shows of the nodes of contenders, and whether a call may be asked.
 
 ghost use Rattle.std.specs.Prelude.{◌≡◌};
-ghost use Rattle.zk_cache.specs.Contents.{answer_of};
 ghost use Rattle.zk_client.specs.Clients.{view_of};
-ghost use Rattle.zk_contend.specs.Places.{is_node, is_of, is_ready, shows_node, shows_own};
+ghost use Rattle.zk_contend.specs.Places.{is_ready, shows_node, shows_own};
 
 use std::alloc::Allocator;
 use zk_client::{Client, DataAnswer, MOST_PENDING, Mark, Path, State};
-
-fn is_node<A: Allocator>(answer: &DataAnswer<A>) -> bool
-    ensures { result ≡ is_node (answer_of answer.now) }
-{
-    match answer {
-        DataAnswer::Absent => false,
-        DataAnswer::Known(_) | DataAnswer::Full(_, _) => true,
-    }
-}
-
-fn is_of<A: Allocator>(session: i64, answer: &DataAnswer<A>) -> bool
-    ensures { result ≡ is_of session (answer_of answer.now) }
-{
-    match answer {
-        DataAnswer::Absent => false,
-        DataAnswer::Known(stat) | DataAnswer::Full(_, stat) => stat.ephemeral_owner == session,
-    }
-}
 
 /// Whether the node is kept and good.
 pub(crate) fn shows_node<A: Allocator + Copy>(client: &Client<A>, path: &Path<A>) -> bool
     ensures { result ≡ shows_node (view_of client.now) path.now }
 {
     match client.peek_data(path) {
-        Some((answer, Mark::Good)) => is_node(answer),
+        Some((DataAnswer::Known(_) | DataAnswer::Full(_, _), Mark::Good)) => true,
         _ => false,
     }
 }
@@ -47,9 +28,10 @@ pub(crate) fn session_of<A: Allocator + Copy>(client: &Client<A>) -> i64
 pub(crate) fn shows_own<A: Allocator + Copy>(client: &Client<A>, path: &Path<A>) -> bool
     ensures { result ≡ shows_own (view_of client.now) path.now }
 {
-    let session = session_of(client);
     match client.peek_data(path) {
-        Some((answer, Mark::Good)) => is_of(session, answer),
+        Some((DataAnswer::Known(stat) | DataAnswer::Full(_, stat), Mark::Good)) => {
+            stat.ephemeral_owner == session_of(client)
+        }
         _ => false,
     }
 }

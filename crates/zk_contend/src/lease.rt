@@ -4,7 +4,7 @@ ghost use Rattle.std.specs.Prelude.{◌≡◌, ℤ, true, false, IfSome, None};
 ghost use Rattle.zk_client.specs.Clients.{view_of};
 ghost use Rattle.zk_turns.specs.Meaning.{Among};
 ghost use Rattle.zk_conclusions.specs.Kinds.{kind_of};
-ghost use Rattle.zk_contend.specs.Leases.{AreBefore, IsAmongOf, ShowsLease, StandsBy};
+ghost use Rattle.zk_contend.specs.Leases.{AreBefore, IsAmongOf, StandsBy};
 
 use crate::mixed::is_mixed;
 use crate::naming::Naming;
@@ -35,31 +35,6 @@ fn are_before<A: Allocator>(
     true
 }
 
-/// The token of the place at this path, if it is shown that fewer than `most` rivals are before it by this listing.
-fn token_among<A: Allocator + Copy>(
-    client: &Client<A>,
-    listing: &Listing<'_, A>,
-    kind: &Kind<'_>,
-    most: u32,
-    path: &Path<A>,
-) -> Option<i64>
-    ensures shows { IfSome result (λ token. ShowsLease (view_of client.now) listing.now.directory.now (kind_of kind.now) most
-        listing.now.names.now listing.now.zxid path.now token) }
-    ensures none { result ≡ None → (token : ℤ) → ¬ (ShowsLease (view_of client.now) listing.now.directory.now (kind_of kind.now) most
-        listing.now.names.now listing.now.zxid path.now token) }
-{
-    let own = path.name()?;
-    if are_before(listing, kind, own, most) {
-        return None;
-    }
-    let alone = Kind {
-        own: kind.own,
-        against: &NOBODY,
-    };
-    let standing = Standing::of(client, listing, &alone, path)?;
-    Some(standing.token())
-}
-
 /// The token of the place of a contender at this path, if this listing shows that it holds: no name of another family is there, and fewer
 /// than may hold at once are before it.
 pub(crate) fn token_by<A: Allocator + Copy>(
@@ -73,9 +48,18 @@ pub(crate) fn token_by<A: Allocator + Copy>(
     ensures none { result ≡ None → (token : ℤ) → ¬ (StandsBy (view_of client.now) listing.now.directory.now naming
         listing.now.names.now listing.now.zxid path.now token) }
 {
-    let token = token_among(client, listing, &naming.kind(), naming.most(), path)?;
+    let own = path.name()?;
+    let kind = naming.kind();
+    if are_before(listing, &kind, own, naming.most()) {
+        return None;
+    }
     if is_mixed(listing, naming) {
         return None;
     }
-    Some(token)
+    let alone = Kind {
+        own: kind.own,
+        against: &NOBODY,
+    };
+    let standing = Standing::of(client, listing, &alone, path)?;
+    Some(standing.token())
 }

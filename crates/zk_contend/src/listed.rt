@@ -3,7 +3,7 @@
 ghost use Rattle.std.specs.Prelude.{◌≡◌, IfOk};
 ghost use Rattle.zk_conclusions.specs.Kinds.{kind_of};
 ghost use Rattle.zk_contend.specs.Namings.{is_mixed, kind_in, most_in};
-ghost use Rattle.zk_contend.specs.Places.{IsBehind, IsBehindName, IsBehindWhere, path_in};
+ghost use Rattle.zk_contend.specs.Places.{IsBehindName, IsBehindWhere, path_in};
 
 use crate::mixed::is_mixed;
 use crate::naming::Naming;
@@ -52,30 +52,13 @@ fn behind_of<A: Allocator + Copy>(
         let Some(name) = listing.predecessor(kind, last) else {
             return Ok(Vec::new(alloc));
         };
-        let Some(path) = path_in(alloc, listing.directory, name)? else {
-            return Ok(Vec::new(alloc));
-        };
-        behind.push(path)?;
+        match path_in(alloc, listing.directory, name)? {
+            Some(path) => behind.push(path)?,
+            None => return Ok(Vec::new(alloc)),
+        }
         last = name;
     }
     Ok(behind)
-}
-
-/// The paths of the last `most` rivals before the place; none if there are fewer.
-fn behind_in<A: Allocator + Copy>(
-    alloc: A,
-    listing: &Listing<'_, A>,
-    kind: &Kind<'_>,
-    most: u32,
-    own: &Path<A>,
-) -> Result<Vec<Path<A>, A>, AllocError>
-    ensures { IfOk result (λ behind. IsBehind listing.now.directory.now (kind_of kind.now) most listing.now.names.now own.now
-        behind.items) }
-{
-    match own.name() {
-        Some(name) => behind_of(alloc, listing, kind, most, name),
-        None => Ok(Vec::new(alloc)),
-    }
 }
 
 /// The paths of those for which the place waits: nobody beside a name of another family.
@@ -88,10 +71,13 @@ fn waited_for<A: Allocator + Copy>(
     ensures { IfOk result (λ behind. IsBehindWhere (is_mixed naming listing.now.names.now) listing.now.directory.now
         (kind_in naming) (most_in naming) listing.now.names.now own.now behind.items) }
 {
+    let Some(name) = own.name() else {
+        return Ok(Vec::new(alloc));
+    };
     if is_mixed(listing, naming) {
         return Ok(Vec::new(alloc));
     }
-    behind_in(alloc, listing, &naming.kind(), naming.most(), own)
+    behind_of(alloc, listing, &naming.kind(), naming.most(), name)
 }
 
 /// The listing with these names.

@@ -1,15 +1,11 @@
 //! What becomes of the place of a contender after creates.
 
-ghost use Rattle.std.specs.Prelude.{◌≡◌, IfOk};
+ghost use Rattle.std.specs.Prelude.{◌≡◌, Some, IfOk};
 ghost use Rattle.zk_records.specs.Codes.{code_number};
 ghost use Rattle.zk_conversation.specs.Views.{code_result};
 ghost use Rattle.zk_client.specs.Views.{outcome_view};
-ghost use Rattle.zk_nodes.specs.Path.{path_of};
-ghost use Rattle.zk_nodes.specs.inner.Path.{is_below};
-ghost use Rattle.zk_conclusions.specs.Tags.{has_tag};
-ghost use Rattle.zk_contend.specs.Hearing.{above, after_made, entered, entering, is_place, made, made_by, place_named};
-ghost use Rattle.zk_contend.specs.Hearing.{placed, unentered, unsent};
-ghost use Rattle.zk_contend.specs.inner.Abouts.{has_front};
+ghost use Rattle.zk_contend.specs.declared.place.Place.TheVariants.{Making};
+ghost use Rattle.zk_contend.specs.Hearing.{above, after_made, entered, entering, is_place, made, made_by, placed, unentered};
 
 use crate::place::Place;
 use std::alloc::{AllocError, Allocator};
@@ -25,32 +21,38 @@ pub(crate) fn copied<A: Allocator + Copy>(alloc: A, path: &Path<A>) -> Result<Pa
     }
 }
 
+/// The node of this path is to be made.
+fn making<A: Allocator + Copy>(alloc: A, path: &str) -> Result<Option<Place<A>>, AllocError>
+    ensures { IfOk result (λ place. place ≡ Some (Making path.now)) }
+{
+    match Path::new(alloc, path) {
+        Ok(path) => Ok(Some(Place::Making { path })),
+        Err(_) => Err(AllocError),
+    }
+}
+
 /// What is to be made once the node of this path is there.
 fn after_made<A: Allocator + Copy>(
     alloc: A,
     directory: &Path<A>,
     path: &Path<A>,
-) -> Result<Place<A>, AllocError>
-    ensures { IfOk result (λ place. place ≡ after_made directory.now path.now) }
+) -> Result<Option<Place<A>>, AllocError>
+    ensures { IfOk result (λ place. place ≡ Some (after_made directory.now path.now)) }
 {
-    if path.as_str() == directory.as_str() {
-        return Ok(Place::Entering);
+    let directory = directory.as_str();
+    if path.as_str() == directory {
+        return Ok(Some(Place::Entering));
     }
-    Ok(Place::Making {
-        path: copied(alloc, directory)?,
-    })
+    making(alloc, directory)
 }
 
 /// The node above this one is to be made first.
 fn above<A: Allocator + Copy>(alloc: A, path: &Path<A>) -> Result<Option<Place<A>>, AllocError>
     ensures { IfOk result (λ place. place ≡ above path.now) }
 {
-    let Some(text) = path.parent() else {
-        return Ok(None);
-    };
-    match Path::new(alloc, text) {
-        Ok(path) => Ok(Some(Place::Making { path })),
-        Err(_) => Err(AllocError),
+    match path.parent() {
+        Some(parent) => making(alloc, parent),
+        None => Ok(None),
     }
 }
 
@@ -68,7 +70,7 @@ fn after_code<A: Allocator + Copy>(
     if code.number() != Code::NodeExists.number() {
         return Ok(None);
     }
-    Ok(Some(after_made(alloc, directory, path)?))
+    after_made(alloc, directory, path)
 }
 
 /// The place after a create of the directory, or of the node of this path above it; none if it stays as it was.
@@ -84,7 +86,7 @@ pub(crate) fn made<A: Allocator + Copy>(
         Outcome::Replied {
             result: CallResult::Created(_) | CallResult::Raw(_),
             ..
-        } => Ok(Some(after_made(alloc, directory, path)?)),
+        } => after_made(alloc, directory, path),
         Outcome::Replied {
             result: CallResult::Code(code),
             ..
@@ -93,60 +95,17 @@ pub(crate) fn made<A: Allocator + Copy>(
     }
 }
 
-fn is_below<A: Allocator>(directory: &Path<A>, path: &Path<A>) -> bool
-    ensures { result ≡ is_below (path_of directory.now) (path_of path.now) }
-{
-    let directory = directory.as_str();
-    match path.parent() {
-        Some(parent) => parent == directory,
-        None => false,
-    }
-}
-
-fn has_tag(front: &str, name: &str) -> bool
-    ensures { result ≡ has_tag front.now name.now }
-{
-    name.starts_with(front)
-}
-
-fn has_front<A: Allocator>(front: &str, path: &Path<A>) -> bool
-    ensures { result ≡ has_front front.now (path_of path.now) }
-{
-    match path.name() {
-        Some(name) => has_tag(front, name),
-        None => false,
-    }
-}
-
 /// Whether the path lies in the directory, and its name begins so.
 fn is_place<A: Allocator>(directory: &Path<A>, front: &str, path: &Path<A>) -> bool
     ensures { result ≡ is_place directory.now front.now path.now }
 {
-    if !is_below(directory, path) {
+    let Some(parent) = path.parent() else {
         return false;
-    }
-    has_front(front, path)
-}
-
-/// The path of this text, if it is that of a place.
-fn place_named<A: Allocator + Copy>(
-    alloc: A,
-    directory: &Path<A>,
-    front: &str,
-    text: &str,
-) -> Result<Option<Path<A>>, AllocError>
-    ensures { IfOk result (λ path. path ≡ place_named directory.now front.now text.now) }
-{
-    match Path::new(alloc, text) {
-        Ok(path) => {
-            if !is_place(directory, front, &path) {
-                return Ok(None);
-            }
-            Ok(Some(path))
-        }
-        Err(PathFault::Memory) => Err(AllocError),
-        Err(_) => Ok(None),
-    }
+    };
+    let Some(name) = path.name() else {
+        return false;
+    };
+    parent == directory.as_str() && name.starts_with(front)
 }
 
 /// No place is there: one is to be made, unless the contender is given up.
@@ -166,16 +125,22 @@ fn placed<A: Allocator + Copy>(
     front: &str,
     is_given_up: bool,
     text: &str,
-) -> Result<Place<A>, AllocError>
-    ensures { IfOk result (λ place. place ≡ placed directory.now front.now is_given_up text.now) }
+) -> Result<Option<Place<A>>, AllocError>
+    ensures { IfOk result (λ place. place ≡ Some (placed directory.now front.now is_given_up text.now)) }
 {
-    let Some(own) = place_named(alloc, directory, front, text)? else {
-        return Ok(Place::Unsure);
-    };
-    if is_given_up {
-        return Ok(Place::Leaving { own });
+    match Path::new(alloc, text) {
+        Ok(own) => {
+            if !is_place(directory, front, &own) {
+                return Ok(Some(Place::Unsure));
+            }
+            if is_given_up {
+                return Ok(Some(Place::Leaving { own }));
+            }
+            Ok(Some(Place::At { own, listing: None }))
+        }
+        Err(PathFault::Memory) => Err(AllocError),
+        Err(_) => Ok(Some(Place::Unsure)),
     }
-    Ok(Place::At { own, listing: None })
 }
 
 /// The place once its create was refused.
@@ -193,19 +158,7 @@ fn unentered<A: Allocator + Copy>(
     if !code.is_no_node() {
         return Ok(None);
     }
-    Ok(Some(Place::Making {
-        path: copied(alloc, directory)?,
-    }))
-}
-
-/// The place if its create was not sent; none if it stays as it was.
-fn unsent<A: Allocator>(is_given_up: bool) -> Option<Place<A>>
-    ensures { result ≡ unsent is_given_up }
-{
-    if is_given_up {
-        return Some(Place::Left);
-    }
-    None
+    making(alloc, directory.as_str())
 }
 
 /// The place after its create; none if it stays as it was.
@@ -222,7 +175,7 @@ pub(crate) fn entered<A: Allocator + Copy>(
         Outcome::Replied {
             result: CallResult::Created(text),
             ..
-        } => Ok(Some(placed(alloc, directory, front, is_given_up, text.as_str())?)),
+        } => placed(alloc, directory, front, is_given_up, text.as_str()),
         Outcome::Replied {
             result: CallResult::Code(code),
             ..
@@ -232,6 +185,7 @@ pub(crate) fn entered<A: Allocator + Copy>(
             result: CallResult::Raw(_),
         } => Ok(Some(Place::Looking { answered: *zxid })),
         Outcome::Replied { .. } | Outcome::ConnectionLoss => Ok(Some(Place::Unsure)),
-        _ => Ok(unsent(is_given_up)),
+        _ if is_given_up => Ok(Some(Place::Left)),
+        _ => Ok(None),
     }
 }

@@ -1,8 +1,8 @@
 //! How the places of contenders are named.
 
-ghost use Rattle.std.specs.Prelude.{◌≡◌, ◌++◌, map, string_bytes, IfOk};
+ghost use Rattle.std.specs.Prelude.{◌≡◌, ◌++◌, string_bytes, IfOk};
 ghost use Rattle.zk_conclusions.specs.Kinds.{kind_of};
-ghost use Rattle.zk_contend.specs.Namings.{behind_guid, before_guid, kind_in, mixed_in, mixed_kind, most_in, own_in, against_in};
+ghost use Rattle.zk_contend.specs.Namings.{behind_guid, before_guid, kind_in, mixed_kind, most_in, own_in};
 
 use std::alloc::{AllocError, Allocator};
 use zk_conclusions::Kind;
@@ -23,7 +23,7 @@ use zk_conclusions::Kind;
 /// All contenders of one lock use names of one family: of kazoo, of Curator's locks, of its latches. A name of another family in the
 /// directory is [`Obstacle::MixedNames`](crate::Obstacle::MixedNames), since its contender does not see this one, and both would hold.
 /// Semaphores of kazoo and of Curator count their leases within a lock: no `Lease` goes into a directory of theirs.
-#[derive(Clone, Copy, Debug)]
+#[derive(Clone, Copy)]
 pub enum Naming {
     /// Of kazoo: a lock, an election, a writer.
     Kazoo,
@@ -107,48 +107,34 @@ impl Naming {
         }
     }
 
-    fn against(self) -> &'static [&'static str]
-        ensures { map (λ marker. marker.now) result.now ≡ against_in self }
+    /// The marker of its own name, and those of the names for which it waits.
+    pub fn kind(self) -> Kind<'static>
+        ensures { kind_of result ≡ kind_in self }
     {
-        match self {
+        let own = self.own();
+        let against: &'static [&'static str] = match self {
             Naming::Kazoo => &KAZOO,
             Naming::KazooReader => &KAZOO_WRITERS,
             Naming::CuratorLatch => &LATCHES,
             Naming::CuratorReader => &CURATOR_WRITERS,
             Naming::Lease { .. } => &LEASES,
             _ => &CURATOR,
-        }
-    }
-
-    fn mixed(self) -> &'static [&'static str]
-        ensures { map (λ marker. marker.now) result.now ≡ mixed_in self }
-    {
-        match self {
-            Naming::Kazoo | Naming::KazooReader => &BESIDE_KAZOO,
-            Naming::CuratorLatch => &BESIDE_LATCHES,
-            Naming::Lease { .. } => &BESIDE_LEASES,
-            _ => &BESIDE_CURATOR,
-        }
-    }
-
-    /// The marker of its own name, and those of the names for which it waits.
-    pub fn kind(self) -> Kind<'static>
-        ensures { kind_of result ≡ kind_in self }
-    {
-        Kind {
-            own: self.own(),
-            against: self.against(),
-        }
+        };
+        Kind { own, against }
     }
 
     /// The marker of its own name, and what is before the digits in names of other families.
     pub(crate) fn others(self) -> Kind<'static>
         ensures { kind_of result ≡ mixed_kind self }
     {
-        Kind {
-            own: self.own(),
-            against: self.mixed(),
-        }
+        let own = self.own();
+        let against: &'static [&'static str] = match self {
+            Naming::Kazoo | Naming::KazooReader => &BESIDE_KAZOO,
+            Naming::CuratorLatch => &BESIDE_LATCHES,
+            Naming::Lease { .. } => &BESIDE_LEASES,
+            _ => &BESIDE_CURATOR,
+        };
+        Kind { own, against }
     }
 
     /// How many of a directory hold at once.

@@ -4,7 +4,7 @@ ghost use Rattle.std.specs.Prelude.{◌≡◌};
 ghost use Rattle.zk_records.specs.Codes.{code_number};
 ghost use Rattle.zk_conversation.specs.Views.{code_result};
 ghost use Rattle.zk_client.specs.Views.{outcome_view};
-ghost use Rattle.zk_contend.specs.Hearing.{is_paused, later, refusal_by, refusal_of, refused_after, refuses};
+ghost use Rattle.zk_contend.specs.Hearing.{is_paused, later, refusal_by, refusal_of, refused_for};
 
 use crate::place::Ask;
 use std::alloc::Allocator;
@@ -14,7 +14,7 @@ use zk_client::{CallResult, Code, Outcome};
 const PAUSE_MS: u64 = 1_000;
 
 /// Why a contender goes on after a second only.
-#[derive(Clone, Copy, Debug)]
+#[derive(Clone, Copy)]
 pub enum Obstacle {
     /// The server answered with the code of this number.
     Code(i32),
@@ -39,34 +39,29 @@ pub(crate) struct Refused {
 }
 
 /// The moment after the pause.
-pub(crate) fn later(now: u64) -> u64
+fn later(now: u64) -> u64
     ensures { result ≡ later now }
 {
     now.saturating_add(PAUSE_MS)
 }
 
-/// Whether a code, other than that no node is there, stops what was asked for.
-fn refuses(ask: Ask, number: i32) -> bool
-    ensures { result ≡ refuses ask number }
-{
-    match ask {
-        Ask::Fence => false,
-        Ask::Make => number != Code::NodeExists.number(),
-        _ => true,
-    }
-}
-
+/// Why a code stops what was asked for: that no node is there never does.
 fn refusal_by(ask: Ask, code: Code) -> Option<Obstacle>
     ensures { result ≡ refusal_by ask (code_result (code_number code)) }
 {
-    if code.is_no_node() || !refuses(ask, code.number()) {
+    let number = code.number();
+    if code.is_no_node() {
         return None;
     }
-    Some(Obstacle::Code(code.number()))
+    match ask {
+        Ask::Fence => None,
+        Ask::Make if number == Code::NodeExists.number() => None,
+        _ => Some(Obstacle::Code(number)),
+    }
 }
 
 /// Why this outcome stops what was asked for, if it does.
-fn refusal_of<A: Allocator>(ask: Ask, outcome: &Outcome<A>) -> Option<Obstacle>
+pub(crate) fn refusal_of<A: Allocator>(ask: Ask, outcome: &Outcome<A>) -> Option<Obstacle>
     ensures { result ≡ refusal_of ask (outcome_view outcome.now) }
 {
     match outcome {
@@ -81,15 +76,11 @@ fn refusal_of<A: Allocator>(ask: Ask, outcome: &Outcome<A>) -> Option<Obstacle>
     }
 }
 
-/// The refusal that this outcome is, if it is one.
-pub(crate) fn refused_after<A: Allocator>(
-    now: u64,
-    ask: Ask,
-    outcome: &Outcome<A>,
-) -> Option<Refused>
-    ensures { result ≡ refused_after now ask (outcome_view outcome.now) }
+/// The refusal for this reason, if there is one.
+pub(crate) fn refused_for(now: u64, why: Option<Obstacle>) -> Option<Refused>
+    ensures { result ≡ refused_for now why }
 {
-    match refusal_of(ask, outcome) {
+    match why {
         Some(why) => Some(Refused {
             why,
             until: later(now),

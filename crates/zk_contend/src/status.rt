@@ -6,7 +6,7 @@ ghost use Rattle.zk_contend.specs.Standings.{is_holding, is_same, is_same_refusa
 use crate::refused::Obstacle;
 
 /// How a contender stands, as its client shows it.
-#[derive(Clone, Copy, Debug)]
+#[derive(Clone, Copy)]
 pub enum LockStatus {
     /// It contends, and it is not known whether it waits. After [`Holds`](LockStatus::Holds) this says that the place is lost.
     Contends,

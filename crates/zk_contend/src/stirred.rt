@@ -4,7 +4,7 @@ ghost use Rattle.std.specs.Prelude.{◌≡◌, ◌++◌, ◌∷◌, [], ℕ, nat
 ghost use Rattle.indexmap.specs.IndexMap.{get, keys};
 ghost use Rattle.zk_client.specs.Clients.{view_of};
 ghost use Rattle.zk_contend.specs.Collections.{is_in, sooner, until_of};
-ghost use Rattle.zk_contend.specs.Dues.{IsAsleep, IsAtRest};
+ghost use Rattle.zk_contend.specs.Dues.{IsAtRest};
 ghost use Rattle.zk_contend.specs.inner.Stirred.{about, first_of, IsDueAt, Keeps, Stays};
 
 use crate::place::Ask;
@@ -34,16 +34,6 @@ fn due_of<A: Allocator + Copy>(
     match all.get(&ticket) {
         Some(contender) => contender.due(client, now),
         None => None,
-    }
-}
-
-/// Whether none is due of it, whatever the moment.
-fn is_asleep<A: Allocator + Copy>(all: &Roll<A>, ticket: u64, client: &Client<A>) -> bool
-    ensures { result ≡ true → IfSome (get nat_eq all.now ticket) (IsAsleep (view_of client.now)) }
-{
-    match all.get(&ticket) {
-        Some(contender) => contender.is_asleep(client),
-        None => true,
     }
 }
 
@@ -129,10 +119,12 @@ impl<A: Allocator + Copy> Stirred<A> {
             (Keeps (view_of client.now) (get nat_eq all.now ticket) ticket self.old.awake.items self.new.awake.items) }
         ensures untold { self.new.untold ≡ self.old.untold }
     {
-        if is_asleep(all, ticket, client) {
-            return Ok(());
+        match all.get(&ticket) {
+            Some(contender) if !contender.is_asleep(client) => {
+                self.awake.push_back(ticket).map_err(AllocError::from)
+            }
+            _ => Ok(()),
         }
-        self.awake.push_back(ticket).map_err(AllocError::from)
     }
 
     /// The first of those that are looked at of which a call is due. Those before it that sleep are not looked at again, and it is not. An

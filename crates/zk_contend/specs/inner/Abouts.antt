@@ -1,9 +1,10 @@
 -- What contracts of private functions say: nobody has to believe it.
-use Rattle.std.specs.Prelude.{Bool, true, false, [], ◌∷◌}
-use Rattle.zk_nodes.specs.Path.{Name, NodePath}
-use Rattle.zk_conclusions.specs.Tags.{has_tag}
+use Rattle.std.specs.Prelude.{◌≡◌, Bool, true, false, List}
+use Rattle.zk_nodes.specs.Path.{Name}
+use Rattle.zk_turns.specs.Meaning.{Among}
 use Rattle.zk_contend.specs.declared.place.Ask.{Ask}
 use Rattle.zk_contend.specs.declared.place.Ask.TheVariants.{List as Lists, ReadBehind}
+use Rattle.zk_contend.specs.Settling.{is_surplus}
 
 -- what was asked is about the place itself
 abbrev pub is_about_place : Ask → Bool
@@ -11,7 +12,7 @@ is_about_place Lists = false
 is_about_place (ReadBehind place) = false
 is_about_place _ = true
 
--- the name of the path begins so
-abbrev pub has_front : (front : Name) → NodePath → Bool
-has_front front [] = false
-has_front front (name ∷ path) = has_tag front name
+-- the node of this name is to be deleted
+abbrev pub IsSurplusOf : (names : List Name) → (front least : Name) → (is_given_up : Bool) → Name → Type 0
+IsSurplusOf names front least true name = name ≡ least
+IsSurplusOf names front least false name = Among name names × (is_surplus front least name ≡ true)

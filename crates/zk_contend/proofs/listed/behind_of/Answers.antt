@@ -19,13 +19,13 @@ returns-in_default g c =
     c.args.most
     c.loop-turn.last.now c.loop-turn.behind.items c.loop-turn.invariant.1 (omega (arith, c.loop-turn-test.true)) first)
 
-pub returns-in_default-2 : goal.returns-in_default-2
-returns-in_default-2 g c =
+pub returns-in-None : goal.returns-in-None
+returns-in-None g c =
     let last : IsPredecessor (kind_of c.args.kind.now) c.args.listing.now.names.now c.loop-turn.last.now c.in-Some.name.now =
     search rules in
     let none : path_in c.args.listing.now.directory.now c.in-Some.name.now ≡ None = search rules in
     subst (λ (b : List Text). IsBehindName c.args.listing.now.directory.now (kind_of c.args.kind.now) c.args.most
-    c.args.listing.now.names.now c.args.own.now b) (sym c.new-in_default-2.ensures.items)
+    c.args.listing.now.names.now c.args.own.now b) (sym c.new-in-None.ensures.items)
     (chain_unnamed (kind_of c.args.kind.now) c.args.listing.now.names.now c.args.own.now c.args.listing.now.directory.now
     c.loop-turn._turn c.args.most
     c.loop-turn.last.now c.in-Some.name.now c.loop-turn.behind.items c.loop-turn.invariant.1 (omega (arith, c.loop-turn-test.true))
@@ -39,7 +39,7 @@ loop-turn-preserved g c =
       search rules,
       subst (λ (b : List Text). IsChain (kind_of c.args.kind.now) c.args.listing.now.names.now c.args.own.now
           c.args.listing.now.directory.now
-          (c.loop-turn._turn + 1) c.in-Some.name.now b) (sym c.in_ok-push.ensures.items)
+          (c.loop-turn._turn + 1) c.in-Some.name.now b) (sym c.in_ok-push-in-Some-2.ensures.items)
           (chain_next (kind_of c.args.kind.now) c.args.listing.now.names.now c.args.own.now c.args.listing.now.directory.now
           c.loop-turn._turn
           c.loop-turn.last.now c.in-Some.name.now c.in-Some-2.path c.loop-turn.behind.items c.loop-turn.invariant.1 last named),

@@ -1,10 +1,14 @@
--- No name is another family's, and it is not stuck: `no_obstacle`.
-use Rattle.std.proofs.Common.{◌∙◌, sym}
+-- The place has this listing, so what is in its way is so by that.
+use Rattle.std.proofs.Common.{◌≡◌, Some, rules, subst}
 use Rattle.zk_client.specs.Clients.{view_of}
-use Rattle.zk_contend.proofs.Wishes.{no_obstacle}
+use Rattle.zk_contend.specs.declared.place.Place.{Place}
+use Rattle.zk_contend.specs.declared.place.Place.TheVariants.{At}
+use Rattle.zk_contend.specs.Standings.{IsObstacle}
 use Rattle.zk_contend.proofs.contender.LockContender.obstacle.Goals as goal
 
-pub returns-clause-none : goal.returns-clause-none
-returns-clause-none g c e =
-    no_obstacle (view_of c.args.client.now) c.args.self.now.directory c.args.self.now.naming c.args.self.now.place
-    (sym c.is_mixed.ensures ∙ c.if-is_mixed.false) (c.is_stuck.ensures.no c.if-is_stuck.false)
+pub returns-in-At-default-Some-clause-none : goal.returns-in-At-default-Some-clause-none
+returns-in-At-default-Some-clause-none g c e why obstacle =
+    let is : c.args.self.now.place ≡ At c.in-At-default-Some.own (Some c.in-At-default-Some.listed) = search rules in
+    c.obstacle_at.ensures.none e why
+    (rw is (subst (λ (place : Place g.row.A.Denot). IsObstacle (view_of c.args.client.now) c.args.self.now.directory
+    c.args.self.now.naming place why) is obstacle))

@@ -3,7 +3,7 @@ use Rattle.std.proofs.Common.{◌≡◌, ◌∙◌, arith, length, refl, sym}
 use Rattle.std.proofs.lemmas.Bool.Decides.{Decides-eqb}
 use Rattle.zk_client.specs.Clients.{view_of}
 use Rattle.zk_contend.proofs.Wishes.{no_items, wants_again}
-use Rattle.zk_contend.proofs.contender.LockContender.wants_again.Goals as goal
+use Rattle.zk_contend.proofs.contender.LockContender.wants_listed.Goals as goal
 
 pub returns-in-None-clause-some : goal.returns-in-None-clause-some
 returns-in-None-clause-some g c =
