@@ -150,8 +150,8 @@ pub enum Action<'a> {
         /// The number that the subject was given.
         ticket: u64,
     },
-    /// A read of the subject with this ticket was refused. It is read again after a second, and over each new connection, and this
-    /// is told once for each new reason.
+    /// A read of the subject with this ticket was refused. It is read again after a second, with [`Refusal::TooLarge`] once more after a
+    /// minute, and this is told once for each new reason.
     Refused {
         /// The number that the subject was given.
         ticket: u64,
@@ -244,8 +244,8 @@ pub enum Refusal {
     Code(Code),
     /// 65,536 paths of the side are watched.
     TooManyWatches,
-    /// The answer is longer than [`longest_answer`](crate::SessionOptions::longest_answer) of the session says. It ends the connection, and
-    /// the subject is read again over the next one: let it go.
+    /// The answer is longer than [`longest_answer`](crate::SessionOptions::longest_answer) of the session says, which ends the connection. It
+    /// is read again after a second, and from then on after a minute.
     TooLarge,
     /// The session is being closed.
     Closed,

@@ -35,6 +35,8 @@ pub enum ErrorKind {
     NotWhole,
     /// The caller's limit has passed before a lock was held: its place is given up.
     LockTimeout,
+    /// A lock is held no more, or was given up already.
+    LockLost,
     /// The path of a lock has a place by other names, or that of a [`Semaphore`](crate::Semaphore) is of a semaphore of kazoo's or Curator's: all
     /// contenders of a path use one kind. The place is given up.
     MixedNames,
@@ -83,6 +85,7 @@ impl ErrorKind {
             | ErrorKind::NotWhole
             | ErrorKind::LockTimeout => true,
             ErrorKind::Fault(_)
+            | ErrorKind::LockLost
             | ErrorKind::NumbersUsedUp
             | ErrorKind::MixedNames
             | ErrorKind::NotNumber
@@ -101,6 +104,7 @@ impl ErrorKind {
             ErrorKind::QueueFull => "call again when some of it was",
             ErrorKind::NotWhole => "it is read on",
             ErrorKind::LockTimeout | ErrorKind::NotNumber => "",
+            ErrorKind::LockLost => "contend again",
             ErrorKind::NumbersUsedUp => "take another path",
             ErrorKind::OtherNumber { .. } => "take the same number everywhere",
             ErrorKind::MixedNames => "use one kind of names for all contenders",
@@ -119,6 +123,7 @@ impl fmt::Display for ErrorKind {
             ErrorKind::QueueFull => f.write_str("more than 16 MiB wait to be written"),
             ErrorKind::NotWhole => f.write_str("the tree was not whole in time"),
             ErrorKind::LockTimeout => f.write_str("the lock was not held in time"),
+            ErrorKind::LockLost => f.write_str("the lock is lost"),
             ErrorKind::MixedNames => f.write_str("contenders by another kind of names are there"),
             ErrorKind::NumbersUsedUp => {
                 f.write_str("the names below it have had all 2147483647 numbers")

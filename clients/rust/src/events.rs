@@ -51,6 +51,11 @@ pub enum Event {
         /// Why, in words.
         words: String,
     },
+    /// A [`LocalLock`](crate::LocalLock) stands otherwise than it did: [`held`](crate::LocalLock::held) says how.
+    LockChanged {
+        /// The path that is contended for.
+        path: String,
+    },
     /// This many events are lost, those that had waited longest, since 1,024 wait at most. Those that wait still come next. Marks are right
     /// all the same: ask the client for its state, and for what is kept of the paths that you watch.
     Missed(u64),

@@ -29,7 +29,9 @@
 //! **Proved** is the core: what each function of its header says. So it is when which host is dialled, which calls wait, when they are
 //! late, which are asked again after a lost connection, and when what is followed is read. **Tested** is all that is above it, in this
 //! crate: connections, tickets, retries, chroots, the addresses of hosts, records that the core does not read, when a [`Tree`] is read and shown,
-//! and [`Registration`]. A [`Lock`] and an [`Election`] are contenders of the core, whose header says at `dw_session_held` what of them is proved. Which nodes a [`TreeSnapshot`] and a [`Snapshot`] have, and that all of them are of one moment, the core says.
+//! and [`Registration`]. A [`Lock`], a [`LocalLock`] and an [`Election`] are contenders of the core, whose header says at
+//! `dw_session_held` what of them is proved. Which nodes a [`TreeSnapshot`] and a [`Snapshot`] have, and that all of them are of one moment,
+//! the core says.
 //!
 //! Transactions, ACLs, `sync` and other [operations](RawOperation) go by the core, which numbers, sends, answers and loses them as each call,
 //! and reads no byte of them: what is spelled, and what an answer says, is tested. For the core, what they change is changed by others: so
@@ -66,6 +68,7 @@ mod ffi;
 mod follow;
 mod hosts;
 mod jute;
+mod local_lock;
 mod local_session;
 mod lock;
 mod machine;
@@ -118,6 +121,7 @@ pub use events::{Event, Events};
 pub use fault::{Code, Fault, NoReply, UnknownNumber};
 pub use follow::{Follow, KeptNode};
 pub use hosts::{Hosts, HostsFault};
+pub use local_lock::LocalLock;
 pub use local_session::LocalSession;
 pub use lock::{Contending, Election, Lock, LockNames, LockOptions, Sharing};
 pub use machine::{Limits, Machine, State};

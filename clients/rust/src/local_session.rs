@@ -8,6 +8,8 @@ use crate::error::Error;
 use crate::events::Event;
 use crate::fault::{Code, Fault};
 use crate::hosts::Hosts;
+use crate::local_lock::LocalLock;
+use crate::lock::{self, LockOptions};
 use crate::machine::State;
 use crate::multi_read::{Read, ReadAnswer};
 use crate::node::{Mode, Node, Stat};
@@ -16,6 +18,7 @@ use crate::paths;
 use crate::request::Request;
 use crate::retry::{Retry, Tries};
 use crate::saved::SavedSession;
+use crate::semaphore::LeaseNumber;
 use crate::session_methods::{calls, look_ups, watch, Caller};
 use crate::shared::Shared;
 use crate::snapshot::Snapshot;
@@ -25,6 +28,7 @@ use crate::tree::{LocalTree, MOST_NODES};
 use crate::tree_snapshot::TreeSnapshot;
 use crate::view::View;
 use std::fmt;
+use std::num::NonZeroU32;
 use std::time::{Duration, Instant};
 
 /// A session without a thread, for a loop of the program's own: it reads, pings and reconnects within its functions alone, and is one
@@ -160,9 +164,66 @@ impl Caller for LocalSession {
     }
 
     fn pass(&mut self, time: Duration) -> Result<(), Fault> {
+        self.go_on_while(time, || true)
+    }
+
+    fn view<R>(&self, look: impl FnOnce(View<'_>) -> R) -> R {
+        LocalSession::view(self, look)
+    }
+}
+
+/// Locks, elections and semaphores.
+impl LocalSession {
+    /// Contends for the lock of a path, and does not wait: [`within`](LockOptions::within) says nothing. An election is a lock whose places
+    /// say who the [`candidates`](LocalSession::candidates) are.
+    ///
+    /// # Errors
+    ///
+    /// That the path is none, that memory ran out, and why the session is over.
+    pub fn contend(&mut self, path: &str, options: LockOptions<'_>) -> Result<LocalLock, Error> {
+        LocalLock::by(options.naming(), self.driver.shared(), path, options)
+    }
+
+    /// Contends for a [`Lease`](crate::Lease) of a [`Semaphore`](crate::Semaphore), which this many hold at most, and one at least. Of the
+    /// options the data and the ACL count. It waits for the number of the node alone.
+    ///
+    /// # Errors
+    ///
+    /// As [`call`](LocalSession::call), and as [`Semaphore::acquire`](crate::Semaphore::acquire) where the node says something else.
+    pub fn contend_for_lease(
+        &mut self,
+        path: &str,
+        most: u32,
+        options: LockOptions<'_>,
+    ) -> Result<LocalLock, Error> {
+        let number = LeaseNumber {
+            path,
+            most: NonZeroU32::new(most).unwrap_or(NonZeroU32::MIN),
+            acls: options.acls,
+            until: None,
+        };
+        let naming = number.agree(self)?;
+        LocalLock::by(naming, self.driver.shared(), path, options)
+    }
+
+    /// What the candidates of an [`Election`](crate::Election) at a path have said of themselves, the one that leads first.
+    ///
+    /// # Errors
+    ///
+    /// As [`call`](LocalSession::call).
+    pub fn candidates(&mut self, path: &str) -> Result<Vec<Vec<u8>>, Error> {
+        lock::candidates(self, path)
+    }
+
+    /// Goes on while this holds, for so long at most, unless the session ends before.
+    pub(crate) fn go_on_while(
+        &mut self,
+        time: Duration,
+        holds: impl Fn() -> bool,
+    ) -> Result<(), Fault> {
         let clock = self.inner().clock();
         let until = clock.now().saturating_add(time);
-        while !self.inner().look(Engine::is_over) && clock.now() < until {
+        while !self.inner().look(Engine::is_over) && clock.now() < until && holds() {
             self.driver.turn(until)?;
         }
         Ok(())

@@ -3,12 +3,14 @@
 use crate::acl::Acl;
 use crate::contention::Naming;
 use crate::engine::contenders::{Entry, Hold};
+use crate::engine::Engine;
 use crate::error::{Error, ErrorKind};
 use crate::fault::Code;
 use crate::hosts::random;
 use crate::paths::child_of;
 use crate::request::Request;
 use crate::session::Session;
+use crate::session_methods::Caller;
 use crate::shared::Poller;
 use crate::standing::{Contender, Markers};
 use crate::view::View;
@@ -120,7 +122,7 @@ pub struct LockOptions<'d> {
     names: LockNames,
     sharing: Sharing,
     data: &'d [u8],
-    acls: &'d [Acl],
+    pub(crate) acls: &'d [Acl],
     limit: Option<Duration>,
 }
 
@@ -232,8 +234,30 @@ impl<'d> LockOptions<'d> {
     ///
     /// That the path is none, that memory ran out, and why the session is over.
     pub fn contend<'s>(self, session: &'s Session, path: &str) -> Result<Contending<'s>, Error> {
-        let naming = self.names.naming(self.sharing);
-        Contending::by(naming, session, path, self.data, self.acls)
+        Contending::by(self.naming(), session, path, self)
+    }
+
+    /// How its place is named.
+    pub(crate) const fn naming(&self) -> Naming {
+        self.names.naming(self.sharing)
+    }
+
+    /// Joins by this naming: the ticket of the contender. Events tell of it, or none do.
+    pub(crate) fn join(
+        self,
+        engine: &mut Engine,
+        naming: Naming,
+        path: &str,
+        is_told: bool,
+    ) -> Result<u64, ErrorKind> {
+        let entry = Entry {
+            directory: engine.chroot().outer(path)?.into_owned(),
+            naming,
+            guid: new_guid(naming),
+            data: self.data.to_vec(),
+            acls: self.acls.to_vec(),
+        };
+        engine.contend(&entry, is_told.then_some(path))
     }
 }
 
@@ -282,19 +306,9 @@ impl<'s> Contending<'s> {
         naming: Naming,
         session: &'s Session,
         path: &str,
-        data: &[u8],
-        acls: &[Acl],
+        options: LockOptions<'_>,
     ) -> Result<Contending<'s>, Error> {
-        let joined = session.change(|engine| {
-            let entry = Entry {
-                directory: engine.chroot().outer(path)?.into_owned(),
-                naming,
-                guid: new_guid(naming),
-                data: data.to_vec(),
-                acls: acls.to_vec(),
-            };
-            engine.contend(&entry)
-        });
+        let joined = session.change(|engine| options.join(engine, naming, path, false));
         let ticket = joined.map_err(|kind| Error::about(Some(path), kind))?;
         Ok(Contending {
             stake: Stake {
@@ -437,9 +451,8 @@ impl<'a> Lock<'a> {
     /// Whether the lock is held at the last zxid, and a server was heard within this time. It asks nobody.
     #[must_use]
     pub fn check(&self, within: Duration) -> bool {
-        let is_heard = |view: View<'_>| view.age().is_some_and(|age| age <= within);
         let session = self.stake.session;
-        session.view(|view| self.is_held_in(view) && is_heard(view))
+        session.view(|view| self.is_held_in(view) && view.is_heard_within(within))
     }
 
     /// Waits until the lock is known to be lost, for so long at most: whether it is.
@@ -583,45 +596,10 @@ impl<'a> Election<'a> {
     ///
     /// Those of reads that do not pass.
     pub fn candidates(&self) -> Result<Vec<Vec<u8>>, Error> {
-        let (names, listed) = match self.again(|| Request::listing(&self.path)) {
-            Err(error) if error.code() == Some(Code::NO_NODE) => return Ok(Vec::new()),
-            listing => listing?,
-        };
-        let mut candidates = Vec::new();
-        for name in self.in_order(&names, listed)? {
-            match self.again(|| Request::get(&child_of(&self.path, &name))) {
-                Ok(node) => candidates.push(node.data.unwrap_or_default()),
-                Err(error) if error.code() == Some(Code::NO_NODE) => {}
-                Err(error) => return Err(error),
-            }
-        }
-        Ok(candidates)
-    }
-
-    /// Those of these names that are candidates' places, in their order, as the core says: it has the one before each.
-    fn in_order(&self, names: &[String], listed: i64) -> Result<Vec<String>, Error> {
-        let mut found = vec![String::from(AFTER_ALL)];
         loop {
-            let contender = Contender {
-                directory: &self.path,
-                name: &found[found.len() - 1],
-                names,
-                listed,
-                markers: OF_CANDIDATES,
-            };
-            match self.session.view(|view| view.rival(&contender))? {
-                Some(rival) => found.push(rival),
-                None => return Ok(found.into_iter().skip(1).rev().collect()),
-            }
-        }
-    }
-
-    /// Reads, as often as it takes.
-    fn again<T>(&self, read: impl Fn() -> Request<T>) -> Result<T, Error> {
-        loop {
-            match self.session.call(read()) {
+            match candidates(&mut &*self.session, &self.path) {
                 Err(error) if error.is_passing() || self.session.lives_through(&error) => {}
-                answer => return answer,
+                found => return found,
             }
         }
     }
@@ -633,5 +611,45 @@ impl<'a> Election<'a> {
     /// Those of reads that do not pass.
     pub fn leader(&self) -> Result<Option<Vec<u8>>, Error> {
         Ok(self.candidates()?.into_iter().next())
+    }
+}
+
+/// What the candidates of an election have said of themselves, the one that leads first.
+pub(crate) fn candidates(session: &mut impl Caller, path: &str) -> Result<Vec<Vec<u8>>, Error> {
+    let (names, listed) = match session.answer(Request::listing(path)) {
+        Err(error) if error.code() == Some(Code::NO_NODE) => return Ok(Vec::new()),
+        listing => listing?,
+    };
+    let mut candidates = Vec::new();
+    for name in in_order(session, path, &names, listed)? {
+        match session.answer(Request::get(&child_of(path, &name))) {
+            Ok(node) => candidates.push(node.data.unwrap_or_default()),
+            Err(error) if error.code() == Some(Code::NO_NODE) => {}
+            Err(error) => return Err(error),
+        }
+    }
+    Ok(candidates)
+}
+
+/// Those of these names that are candidates' places, in their order, as the core says: it has the one before each.
+fn in_order(
+    session: &impl Caller,
+    path: &str,
+    names: &[String],
+    listed: i64,
+) -> Result<Vec<String>, Error> {
+    let mut found = vec![String::from(AFTER_ALL)];
+    loop {
+        let contender = Contender {
+            directory: path,
+            name: &found[found.len() - 1],
+            names,
+            listed,
+            markers: OF_CANDIDATES,
+        };
+        match session.view(|view| view.rival(&contender))? {
+            Some(rival) => found.push(rival),
+            None => return Ok(found.into_iter().skip(1).rev().collect()),
+        }
     }
 }

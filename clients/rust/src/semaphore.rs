@@ -4,10 +4,11 @@ use crate::acl::Acl;
 use crate::contention::Naming;
 use crate::error::{Error, ErrorKind};
 use crate::fault::Code;
-use crate::lock::{Contending, Lock};
-use crate::paths::{child_of, parent_of};
+use crate::lock::{Contending, Lock, LockOptions};
+use crate::paths::{child_of, ensure, parent_of};
 use crate::request::Request;
 use crate::session::Session;
+use crate::session_methods::Caller;
 use std::num::NonZeroU32;
 use std::time::{Duration, Instant};
 
@@ -95,9 +96,9 @@ impl<'a> Semaphore<'a> {
     }
 
     fn begin(&self, data: &[u8], until: Option<Instant>) -> Result<Contending<'a>, Error> {
-        self.agree(until)?;
-        let naming = Naming::Leases { most: self.most };
-        Contending::by(naming, self.session, &self.path, data, &self.acls)
+        let naming = self.agree(until)?;
+        let options = LockOptions::new().data(data).acls(&self.acls);
+        Contending::by(naming, self.session, &self.path, options)
     }
 
     fn take(&self, data: &[u8], until: Option<Instant>) -> Result<Lease<'a>, Error> {
@@ -105,56 +106,77 @@ impl<'a> Semaphore<'a> {
     }
 
     /// Sees to it that the node says how many hold it at most. Lost connections are lived through, and expired sessions by one that renews itself.
-    fn agree(&self, until: Option<Instant>) -> Result<(), Error> {
+    fn agree(&self, until: Option<Instant>) -> Result<Naming, Error> {
+        let number = LeaseNumber {
+            path: &self.path,
+            most: self.most,
+            acls: &self.acls,
+            until,
+        };
         loop {
-            match self.check(until) {
-                Ok(true) => return Ok(()),
-                Err(error) if !error.is_passing() && !self.session.lives_through(&error) => {
-                    return Err(error)
+            match number.agree(&mut &*self.session) {
+                Err(error) if error.is_passing() || self.session.lives_through(&error) => {
+                    if until.is_some_and(|until| until <= Instant::now()) {
+                        return Err(number.about(ErrorKind::LockTimeout));
+                    }
                 }
-                _ if until.is_some_and(|until| until <= Instant::now()) => {
-                    return Err(self.about(ErrorKind::LockTimeout));
-                }
-                Ok(false) | Err(_) => {}
+                agreed => return agreed,
             }
         }
     }
+}
+
+/// How many hold a semaphore at most, as the node of its path is to say.
+pub(crate) struct LeaseNumber<'a> {
+    pub(crate) path: &'a str,
+    pub(crate) most: NonZeroU32,
+    pub(crate) acls: &'a [Acl],
+    /// Until when its calls wait at most.
+    pub(crate) until: Option<Instant>,
+}
+
+impl LeaseNumber<'_> {
+    /// Sees to it that the node says so: how the places of leases are named.
+    pub(crate) fn agree(&self, session: &mut impl Caller) -> Result<Naming, Error> {
+        while !self.check(session)? {}
+        Ok(Naming::Leases { most: self.most })
+    }
 
     fn about(&self, kind: ErrorKind) -> Error {
-        Error::about(Some(&self.path), kind)
+        Error::about(Some(self.path), kind)
     }
 
     /// Whether the node is there, and says the same number. It may be used for something else too, which says nothing. If it is not there, it is made.
-    fn check(&self, until: Option<Instant>) -> Result<bool, Error> {
-        let node = match self.session.call(Request::get(&self.path).until(until)) {
+    fn check(&self, session: &mut impl Caller) -> Result<bool, Error> {
+        let node = match session.answer(Request::get(self.path).until(self.until)) {
             Err(error) if error.code() == Some(Code::NO_NODE) => {
-                return self.make_node(until).map(|()| false)
+                return self.make_node(session).map(|()| false)
             }
             node => node?,
         };
         let data = String::from_utf8(node.data.unwrap_or_default());
         let number = data.ok().and_then(|data| data.trim().parse::<i64>().ok());
-        let of_curator = Request::exists(&child_of(&self.path, OF_CURATOR));
+        let of_curator = Request::exists(&child_of(self.path, OF_CURATOR));
         match number {
             Some(1..) => Err(self.about(ErrorKind::MixedNames)),
             Some(number) if number != -i64::from(self.most.get()) => {
                 let number = number.saturating_neg();
                 Err(self.about(ErrorKind::OtherNumber { number }))
             }
-            _ if self.session.call(of_curator.until(until))?.is_some() => {
+            _ if session.answer(of_curator.until(self.until))?.is_some() => {
                 Err(self.about(ErrorKind::MixedNames))
             }
             _ => Ok(true),
         }
     }
 
-    fn make_node(&self, until: Option<Instant>) -> Result<(), Error> {
-        if let Some(above) = parent_of(&self.path) {
-            self.session.ensure_path_with_acls(above, &self.acls)?;
+    fn make_node(&self, session: &mut impl Caller) -> Result<(), Error> {
+        if let Some(above) = parent_of(self.path) {
+            ensure(session, above, self.acls)?;
         }
         let number = format!("-{}", self.most);
-        let create = Request::persistent(&self.path, number.as_bytes(), &self.acls);
-        match self.session.call(create.until(until)) {
+        let create = Request::persistent(self.path, number.as_bytes(), self.acls);
+        match session.answer(create.until(self.until)) {
             Err(error) if error.code() == Some(Code::NODE_EXISTS) => Ok(()),
             made => made.map(drop),
         }

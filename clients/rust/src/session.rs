@@ -220,6 +220,10 @@ impl Caller for &Session {
         self.wait_until(Instant::now().checked_add(time), |_| true);
         Ok(())
     }
+
+    fn view<R>(&self, look: impl FnOnce(View<'_>) -> R) -> R {
+        Session::view(self, look)
+    }
 }
 
 /// What is heard and kept. Look-ups ask nobody.

@@ -4,6 +4,7 @@ use crate::error::Error;
 use crate::fault::{Code, Fault};
 use crate::node::Node;
 use crate::request::Request;
+use crate::view::View;
 use std::time::Duration;
 
 /// A session that asks, and waits for answers.
@@ -13,6 +14,9 @@ pub(crate) trait Caller {
 
     /// Waits for so long, unless the session ends before.
     fn pass(&mut self, time: Duration) -> Result<(), Fault>;
+
+    /// Looks several things up at one moment.
+    fn view<R>(&self, look: impl FnOnce(View<'_>) -> R) -> R;
 }
 
 /// The pause before the next read of data that a server does not find, of a node that it does find.

@@ -233,6 +233,11 @@ impl Shared {
         look(&engine)
     }
 
+    /// The same, and notes that it was looked at: nothing is to be handed out.
+    pub(crate) fn note<R>(&self, look: impl FnOnce(&mut Engine) -> R) -> R {
+        look(&mut self.lock())
+    }
+
     /// Waits while this holds, until this instant at most.
     pub(crate) fn wait_while(&self, until: Option<Instant>, holds: impl Fn(&Engine) -> bool) {
         let mut engine = self.lock();
@@ -294,8 +299,7 @@ impl Poller {
         let waker = context.waker().clone();
         let before = shared.wakers().waiting.insert(self.key, waker);
         drop(before); // without the lock: what it holds may poll too
-        let looked = look(&mut shared.lock());
-        looked
+        shared.note(look)
     }
 }
 

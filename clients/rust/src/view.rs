@@ -71,6 +71,11 @@ impl View<'_> {
         self.engine.age()
     }
 
+    /// Whether a server was heard within this time.
+    pub(crate) fn is_heard_within(self, within: Duration) -> bool {
+        self.age().is_some_and(|age| age <= within)
+    }
+
     /// The number of the session, which its ephemeral nodes have as their owner: 0 before a server has admitted it.
     ///
     /// # Errors

@@ -37,6 +37,8 @@ impl Entry {
 /// A contender that has joined, and what was told of it last.
 struct Joined {
     entry: Entry,
+    /// The path by which an event tells that it stands otherwise, if events do.
+    told_as: Option<String>,
     update: Option<ContenderUpdate>,
     /// The token by which someone relies on it. If it no longer holds by this one, it is given up.
     token: Option<i64>,
@@ -88,14 +90,17 @@ impl Contenders {
         self.all.is_empty()
     }
 
-    /// Notes what is told of the contender of this ticket.
-    pub(crate) fn update(&mut self, ticket: u64, update: ContenderUpdate) {
+    /// Notes what is told of the contender of this ticket: the path by which an event is to tell it, where one is.
+    pub(crate) fn update(&mut self, ticket: u64, update: ContenderUpdate) -> Option<String> {
         self.is_news = true;
         if matches!(update, ContenderUpdate::GivenUp) {
             self.all.remove(&ticket);
-        } else if let Some(one) = self.all.get_mut(&ticket) {
-            one.update = Some(update);
+            return None;
         }
+        let one = self.all.get_mut(&ticket)?;
+        let is_other = one.update.replace(update) != Some(update);
+        let told_as = one.told_as.clone();
+        told_as.filter(|_| is_other && !one.is_given_up)
     }
 
     /// The session is over, and its places with it.
@@ -121,8 +126,12 @@ impl Contenders {
 pub(crate) type Hold = (i64, String);
 
 impl Engine {
-    /// Contends: the ticket of the contender.
-    pub(crate) fn contend(&mut self, entry: &Entry) -> Result<u64, ErrorKind> {
+    /// Contends: the ticket of the contender, of which events tell by this path, or none do.
+    pub(crate) fn contend(
+        &mut self,
+        entry: &Entry,
+        told_as: Option<&str>,
+    ) -> Result<u64, ErrorKind> {
         if let Some(refusal) = self.refusal_of_all() {
             return Err(refusal);
         }
@@ -131,6 +140,7 @@ impl Engine {
             ticket,
             Joined {
                 entry: entry.clone(),
+                told_as: told_as.map(String::from),
                 update: None,
                 token: None,
                 fault: None,
@@ -207,14 +217,15 @@ impl Engine {
         one.is_some_and(|one| one.update == Some(ContenderUpdate::Waits))
     }
 
-    /// How the contender of this ticket holds, or why it does not: who gets this relies on its token from then on.
-    pub(crate) fn take_hold(&mut self, ticket: u64) -> Poll<Result<Hold, ErrorKind>> {
+    /// The token by which the contender of this ticket holds, or why it does not: who gets this relies on it from then on.
+    fn take_token(&mut self, ticket: u64) -> Poll<Result<i64, ErrorKind>> {
         if self.is_over() {
             let closed = NoReply::SessionClosed.into();
             return Poll::Ready(Err(self.refusal_of_all().unwrap_or(closed)));
         }
-        let Some(one) = self.contenders.all.get_mut(&ticket) else {
-            return Poll::Ready(Err(NoReply::SessionClosed.into()));
+        let one = self.contenders.all.get_mut(&ticket);
+        let Some(one) = one.filter(|one| !one.is_lost() && !one.is_given_up) else {
+            return Poll::Ready(Err(ErrorKind::LockLost));
         };
         if let Some(refusal) = one.refusal() {
             return Poll::Ready(Err(refusal));
@@ -223,8 +234,27 @@ impl Engine {
             return Poll::Pending;
         };
         one.token = Some(token);
-        let place = self.machine.place(ticket).unwrap_or_default();
-        Poll::Ready(Ok((token, self.chroot.inner(place))))
+        Poll::Ready(Ok(token))
+    }
+
+    /// The same, with the path of its place.
+    pub(crate) fn take_hold(&mut self, ticket: u64) -> Poll<Result<Hold, ErrorKind>> {
+        let taken = self.take_token(ticket);
+        taken.map_ok(|token| (token, self.place(ticket).unwrap_or_default()))
+    }
+
+    /// The same of one that asks again: its token at the last zxid, and none while it waits.
+    pub(crate) fn look_for_token(&mut self, ticket: u64) -> Result<Option<i64>, ErrorKind> {
+        match self.take_token(ticket) {
+            Poll::Ready(token) => token.map(|token| self.held(ticket).filter(|it| *it == token)),
+            Poll::Pending => Ok(None),
+        }
+    }
+
+    /// The path of the place of the contender of this ticket, as the program knows it.
+    pub(crate) fn place(&self, ticket: u64) -> Option<String> {
+        let place = self.machine.place(ticket)?;
+        Some(self.chroot.inner(place))
     }
 
     /// The token by which the contender of this ticket holds at the last zxid.
@@ -267,7 +297,7 @@ mod tests {
             acls: Vec::new(),
         };
         let tickets = [5, 6].map(|token| {
-            let ticket = engine.contend(&entry).unwrap();
+            let ticket = engine.contend(&entry, None).unwrap();
             let holds = ContenderUpdate::Holds(token);
             engine.contenders.update(ticket, holds);
             assert!(engine.take_hold(ticket).is_ready());

@@ -3,6 +3,7 @@
 use super::{Attempt, Engine, Phase};
 use crate::action::Actions;
 use crate::dispatch::SessionUpdate;
+use crate::events::Event;
 use crate::fault::Fault;
 use crate::machine::{Machine, State};
 use crate::moment::Moment;
@@ -129,7 +130,9 @@ impl Engine {
             self.update_tree_members(ticket, shows);
         }
         for (ticket, stands) in update.contenders.drain(..) {
-            self.contenders.update(ticket, stands);
+            if let Some(path) = self.contenders.update(ticket, stands) {
+                self.dispatcher.push_event(Event::LockChanged { path });
+            }
         }
     }
 

@@ -610,6 +610,7 @@ fn a_machine_moves_between_places_and_threads() {
     is_send::<Machine>();
     is_send::<Actions<'_>>();
     is_send::<dirwolleu::Session>();
+    is_send::<dirwolleu::LocalLock>();
     let mut machines = vec![watching()];
     machines.extend([watching(), connected()]);
     let mut first = Box::new(machines.remove(0));

@@ -84,6 +84,7 @@ mod credentials;
 #[cfg(dirwolleu_bench)]
 mod cuts;
 mod limits;
+mod local_locks;
 mod lock_cuts;
 mod locks;
 mod logins;
