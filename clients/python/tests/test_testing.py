@@ -228,12 +228,15 @@ class ServerTest(unittest.TestCase):
         self.assertEqual(server.sessions, ())
 
     def test_nothing_is_left(self) -> None:
-        before = set(os.listdir("/proc/self/fd")), threading.active_count()
+        def found() -> tuple[set[str], int]:
+            return set(os.listdir("/proc/self/fd")), threading.active_count()
+
+        before = found()
         for _ in range(3):
             with Server() as server, Client(server.hosts, TIMEOUT) as client:
                 client.create("/a")
                 server.restart()
-        self.assertEqual((set(os.listdir("/proc/self/fd")), threading.active_count()), before)
+        within(lambda: found() == before)
 
 
 FIXTURE = '''
