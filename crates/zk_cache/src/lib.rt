@@ -8,6 +8,7 @@ mod cache;
 mod children;
 mod held;
 mod joined_texts;
+mod keyed;
 pub mod laws;
 mod names;
 mod sorted_names;

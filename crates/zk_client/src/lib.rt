@@ -2,7 +2,8 @@
 //! that a program imports: it re-exports each type that its functions name.
 //!
 //! [`Client::step_at`] takes one input with the moment at which it was noticed, and [`Client::deadline`] tells when to wake at the
-//! latest. It reads no socket and no clock. What it says and keeps is said once, over whole lists of turns, in the definitions of
+//! latest. It reads no socket and no clock: a program that wants a session with both, which dials, follows nodes and begins again by
+//! itself, uses `zk_driver`, which is built on this crate. What it says and keeps is said once, over lists of turns, in the definitions of
 //! `zk_turns`; [`laws`] names what holds of each client that stands where its turns have led.
 //!
 //! A type that owns memory has its allocator for its last parameter, and is over the global heap where that is left out:
