@@ -3,14 +3,15 @@
 from __future__ import annotations
 
 import logging
+import socket
 import struct
 import time
 import unittest
-from typing import Any
+from typing import Any, Optional
 from unittest import mock
 
 from both import AioCase, BothCase, Outcome, in_thread
-from support import EXISTS, GET_DATA, STAT, Asked, Peer, RawServer, data_reply, notice, reply, within
+from support import EXISTS, GET_DATA, STAT, WAIT, Asked, Peer, RawServer, data_reply, notice, reply, texts, within
 
 from dirwolleu import Kept, Mark, NoAuthError
 
@@ -54,6 +55,43 @@ def overtakes(peer: Peer) -> None:
             peer.send(reply(asked, struct.pack(">ii", 1, 1) + b"b" + STAT, zxid=7), notice("/a", 4))
         else:
             peer.send(reply(asked))
+
+
+EPOCH = 1 << 32
+"""The zxids of one epoch."""
+
+
+class Electing:
+    """Servers that elect: at first they have `new`, and after an election what was there before it, with zxids of a later epoch.
+
+    They tell of no change: what they have now was written before the client had seen `new`.
+    """
+
+    def __init__(self) -> None:
+        self.data: Optional[bytes] = b"new"
+        self.zxid, self.reads = EPOCH + 9, 0
+        self._peer: Optional[Peer] = None
+
+    def serve(self, peer: Peer) -> None:
+        self._peer = peer
+        for asked in peer.requests():
+            peer.send(self.answer(asked))
+
+    def answer(self, asked: Asked) -> bytes:
+        if asked.kind not in (EXISTS, GET_DATA, GET_CHILDREN_2):
+            return reply(asked, zxid=self.zxid)
+        self.reads += 1
+        if self.data is None:
+            return reply(asked, code=-101, zxid=self.zxid)
+        if asked.kind == GET_DATA:
+            return data_reply(asked, self.data, zxid=self.zxid)
+        return reply(asked, (texts() if asked.kind == GET_CHILDREN_2 else b"") + STAT, zxid=self.zxid)
+
+    def leave(self, zxid: int, data: Optional[bytes]) -> None:
+        """The connection is over. The next server has these data, or no node, and has seen this zxid."""
+        self.data, self.zxid = data, zxid
+        assert self._peer is not None
+        self._peer.connection.shutdown(socket.SHUT_RDWR)
 
 
 class FollowRules(BothCase):
@@ -100,6 +138,26 @@ class FollowRules(BothCase):
         within(lambda: told)
         self.assertEqual((told[0].mark, told[0].data, told[0].last_zxid), (Mark.GOOD, b"one", 5))
 
+    def test_what_an_election_takes_back_is_told_once(self) -> None:
+        """The watch is set again, and no notice comes. Another server of the same epoch is believed without a read."""
+        servers, told = Electing(), list[Kept]()
+        server = self.raw_server(servers.serve)
+        self.follow(server, told)
+        within(lambda: told)
+        servers.leave(EPOCH + 10, b"new")
+        within(lambda: len(server.dials) == 2)
+        time.sleep(0.5)
+        self.assertEqual((servers.reads, len(told)), (1, 1))
+        servers.leave(2 * EPOCH + 1, b"old")
+        within(lambda: len(told) == 2)
+        servers.leave(2 * EPOCH + 2, b"old")
+        within(lambda: len(server.dials) == 4)
+        time.sleep(0.5)
+        self.assertEqual((servers.reads, [kept.data for kept in told]), (2, [b"new", b"old"]))
+        servers.leave(3 * EPOCH + 1, None)
+        within(lambda: len(told) == 3)
+        self.assertEqual((servers.reads, told[2].exists), (4, False))  # the data are asked for, and then whether there is a node
+
     def test_names_that_a_notice_overtakes_are_told(self) -> None:
         """With the zxid of their last change, at which the servers had them."""
         client = self.client(self.raw_server(overtakes).host, 30.0)
@@ -117,6 +175,15 @@ class FollowTest(FollowRules):
             server.code = 0
             within(lambda: told)
         self.assertEqual((told, logs.output), ([b"one"], ["WARNING:dirwolleu:a read is refused, and asked again: the server answers -99: /a"]))
+
+
+    def test_a_tree_has_what_an_election_left(self) -> None:
+        servers = Electing()
+        tree = self.client(self.raw_server(servers.serve).host, 30.0).tree("/a")
+        self.assertEqual(tree.wait(WAIT)["/a"].data, b"new")
+        servers.leave(2 * EPOCH + 1, b"old")
+        within(lambda: tree.latest is not None and tree.latest["/a"].data == b"old")
+        self.assertEqual(servers.reads, 4)  # of the data and of the names, twice
 
 
 class AioFollowTest(AioCase, FollowRules): ...

@@ -17,7 +17,7 @@ use Rattle.zk_dialler.specs.declared.dialler.Phase.{Phase}
 use Rattle.zk_dialler.specs.declared.dialler.Phase.TheVariants.{Dialling}
 use Rattle.zk_follow.specs.declared.subject.Subject.{Subject}
 use Rattle.zk_follow.specs.declared.progress.Progress.{Progress}
-use Rattle.zk_follow.specs.Following.{due_again, fresh, taken, told_of as heard_of, unfollowed, AreVisited, IsVisited, Visits}
+use Rattle.zk_follow.specs.Following.{doubted, due_again, fresh, taken, told_of as heard_of, unfollowed, AreVisited, IsVisited, Visits}
 use Rattle.zk_follow.proofs.Finding.{visit_keeps}
 use Rattle.zk_follow.proofs.Hearing.{all_same_path, all_same_side, all_same_ticket}
 use Rattle.zk_follow.specs.Refusing.{too_long_for}
@@ -29,6 +29,7 @@ use Rattle.zk_agent.specs.declared.input.AgentInput.{AgentInput}
 use Rattle.zk_agent.specs.declared.input.AgentInput.TheVariants as input
 use Rattle.zk_agent.specs.Agents.{Trail, Move, Hears, Hands, Renews, Follows, Unfollows, Asks, GivesUp, Tires, Opened, Ended, HungUp}
 use Rattle.zk_agent.specs.Agents.{Closes, Addressed, Decides, Tends, Presents, Does, HearsSo, LeavesWhere}
+use Rattle.zk_agent.specs.Agents.{rises, DoubtsWhere}
 use Rattle.zk_agent.specs.Agents.{bytes_at, given_of, is_given, judging_in, leaves_with, left_at, moves_of, opened_at, papers_in, trail_of}
 use Rattle.zk_agent.specs.Credentials.{unwritten}
 use Rattle.zk_agent.specs.Telling.{action_view}
@@ -216,9 +217,16 @@ module _ {A : Type 0} where
     leaves_same true now old new does = heard_same now turns.Cut old new does
     leaves_same false now old new same = ap followed_in same
 
+    doubts_same : (is_risen : Bool) (now : ℕ) (old new : Trail A) → DoubtsWhere is_risen now old new → followed_in new ≡ followed_in old
+    doubts_same true now old new does =
+        heard_same now (turns.Now now) (record old { subjects = map doubted old.subjects }) new does
+        ∙ followed_like ticket old.subjects (map doubted old.subjects) (mapped_like doubted (λ subject. refl) old.subjects)
+    doubts_same false now old new same = ap followed_in same
+
     follows : (move : Move) (old new : Trail A) → Does old move new → followed_in new ≡ by_move ticket (followed_in old) move
     follows (Hears now given) old new does =
-        leaves_same does.hears.heard.is_lost now does.between new does.leaves ∙ heard_same now given old does.between does.hears
+        doubts_same (rises old.view.saved.last does.after.view.saved.last) now does.after new does.doubts
+        ∙ leaves_same does.hears.heard.is_lost now does.between does.after does.leaves ∙ heard_same now given old does.between does.hears
     follows (Hands now its asked) old new does = heard_same now (turns.Call its asked) old new does
     follows Renews old new does =
         followed_like ticket old.subjects new.subjects

@@ -8,6 +8,7 @@ use Rattle.std.specs.declared.alloc.Global.{Global}
 use Rattle.zk_conversation.specs.Calls.{Call}
 use Rattle.zk_conversation.specs.Questions.{Question, question_of}
 use Rattle.zk_conversation.specs.Views.{call_view}
+use Rattle.zk_session.specs.SessionView.{Saved}
 use Rattle.zk_turns.specs.Turns.{Turned, Turn, Input, Output, Send, Answer, Report, Enters, Drop}
 use Rattle.zk_turns.specs.Turns as turns
 use Rattle.zk_turns.specs.View.{view_at}
@@ -20,7 +21,7 @@ use Rattle.zk_dialler.specs.declared.dialler.DialDue.{DialDue}
 use Rattle.zk_dialler.specs.declared.dialler.DialDue.TheVariants.{Dial, GiveUp}
 use Rattle.zk_dialler.specs.declared.dialler.Phase.{Phase}
 use Rattle.zk_dialler.specs.declared.dialler.Phase.TheVariants.{Dialling}
-use Rattle.zk_follow.specs.Following.{due_again, fresh as fresh_subject, news_in, outputs_in}
+use Rattle.zk_follow.specs.Following.{doubted, due_again, fresh as fresh_subject, news_in, outputs_in}
 use Rattle.zk_follow.specs.declared.subject.Subject.{Subject}
 use Rattle.zk_calls.specs.declared.entry.Entry.{Entry}
 use Rattle.zk_calls.specs.declared.entry.Ended.{Ended}
@@ -33,6 +34,7 @@ use Rattle.zk_agent.specs.declared.input.AgentInput.{AgentInput}
 use Rattle.zk_agent.specs.declared.input.AgentInput.TheVariants as happens
 use Rattle.zk_agent.specs.Agents.{Trail, Move, Hears, Hands, Renews, Follows, Unfollows, Asks, GivesUp, Tires, Opened, Ended as Ends_at}
 use Rattle.zk_agent.specs.Agents.{HungUp, Closes, Addressed, Decides, Tends, Presents, Does, HearsSo, LeavesWhere, LetsGoWhere}
+use Rattle.zk_agent.specs.Agents.{rises, DoubtsWhere}
 use Rattle.zk_agent.specs.Agents.{bytes_at, given_of, is_given, judging_in, leaves_with, left_at, moves_of, opened_at, papers_in, trail_of}
 use Rattle.zk_agent.specs.Calls.{endings, tells_all}
 use Rattle.zk_agent.specs.Credentials.{unwritten}
@@ -46,7 +48,7 @@ use Rattle.zk_trees.specs.Tending.{shifted, LetsGo, TakesOn, TreeTold}
 use Rattle.zk_dialler.specs.Dialling.{is_open}
 use Rattle.ffi_device.specs.Chains.{first_own}
 use Rattle.ffi_device.specs.Taking.{AgentTook}
-use Rattle.ffi_c.specs.Pasts.{AreLeft, Chapter, TellsBelow, with_turns, Moves, Takes, reported}
+use Rattle.ffi_c.specs.Pasts.{AreAnew, AreLeft, Chapter, TellsBelow, last_seen, with_turns, Moves, Takes, reported}
 use Rattle.ffi_c.proofs.Heard.{each_both, AsksSo}
 use Rattle.ffi_c.proofs.Lives.{fresh}
 use Rattle.ffi_c.proofs.Tickets.{begins, closings_said, due_said, endings_said, hears_kept, left_asks, next_asks, no_reply}
@@ -220,6 +222,24 @@ module _ {A : Type 0} (timeout : ℤ) (base : List Output) (IsAsked : ℕ → Qu
   )
   leaves false now old new same chapter sits = ([], refl, subst (λ (t : Trail A). SitsIn t chapter) (sym same) sits)
 
+  anew : (is_risen : Bool) (now : ℕ) (old new : Trail A) → DoubtsWhere is_risen now old new → (chapter : Chapter)
+      → SitsIn old chapter → (made : List Turn) × AreAnew is_risen now made × SitsIn new (with_more made chapter)
+  anew true now old new does chapter sits =
+      let again : Trail A = record old { subjects = map doubted old.subjects } in
+      let low : KeepsIn again chapter = follows old again [] refl
+      (λ below. mapped_low doubted (λ subject. refl) old.subjects (sits.keeps below).subjects) (sym (append-nil old.told)) chapter tt
+      sits in (
+        heard_turns now (turns.Now now) again new does,
+        heard_are now (turns.Now now) again new does,
+        hears now (turns.Now now) again new does chapter (λ below. tt) (stays old again again refl refl refl refl chapter low sits),
+      )
+  anew false now old new same chapter sits = ([], refl, subst (λ (t : Trail A). SitsIn t chapter) (sym same) sits)
+
+  -- the zxid that the client has seen last is that of its chapter
+  last_sits : (trail : Trail A) (chapter : Chapter) → SitsIn trail chapter
+      → trail.view.saved.last ≡ last_seen chapter.start chapter.items
+  last_sits trail chapter sits = ap (λ (s : Saved). s.last) sits.stands.saved
+
   abbrev Goes_so : Trail A → Move → Chapter → Type 0
   Goes_so new move chapter = (next : Chapter) × Moves timeout chapter move next × SitsIn new next
 
@@ -227,24 +247,36 @@ module _ {A : Type 0} (timeout : ℤ) (base : List Output) (IsAsked : ℕ → Qu
       → (Below → AsksSo IsAsked input) → SitsIn old chapter → Goes_so new (Hears now input) chapter
   by_hears now input old new does chapter input_asks sits =
       let heard : List Turn = heard_turns now input old does.between does.hears in
-      let after = leaves does.hears.heard.is_lost now does.between new does.leaves (with_more heard chapter)
+      let after = leaves does.hears.heard.is_lost now does.between does.after does.leaves (with_more heard chapter)
       (hears now input old does.between does.hears chapter input_asks sits) in
+      let more = with_more after.0 (with_more heard chapter) in
+      let last = anew (rises old.view.saved.last does.after.view.saved.last) now does.after new does.doubts more after.2 in
       let lost : does.hears.heard.is_lost ≡ list_any is_lost (outputs_in heard) =
-      ap (λ h. h.is_lost) does.hears.takes.heard ∙ ap (list_any is_lost) (sym (heard_said now input old does.between does.hears)) in (
-        with_more (heard ++ after.0) chapter,
+      ap (λ h. h.is_lost) does.hears.takes.heard ∙ ap (list_any is_lost) (sym (heard_said now input old does.between does.hears)) in
+      let both : with_turns (heard ++ after.0) chapter.items ≡ with_turns after.0 (with_turns heard chapter.items) =
+      fold_more (λ all turn. Turned turn ∷ all) chapter.items heard after.0 in
+      let risen : rises old.view.saved.last does.after.view.saved.last
+      ≡ rises (last_seen chapter.start chapter.items) (last_seen chapter.start (with_turns (heard ++ after.0) chapter.items)) =
+      ap (λ was. rises was does.after.view.saved.last) (last_sits old chapter sits)
+      ∙ ap (rises (last_seen chapter.start chapter.items))
+      (last_sits does.after more after.2 ∙ ap (last_seen chapter.start) (sym both)) in (
+        with_more ((heard ++ after.0) ++ last.0) chapter,
         (
-          heard ++ after.0,
+          (heard ++ after.0) ++ last.0,
           (
             heard,
             after.0,
+            last.0,
             heard_are now input old does.between does.hears,
             subst (λ b. AreLeft b now after.0) lost after.1,
+            subst (λ b. AreAnew b now last.0) risen last.1,
             refl,
           ),
           refl,
         ),
         subst (λ items. SitsIn new (record chapter { items = items }))
-            (sym (fold_more (λ all turn. Turned turn ∷ all) chapter.items heard after.0)) after.2,
+            (sym (fold_more (λ all turn. Turned turn ∷ all) chapter.items (heard ++ after.0) last.0
+            ∙ ap (with_turns last.0) both)) last.2,
       )
 
   by_hands : (now ticket : ℕ) (asked : Call) (old new : Trail A) → Does old (Hands now ticket asked) new → (chapter : Chapter)
@@ -454,13 +486,20 @@ module _ {A : Type 0} where
   leaves_first true now old new does all = hears_first now turns.Cut old new does all
   leaves_first false now old new same all = subst (λ (t : Trail A). AreToldBelow t.told) same all
 
+  doubts_first : (is_risen : Bool) (now : ℕ) (old new : Trail A) → DoubtsWhere is_risen now old new → AreToldBelow new.told
+      → AreToldBelow old.told
+  doubts_first true now old new does all =
+      hears_first now (turns.Now now) (record old { subjects = map doubted old.subjects }) new does all
+  doubts_first false now old new same all = subst (λ (t : Trail A). AreToldBelow t.told) same all
+
   -- what is told of a trail that is like this one
   told_like : (new like : Trail A) → new ≡ like → AreToldBelow new.told → AreToldBelow like.told
   told_like new like is all = subst (λ (t : Trail A). AreToldBelow t.told) is all
 
   told_first : (move : Move) (old new : Trail A) → Does old move new → AreToldBelow new.told → AreToldBelow old.told
   told_first (Hears now input) old new does all =
-      hears_first now input old does.between does.hears (leaves_first does.hears.heard.is_lost now does.between new does.leaves all)
+      hears_first now input old does.between does.hears (leaves_first does.hears.heard.is_lost now does.between does.after does.leaves
+      (doubts_first (rises old.view.saved.last does.after.view.saved.last) now does.after new does.doubts all))
   told_first (Hands now ticket asked) old new does all = hears_first now (turns.Call ticket asked) old new does all
   told_first Renews old new does all =
       each_first old.told (endings ending.Expired old.line)

@@ -32,7 +32,7 @@ use Rattle.zk_conclusions.proofs.Revised.{raised_least, raised_more}
 use Rattle.zk_dialler.specs.declared.dialler.Dialler.{Dialler}
 use Rattle.zk_dialler.specs.declared.dialler.Phase.{Phase}
 use Rattle.zk_dialler.specs.declared.dialler.Phase.TheVariants.{Dialling}
-use Rattle.zk_follow.specs.Following.{news_in, outputs_in}
+use Rattle.zk_follow.specs.Following.{doubted, news_in, outputs_in}
 use Rattle.zk_calls.specs.declared.entry.Entry.{Entry}
 use Rattle.zk_calls.specs.declared.entry.Ending.TheVariants as ending
 use Rattle.zk_agent.specs.declared.action.Action.{Action}
@@ -41,6 +41,7 @@ use Rattle.zk_agent.specs.declared.input.AgentInput.{AgentInput}
 use Rattle.zk_agent.specs.declared.input.AgentInput.TheVariants as happens
 use Rattle.zk_agent.specs.Agents.{Trail, Move, Hears, Hands, Renews, Follows, Unfollows, Asks, GivesUp, Tires, Opened, Ended, HungUp}
 use Rattle.zk_agent.specs.Agents.{Closes, Addressed, Decides, Tends, Presents, Does, HearsSo, IsLed, LeavesWhere, LetsGoWhere, given_of}
+use Rattle.zk_agent.specs.Agents.{rises, DoubtsWhere}
 use Rattle.zk_agent.specs.Agents.{is_given, leaves_with, left_at, moves_of, opened_at, trail_of}
 use Rattle.zk_agent.specs.Calls.{endings, handed, hears, tells, tells_all}
 use Rattle.zk_agent.specs.Overlong.{too_long_in, with_too_long}
@@ -326,6 +327,14 @@ left : {A : Type 0} (is_lost : Bool) (now : ℕ) (old between new : Trail A)
 left true now old between new does first = joined old between new first (heard now turns.Cut between new does tt first.led)
 left {A} false now old between new same first = subst (λ (t : Trail A). Calm old t) (sym same) first
 
+anew : {A : Type 0} (is_risen : Bool) (now : ℕ) (old after new : Trail A)
+    → DoubtsWhere is_risen now after new → Calm old after → Calm old new
+anew true now old after new does first =
+    let again = record after { subjects = map doubted after.subjects } in
+    let calm : Calm old again = record { led = first.led; calm = first.calm } in
+    joined old again new calm (heard now (turns.Now now) again new does tt first.led)
+anew {A} false now old after new same first = subst (λ (t : Trail A). Calm old t) (sym same) first
+
 renewed : {A : Type 0} (old new : Trail A) → Does old Renews new → Calm old new
 renewed old new does = record {
   led = (
@@ -350,7 +359,8 @@ tired now old new does led =
 
 moved : {A : Type 0} (move : Move) (old new : Trail A) → Does old move new → IsNoHearing move → IsLed old.view → Calm old new
 moved (Hears now input) old new does own led =
-    left does.hears.heard.is_lost now old does.between new does.leaves (heard now input old does.between does.hears own led)
+    anew (rises old.view.saved.last does.after.view.saved.last) now old does.after new does.doubts
+    (left does.hears.heard.is_lost now old does.between does.after does.leaves (heard now input old does.between does.hears own led))
 moved (Hands now ticket asked) old new does own led = heard now (turns.Call ticket asked) old new does tt led
 moved Renews old new does own led = renewed old new does
 moved (Tires now) old new does own led = tired now old new does led

@@ -11,6 +11,8 @@ use Rattle.zk_conversation.specs.Questions.{question_of}
 use Rattle.zk_session.specs.declared.states.State.TheVariants.{Expired}
 use Rattle.zk_turns.specs.Turns.{Halts, Input, Item, Output, Start, Turn, Turned, new_start}
 use Rattle.zk_turns.specs.Turns as turns
+use Rattle.zk_turns.specs.Past.{last_of}
+use Rattle.zk_turns.specs.Taken.{past_of}
 use Rattle.zk_turns.specs.View.{View}
 use Rattle.zk_turns.specs.Rule.{Stands}
 use Rattle.zk_turns.specs.Reported.{is_report, reports_in}
@@ -31,6 +33,7 @@ use Rattle.zk_follow.specs.Following.{outputs_in, read_of}
 use Rattle.zk_agent.specs.declared.agent.Agent.{Agent}
 use Rattle.zk_agent.specs.declared.input.AgentInput.{AgentInput}
 use Rattle.zk_agent.specs.Agents.{Advance, ByRenewal, ByTurn, Hands, Hears, IsAt, Move, Renews, Tires, how_many_ended, is_given, moves_of}
+use Rattle.zk_agent.specs.Agents.{rises}
 use Rattle.zk_agent.specs.Calls.{how_many}
 use Rattle.zk_agent.specs.Replies.{is_lost}
 use Rattle.zk_agent.specs.Telling.{Told, Says, Begins, TellsTree, told_by, trees_in}
@@ -65,14 +68,10 @@ abbrev pub AreLeft : (is_lost : Bool) → (now : ℕ) → (made : List Turn) →
 AreLeft true now made = AreHeard now turns.Cut made
 AreLeft false now made = made ≡ []
 
--- the turns that a move makes
-abbrev pub AreOf : Move → (made : List Turn) → Type 0
-AreOf (Hears now input) made =
-    (heard : List Turn) × (after : List Turn) × AreHeard now input heard × AreLeft (list_any is_lost (outputs_in heard)) now after
-    × (made ≡ heard ++ after)
-AreOf (Hands now ticket asked) made = AreHeard now (turns.Call ticket asked) made
-AreOf (Tires now) made = AreHeard now turns.Cut made
-AreOf move made = made ≡ []
+-- If another epoch was seen with that, the client hears the moment once more, and reads what is followed.
+abbrev pub AreAnew : (is_risen : Bool) → (now : ℕ) → (made : List Turn) → Type 0
+AreAnew true now made = AreHeard now (turns.Now now) made
+AreAnew false now made = made ≡ []
 
 -- ---- one session after the other
 
@@ -85,6 +84,21 @@ pub record Chapter : Type 0 where
 abbrev pub with_turns : List Turn → List Item → List Item
 with_turns made items = fold (λ all turn. Turned turn ∷ all) items made
 
+-- the zxid that a client has seen last then
+abbrev pub last_seen : Start → List Item → ℤ
+last_seen start items = last_of start (past_of start items)
+
+-- the turns that a move makes
+abbrev pub AreOf : Chapter → Move → (made : List Turn) → Type 0
+AreOf old (Hears now input) made =
+    (heard : List Turn) × (after : List Turn) × (anew : List Turn) × AreHeard now input heard
+    × AreLeft (list_any is_lost (outputs_in heard)) now after
+    × AreAnew (rises (last_seen old.start old.items) (last_seen old.start (with_turns (heard ++ after) old.items))) now anew
+    × (made ≡ (heard ++ after) ++ anew)
+AreOf old (Hands now ticket asked) made = AreHeard now (turns.Call ticket asked) made
+AreOf old (Tires now) made = AreHeard now turns.Cut made
+AreOf old move made = made ≡ []
+
 -- After an expiry another session begins, which asks for this timeout. The last seen zxid is kept.
 abbrev pub BeginsAnew : (timeout : ℤ) → Chapter → Chapter → Type 0
 BeginsAnew timeout old new =
@@ -93,7 +107,7 @@ BeginsAnew timeout old new =
 
 abbrev pub Moves : (timeout : ℤ) → Chapter → Move → Chapter → Type 0
 Moves timeout old Renews new = BeginsAnew timeout old new
-Moves timeout old move new = (made : List Turn) × AreOf move made × (new ≡ record old { items = with_turns made old.items })
+Moves timeout old move new = (made : List Turn) × AreOf old move made × (new ≡ record old { items = with_turns made old.items })
 
 -- The agent takes one input. Of its moves those that come from outside are those of this input, and no other.
 pub record Takes (moment : ℕ) (given : AgentInput Global) (before after : Agent Global) (old new : Chapter) : Type 0 where

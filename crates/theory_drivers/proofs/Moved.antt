@@ -25,9 +25,10 @@ use Rattle.zk_dialler.specs.declared.dialler.DialDue.{DialDue}
 use Rattle.zk_dialler.specs.declared.dialler.DialDue.TheVariants.{Dial, GiveUp}
 use Rattle.zk_dialler.specs.Dialling.{is_open, DialsWell}
 use Rattle.zk_calls.specs.declared.entry.Ending.TheVariants as ending
+use Rattle.zk_follow.specs.Following.{doubted}
 use Rattle.zk_agent.specs.Agents.{is_given, Addressed, Asks, Closes, Decides, Does, Ended, Follows, GivesUp, Hands, Hears, HearsSo, HungUp}
 use Rattle.zk_agent.specs.Agents.{Presents, Tends}
-use Rattle.zk_agent.specs.Agents.{LeavesWhere, Move, Opened, Renews, Tires, Trail, Unfollows}
+use Rattle.zk_agent.specs.Agents.{rises, DoubtsWhere, LeavesWhere, Move, Opened, Renews, Tires, Trail, Unfollows}
 use Rattle.zk_agent.specs.Calls.{closings, endings}
 use Rattle.zk_agent.specs.Replies.{heard_in, is_lost}
 use Rattle.zk_agent.specs.Telling.{due_told, judged_told, Begins, Dials, HangsUp, Introduces, Says, TellsTree, Told}
@@ -149,10 +150,22 @@ module _ {A : Type 0} (channel : ChannelView) (held : List ℕ) (shown : Shown) 
   leaves_here true now old new leaves k = hears_at channel now turns.Cut old new leaves held held shown k tt refl
   leaves_here false now old new same k = subst Here (sym same) k
 
+  -- by whether another epoch was seen
+  doubts_here : (is_risen : Bool) (now : ℕ) (old new : Trail A) (doubts : DoubtsWhere is_risen now old new) → Here old → Here new
+  doubts_here true now old new doubts k =
+      hears_at channel now (turns.Now now) (record old { subjects = map doubted old.subjects }) new doubts held held shown k tt refl
+  doubts_here false now old new same k = subst Here (sym same) k
+
+  -- what comes of an input once it was heard
+  rest_here : (now : ℕ) (input : Input) (old new : Trail A) (does : Does old (Hears now input) new) → Here does.between → Here new
+  rest_here now input old new does k =
+      doubts_here (rises old.view.saved.last does.after.view.saved.last) now does.after new does.doubts
+      (leaves_here does.hears.heard.is_lost now does.between does.after does.leaves k)
+
   hears_here : (now : ℕ) (input : Input) (old new : Trail A) (does : Does old (Hears now input) new)
       → IsWithin input → IsMuteInput input → Here old → Here new
   hears_here now input old new does within mute k =
-      leaves_here does.hears.heard.is_lost now does.between new does.leaves
+      rest_here now input old new does
       (hears_at channel now input old does.between does.hears held held shown k within (nothing_handed input held mute))
 
   renews_here : (old new : Trail A) → Does old Renews new → IsLater old.timeout → Here old → Here new
@@ -254,10 +267,22 @@ module _ {A : Type 0} (channel : ChannelView) (held : List ℕ) (shown : Shown) 
   leaves_idle true now old new leaves k idle = hears_idle now turns.Cut old new leaves tt held refl k idle
   leaves_idle false now old new same k idle = subst Idle (sym same) idle
 
+  rest_idle : (now : ℕ) (input : Input) (old new : Trail A) (does : Does old (Hears now input) new)
+      → Here does.between → Idle does.between → Idle new
+  rest_idle now input old new does k idle =
+      doubts_idle (rises old.view.saved.last does.after.view.saved.last) does.doubts
+      (leaves_here does.hears.heard.is_lost now does.between does.after does.leaves k)
+      (leaves_idle does.hears.heard.is_lost now does.between does.after does.leaves k idle)
+    where
+      doubts_idle : (is_risen : Bool) (doubts : DoubtsWhere is_risen now does.after new) → Here does.after → Idle does.after → Idle new
+      doubts_idle true doubts k idle =
+          hears_idle now (turns.Now now) (record does.after { subjects = map doubted does.after.subjects }) new doubts tt held refl k idle
+      doubts_idle false same k idle = subst Idle (sym same) idle
+
   hears_on_idle : (now : ℕ) (input : Input) (old new : Trail A) (does : Does old (Hears now input) new)
       → IsWithin input → IsMuteInput input → Here old → Idle old → Idle new
   hears_on_idle now input old new does within mute k idle =
-      leaves_idle does.hears.heard.is_lost now does.between new does.leaves
+      rest_idle now input old new does
       (hears_at channel now input old does.between does.hears held held shown k within (nothing_handed input held mute))
       (hears_idle now input old does.between does.hears within held (nothing_handed input held mute) k idle)
 
@@ -342,10 +367,24 @@ module _ {A : Type 0} (channel : ChannelView) (held : List ℕ) (shown : Shown) 
       → hears.heard.is_lost ≡ false → list_any is_lost hears.takes.given ≡ false
   unlost now input old new hears is = sym (ap_at hears.heard (heard_in hears.takes.given) (λ h. h.is_lost) hears.takes.heard) ∙ is
 
+  rest_tied : (now : ℕ) (input : Input) (old new : Trail A) (does : Does old (Hears now input) new)
+      → Here does.between → (does.hears.heard.is_lost ≡ false → Tied does.between) → Tied new
+  rest_tied now input old new does k tied =
+      doubts_tied (rises old.view.saved.last does.after.view.saved.last) does.doubts
+      (leaves_here does.hears.heard.is_lost now does.between does.after does.leaves k)
+      (leaves_tied does.hears.heard.is_lost now does.between does.after does.leaves k tied)
+    where
+      doubts_tied : (is_risen : Bool) (doubts : DoubtsWhere is_risen now does.after new) → Here does.after → Tied does.after → Tied new
+      doubts_tied true doubts k tied =
+          let again = record does.after { subjects = map doubted does.after.subjects } in
+          hears_open channel now (turns.Now now) again new doubts held held shown k tt refl
+          (hears_unlost now (turns.Now now) again new doubts tt) tied
+      doubts_tied false same k tied = subst Tied (sym same) tied
+
   hears_tied : (now : ℕ) (input : Input) (old new : Trail A) (does : Does old (Hears now input) new)
       → IsWithin input → IsMuteInput input → Here old → Tied old → Tied new
   hears_tied now input old new does within mute k tied =
-      leaves_tied does.hears.heard.is_lost now does.between new does.leaves
+      rest_tied now input old new does
       (hears_at channel now input old does.between does.hears held held shown k within (nothing_handed input held mute))
       (λ is. hears_open channel now input old does.between does.hears held held shown k within (nothing_handed input held mute)
       (unlost now input old does.between does.hears is) tied)
@@ -404,8 +443,15 @@ stays_where : {A : Type 0} (is_lost : Bool) (now : ℕ) (old new : Trail A) → 
 stays_where true now old new leaves = leaves.timeout
 stays_where {A} false now old new same = ap (λ (t : Trail A). t.timeout) same
 
+stays_doubting : {A : Type 0} (is_risen : Bool) (now : ℕ) (old new : Trail A) → DoubtsWhere is_risen now old new
+    → new.timeout ≡ old.timeout
+stays_doubting true now old new doubts = doubts.timeout
+stays_doubting {A} false now old new same = ap (λ (t : Trail A). t.timeout) same
+
 stays_by : {A : Type 0} (move : Move) (old new : Trail A) → Does old move new → new.timeout ≡ old.timeout
-stays_by (Hears now input) old new does = stays_where does.hears.heard.is_lost now does.between new does.leaves ∙ does.hears.timeout
+stays_by (Hears now input) old new does =
+    stays_doubting (rises old.view.saved.last does.after.view.saved.last) now does.after new does.doubts
+    ∙ stays_where does.hears.heard.is_lost now does.between does.after does.leaves ∙ does.hears.timeout
 stays_by (Hands now ticket asked) old new does = does.timeout
 stays_by Renews old new does = does.timeout
 stays_by {A} (Follows ticket side path) old new does = ap (λ (t : Trail A). t.timeout) does
@@ -610,8 +656,8 @@ module _ {A : Type 0} (channel : ChannelView) (held : List ℕ) (shown : Shown) 
   bytes_ready : (now : ℕ) (old new : Trail A) (does : Does old (Hears now (turns.Bytes held)) new)
       → Ready channel held shown old → Ready channel [] shown new
   bytes_ready now old new does p = record {
-    here = leaves_here channel [] shown does.hears.heard.is_lost now does.between new does.leaves between;
-    tied = leaves_tied channel [] shown does.hears.heard.is_lost now does.between new does.leaves between
+    here = rest_here channel [] shown now (turns.Bytes held) old new does between;
+    tied = rest_tied channel [] shown now (turns.Bytes held) old new does between
         (λ is. hears_open channel now (turns.Bytes held) old does.between does.hears held [] shown p.here tt (refl, refl)
         (unlost channel [] shown now (turns.Bytes held) old does.between does.hears is) p.tied);
     later = later_on (Hears now (turns.Bytes held)) old new does p.later;
@@ -644,8 +690,8 @@ module _ {A : Type 0} (channel : ChannelView) (shown : Shown) where
   moved_ready : (now : ℕ) (old new : Trail A) (does : Does old (Hears now turns.Cut) new)
       → Loose channel [] shown old → Ready channel [] shown new
   moved_ready now old new does p = record {
-    here = leaves_here channel [] shown does.hears.heard.is_lost now does.between new does.leaves between;
-    tied = leaves_tied channel [] shown does.hears.heard.is_lost now does.between new does.leaves between
+    here = rest_here channel [] shown now turns.Cut old new does between;
+    tied = rest_tied channel [] shown now turns.Cut old new does between
         (λ kept. down_tied channel [] shown does.between (hears_cut channel now old does.between does.hears [] shown p.here));
     later = later_on channel [] shown (Hears now turns.Cut) old new does p.later;
   }
@@ -681,8 +727,8 @@ module _ {A : Type 0} (channel : ChannelView) (shown : Shown) where
         let between = hears_at channel now turns.Cut old does.between does.hears [] [] shown p.here tt refl in
         let down = hears_cut channel now old does.between does.hears [] shown p.here in
         record {
-          here = leaves_here channel [] shown does.hears.heard.is_lost now does.between new does.leaves between;
-          down = (leaves_idle channel [] shown does.hears.heard.is_lost now does.between new does.leaves between
+          here = rest_here channel [] shown now turns.Cut old new does between;
+          down = (rest_idle channel [] shown now turns.Cut old new does between
               (down, empty_shut does.between)).0;
           empty = empty_shut new;
           later = subst IsLater (sym (stays_by (Hears now turns.Cut) old new does)) p.later;
@@ -712,8 +758,8 @@ module _ {A : Type 0} (channel : ChannelView) (shown : Shown) where
     opened_ready now old new does p =
         let between = opened_at channel now old does.between does.hears shown before place p.here p.down is low p.empty in
         record {
-          here = leaves_here channel [] shown does.hears.heard.is_lost now does.between new does.leaves between;
-          tied = leaves_tied channel [] shown does.hears.heard.is_lost now does.between new does.leaves between
+          here = rest_here channel [] shown now turns.Opened old new does between;
+          tied = rest_tied channel [] shown now turns.Opened old new does between
               (λ kept. opened_open channel now old does.between does.hears shown before place p.here p.down is low
               (unlost channel [] shown now turns.Opened old does.between does.hears kept));
           later = subst IsLater (sym (stays_by (Hears now turns.Opened) old new does)) p.later;

@@ -10,12 +10,12 @@ use Rattle.zk_session.specs.declared.states.State.TheVariants.{Expired}
 use Rattle.zk_client.specs.Clients.{renewed_start}
 use Rattle.zk_turns.specs.Rule.{Rule}
 use Rattle.zk_follow.specs.declared.subject.Subject.{Subject}
-use Rattle.zk_follow.specs.Following.{Steps}
+use Rattle.zk_follow.specs.Following.{doubted, Steps}
 use Rattle.zk_follow.specs.Following as follow
 use Rattle.zk_agent.specs.Agents.{Advance, ByTurn, ByRenewal, Advances, BreaksOff, Trail, Move, Hears, Hands, Renews, Follows, Unfollows}
 use Rattle.zk_agent.specs.Agents.{Asks, GivesUp, Tires, Opened, Ended, HungUp, Addressed, Decides, Closes, Tends, Presents, Does, Comes}
 use Rattle.zk_agent.specs.Agents.{HearsSo}
-use Rattle.zk_agent.specs.Agents.{LeavesWhere}
+use Rattle.zk_agent.specs.Agents.{rises, DoubtsWhere, LeavesWhere}
 use Rattle.zk_agent.specs.inner.Agents.{Acts}
 use Rattle.zk_agent.proofs.Moves.{stays_by}
 
@@ -60,12 +60,20 @@ went_leaves : {A : Type 0} (timeout : ℤ) (is_lost : Bool) (now : ℕ) (old new
 went_leaves timeout true now old new leaves = went_hears timeout now turns.Cut old new leaves
 went_leaves {A} timeout false now old new same = stayed timeout old.view new.view (ap (λ (t : Trail A). t.view) same)
 
+went_doubts : {A : Type 0} (timeout : ℤ) (is_risen : Bool) (now : ℕ) (old new : Trail A) → DoubtsWhere is_risen now old new
+    → Went timeout old.view new.view
+went_doubts timeout true now old new doubts =
+    went_hears timeout now (turns.Now now) (record old { subjects = map doubted old.subjects }) new doubts
+went_doubts {A} timeout false now old new same = stayed timeout old.view new.view (ap (λ (t : Trail A). t.view) same)
+
 -- ---- what moves have led to
 
 went_by : {A : Type 0} (move : Move) (old new : Trail A) → Does old move new → Went old.timeout old.view new.view
 went_by (Hears now input) old new does =
     went_on old.timeout old.view does.between.view new.view (went_hears old.timeout now input old does.between does.hears)
-    (went_leaves old.timeout does.hears.heard.is_lost now does.between new does.leaves)
+    (went_on old.timeout does.between.view does.after.view new.view
+    (went_leaves old.timeout does.hears.heard.is_lost now does.between does.after does.leaves)
+    (went_doubts old.timeout (rises old.view.saved.last does.after.view.saved.last) now does.after new does.doubts))
 went_by (Hands now ticket asked) old new does = went_hears old.timeout now (turns.Call ticket asked) old new does
 went_by Renews old new does = (ByRenewal ∷ [], (new.view, (does.expired, does.view), refl))
 went_by {A} (Follows ticket side path) old new does = stayed old.timeout old.view new.view (ap (λ (t : Trail A). t.view) does)
@@ -130,6 +138,11 @@ pub after_hears : {A : Type 0} (now : ℕ) (input : Input) (old between : Trail 
 after_hears now input old between new hears broke =
     after_went old.timeout old.view between.view new (went_hears old.timeout now input old between hears)
     (subst (λ timeout. BreaksOff timeout between.view new) hears.timeout broke)
+
+pub after_leaves : {A : Type 0} (is_lost : Bool) (now : ℕ) (old between : Trail A) (new : View) → LeavesWhere is_lost now old between
+    → BreaksOff between.timeout between.view new → BreaksOff old.timeout old.view new
+after_leaves true now old between new leaves broke = after_hears now turns.Cut old between new leaves broke
+after_leaves {A} false now old between new same broke = subst (λ (t : Trail A). BreaksOff t.timeout t.view new) same broke
 
 -- after a step of the client and its subjects
 pub after_steps : {A : Type 0} (timeout : ℤ) (now : ℕ) (view : View) (input : Input) (old : List (Subject A)) (after : View)

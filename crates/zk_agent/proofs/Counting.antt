@@ -15,7 +15,7 @@ use Rattle.zk_dialler.specs.declared.dialler.Dialler.{Dialler}
 use Rattle.zk_dialler.specs.declared.dialler.DialDue.{DialDue}
 use Rattle.zk_dialler.specs.declared.dialler.DialDue.TheVariants.{Dial, GiveUp}
 use Rattle.zk_follow.specs.declared.news.News.{News}
-use Rattle.zk_follow.specs.Following.{news_in}
+use Rattle.zk_follow.specs.Following.{doubted, news_in}
 use Rattle.zk_calls.specs.declared.entry.Entry.{Entry}
 use Rattle.zk_calls.specs.declared.entry.Ending.{Ending}
 use Rattle.zk_calls.specs.declared.entry.Ending.TheVariants.{Lost, LostOf, Late, Expired}
@@ -30,6 +30,7 @@ use Rattle.zk_agent.specs.declared.input.AgentInput.{AgentInput}
 use Rattle.zk_agent.specs.declared.input.AgentInput.TheVariants as happens
 use Rattle.zk_agent.specs.Agents.{Comes, Move, Hears, Hands, Renews, Follows, Unfollows, Asks, GivesUp, Tires, Opened, Ended as Over}
 use Rattle.zk_agent.specs.Agents.{HungUp, Closes, Addressed, Decides, Tends, Presents, Does, HearsSo, LeavesWhere, LetsGoWhere, Trail}
+use Rattle.zk_agent.specs.Agents.{rises, DoubtsWhere}
 use Rattle.zk_agent.specs.Agents.{bytes_at}
 use Rattle.zk_agent.specs.inner.Agents.{asks_for}
 use Rattle.zk_agent.specs.Agents.{given_of, judging_in, leaves_with, left_at, moves_of, papers_in, how_many_asked, how_many_ended}
@@ -300,6 +301,11 @@ module _ {A : Type 0} (ticket : ℕ) where
   left_same true now old new leaves = heard_same now turns.Cut old new leaves
   left_same false now old new same = ap total same
 
+  doubted_same : (is_risen : Bool) (now : ℕ) (old new : Trail A) → DoubtsWhere is_risen now old new → total new ≡ total old
+  doubted_same true now old new doubts =
+      heard_same now (turns.Now now) (record old { subjects = map doubted old.subjects }) new doubts
+  doubted_same false now old new same = ap total same
+
   none_left : (entries : List (Entry A)) → how_many ticket (left Expired entries) ≡ 0
   none_left [] = refl
   none_left (entry ∷ entries) = none_left entries
@@ -307,7 +313,9 @@ module _ {A : Type 0} (ticket : ℕ) where
   moved : (move : Move) (old new : Trail A) → Does old move new → total new ≡ total old + cond (asks_for ticket move) 1 0
   moved (Hears now input) old new does =
       let same = heard_same now input old does.between does.hears in
-      let after = left_same does.hears.heard.is_lost now does.between new does.leaves in omega (arith, same, after)
+      let after = left_same does.hears.heard.is_lost now does.between does.after does.leaves in
+      let last = doubted_same (rises old.view.saved.last does.after.view.saved.last) now does.after new does.doubts in
+      omega (arith, same, after, last)
   moved (Hands now its asked) old new does = let same = heard_same now (turns.Call its asked) old new does in omega (arith, same)
   moved Renews old new does =
       let line : how_many ticket new.line ≡ 0 = ap (how_many ticket) does.line in

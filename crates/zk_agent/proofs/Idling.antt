@@ -62,9 +62,10 @@ none_waits now waited =
 pub idles : {A : Type 0} (now : ℕ) (old new : Trail A)
     → TakesSo now (turns.Now now) old.view old.subjects old.line old.told new.view new.subjects new.line old.told (heard_in [])
     → new.dialler ≡ noted new.view.saved.session.timeout now new.view.standing.state old.dialler → new.timeout ≡ old.timeout
-    → new.waits ≡ old.waits → new.told ≡ old.told → Acts now (Hears now (turns.Now now) ∷ []) old new
-idles now old new takes dialler timeout waits told =
-    hears_and now (turns.Now now) old new false (record {
+    → new.waits ≡ old.waits → new.told ≡ old.told → new.view.saved.last ≡ old.view.saved.last
+    → Acts now (Hears now (turns.Now now) ∷ []) old new
+idles now old new takes dialler timeout waits told last =
+    hears_and now (turns.Now now) old new (record {
       may = tt;
       timeout = timeout;
       heard = heard_in [];
@@ -72,7 +73,7 @@ idles now old new takes dialler timeout waits told =
       takes = takes;
       lets_go = (dialler, told);
       waits = waits ∙ sym (none_waits now old.waits);
-    }) refl refl
+    }) refl last
 
 -- ---- credentials: none is judged, and none is left to be written
 

@@ -1,7 +1,8 @@
 -- Moves, one after the other: what each of them keeps, lists of them keep; and single moves, each from what the agent's parts say of it.
 use Rattle.std.proofs.Common.{◌≡◌, ◌≢◌, ◌++◌, ◌⊎◌, inl, inr, ℕ, ℤ, ◌+◌, Bool, true, false, cond, ◌&&◌, not, List, [], ◌∷◌, Option, Some}
-use Rattle.std.proofs.Common.{None, length, map, refl, sym, ap, subst, ◌∙◌}
-use Rattle.std.specs.Prelude.{Result, Ok, Err, OnOk, All, is_some}
+use Rattle.std.proofs.Common.{None, arith, length, map, refl, sym, ap, subst, ◌∙◌}
+use Rattle.std.specs.Prelude.{Result, Ok, Err, OnOk, All, is_some, nat_lt, unsigned_abs, ◌/◌, ◌^◌, ◌<◌}
+use Rattle.std.proofs.lemmas.Bool.Decides.{nat_tests}
 use Rattle.std.specs.List.{filter, list_any, AllByRecursion, FoldsTo}
 use Rattle.std.specs.List.Sorted.{IsPermutation}
 use Rattle.std.proofs.lemmas.List.{append_assoc, append-nil}
@@ -27,7 +28,7 @@ use Rattle.zk_dialler.specs.Orders.{numbers, shuffled}
 use Rattle.zk_dialler.specs.declared.dialler.DialDue.{DialDue}
 use Rattle.zk_dialler.specs.declared.dialler.DialDue.TheVariants.{Dial, GiveUp}
 use Rattle.zk_follow.specs.declared.subject.Subject.{Subject}
-use Rattle.zk_follow.specs.Following.{due_again, is_read_by, reads_of, told_of, AreFollowed, IsFollowed}
+use Rattle.zk_follow.specs.Following.{doubted, due_again, is_read_by, reads_of, told_of, AreFollowed, IsFollowed}
 use Rattle.zk_follow.proofs.Counting.{count_map}
 use Rattle.zk_calls.specs.declared.entry.Entry.{Entry}
 use Rattle.zk_calls.specs.declared.entry.Ending.TheVariants as ending
@@ -36,7 +37,7 @@ use Rattle.zk_agent.specs.declared.input.AgentInput.{AgentInput}
 use Rattle.zk_agent.specs.declared.replies.Heard.{Heard}
 use Rattle.zk_agent.specs.Agents.{Trail, Move, Hears, Hands, Renews, Follows, Unfollows, Asks, GivesUp, Tires, Opened, Ended, HungUp}
 use Rattle.zk_agent.specs.Agents.{Closes, Addressed, Decides, Tends, Presents, Does, IsAt, IsLed, IsShut, Comes, HearsSo, LeavesWhere}
-use Rattle.zk_agent.specs.Agents.{leaves_with, moves_with, AddressesSo, MayHear}
+use Rattle.zk_agent.specs.Agents.{leaves_with, moves_with, rises, AddressesSo, DoubtsWhere, MayHear}
 use Rattle.zk_agent.specs.inner.Agents.{tended_in, tends_of, Acts, MayTake}
 use Rattle.zk_agent.specs.Agents.{LetsGo, LetsGoWhere, TakesSo, given_of, is_connected, is_given, moves_of, noted, opened_at}
 use Rattle.zk_agent.specs.Agents.{over_at, row_after}
@@ -68,9 +69,16 @@ led_leaves : {A : Type 0} (is_lost : Bool) (now : ℕ) (old new : Trail A) → L
 led_leaves true now old new leaves led = led_hears now turns.Cut old new leaves led
 led_leaves {A} false now old new same led = subst (λ (t : Trail A). IsLed t.view) (sym same) led
 
+led_doubts : {A : Type 0} (is_risen : Bool) (now : ℕ) (old new : Trail A) → DoubtsWhere is_risen now old new → IsLed old.view
+    → IsLed new.view
+led_doubts true now old new doubts led =
+    led_hears now (turns.Now now) (record old { subjects = map doubted old.subjects }) new doubts led
+led_doubts {A} false now old new same led = subst (λ (t : Trail A). IsLed t.view) (sym same) led
+
 led_by : {A : Type 0} (move : Move) (old new : Trail A) → Does old move new → IsLed old.view → IsLed new.view
 led_by (Hears now input) old new does led =
-    led_leaves does.hears.heard.is_lost now does.between new does.leaves (led_hears now input old does.between does.hears led)
+    led_doubts (rises old.view.saved.last does.after.view.saved.last) now does.after new does.doubts
+    (led_leaves does.hears.heard.is_lost now does.between does.after does.leaves (led_hears now input old does.between does.hears led))
 led_by (Hands now ticket asked) old new does led = led_hears now (turns.Call ticket asked) old new does led
 led_by Renews old new does led =
     subst IsLed (sym does.view) (renewed_start old.timeout old.view, [], unmoved (renewed_start old.timeout old.view))
@@ -166,6 +174,11 @@ shut_leaves : {A : Type 0} (is_lost : Bool) (now : ℕ) (old new : Trail A) → 
 shut_leaves true now old new leaves shut = shut_hears now turns.Cut old new leaves shut
 shut_leaves {A} false now old new same shut = subst IsShut (sym same) shut
 
+shut_doubts : {A : Type 0} (is_risen : Bool) (now : ℕ) (old new : Trail A) → DoubtsWhere is_risen now old new → IsShut old → IsShut new
+shut_doubts true now old new doubts shut =
+    shut_hears now (turns.Now now) (record old { subjects = map doubted old.subjects }) new doubts shut
+shut_doubts false now old new same shut = subst IsShut (sym same) shut
+
 opens_never : {A : Type 0} (timeout now : ℕ) (old new : Dialler A) → old.phase ≡ Waiting → Opens timeout now old new true → ⊥
 opens_never timeout now old new waits opens =
     let never : true ≡ false × new ≡ old = subst (λ phase. OpensAt phase timeout now old new true) waits opens in
@@ -173,7 +186,8 @@ opens_never timeout now old new waits opens =
 
 shut_by : {A : Type 0} (move : Move) (old new : Trail A) → Does old move new → IsShut old → IsShut new
 shut_by (Hears now input) old new does shut =
-    shut_leaves does.hears.heard.is_lost now does.between new does.leaves (shut_hears now input old does.between does.hears shut)
+    shut_doubts (rises old.view.saved.last does.after.view.saved.last) now does.after new does.doubts
+    (shut_leaves does.hears.heard.is_lost now does.between does.after does.leaves (shut_hears now input old does.between does.hears shut))
 shut_by (Hands now ticket asked) old new does shut = shut_hears now (turns.Call ticket asked) old new does shut
 shut_by Renews old new does shut =
     λ closed. absurd (let f : Idle ≡ Closed = sym (ap (λ (v : View). v.standing.state) does.view) ∙ closed in cc)
@@ -209,8 +223,15 @@ stays_where : {A : Type 0} (is_lost : Bool) (now : ℕ) (old new : Trail A) → 
 stays_where true now old new leaves = leaves.timeout
 stays_where {A} false now old new same = ap (λ (t : Trail A). t.timeout) same
 
+stays_doubting : {A : Type 0} (is_risen : Bool) (now : ℕ) (old new : Trail A) → DoubtsWhere is_risen now old new
+    → new.timeout ≡ old.timeout
+stays_doubting true now old new doubts = doubts.timeout
+stays_doubting {A} false now old new same = ap (λ (t : Trail A). t.timeout) same
+
 pub stays_by : {A : Type 0} (move : Move) (old new : Trail A) → Does old move new → new.timeout ≡ old.timeout
-stays_by (Hears now input) old new does = stays_where does.hears.heard.is_lost now does.between new does.leaves ∙ does.hears.timeout
+stays_by (Hears now input) old new does =
+    stays_doubting (rises old.view.saved.last does.after.view.saved.last) now does.after new does.doubts
+    ∙ stays_where does.hears.heard.is_lost now does.between does.after does.leaves ∙ does.hears.timeout
 stays_by (Hands now ticket asked) old new does = does.timeout
 stays_by Renews old new does = does.timeout
 stays_by {A} (Follows ticket side path) old new does = ap (λ (t : Trail A). t.timeout) does
@@ -522,21 +543,50 @@ pub taken_by : {A : Type 0} (now : ℕ) (input : Input) (old new between : Trail
 taken_by now input old new between line heard may is takes same_view same_subjects same_line same_timeout goes waits =
     (taken_and now input old new between line heard may is takes same_view same_subjects same_line same_timeout goes waits).0
 
--- it hears, and is told of the end of the connection where that is to be
-pub hears_and : {A : Type 0} (now : ℕ) (input : Input) (old new : Trail A) (is_lost : Bool) (hears : HearsSo now input old new)
-    → hears.heard.is_lost ≡ is_lost → is_lost ≡ false
-    → Acts now (Hears now input ∷ []) old new
-hears_and now input old new is_lost hears is lost =
-    gives now (Hears now input) old new refl refl refl
-    (record { between = new; hears = hears; leaves = subst (λ b. LeavesWhere b now new new) (sym (is ∙ lost)) refl })
+never_less : (n : ℕ) → nat_lt n n ≡ false
+never_less n = by (nat_lt n n) refl
+  where
+    by : (b : Bool) → nat_lt n n ≡ b → nat_lt n n ≡ false
+    by true e = absurd (let less : n < n = grind (arith, nat_tests) in omega (arith, less))
+    by false e = e
 
-pub hears_then : {A X E : Type 0} (result : Result X E) (now : ℕ) (input : Input) (old between new : Trail A) (is_lost : Bool)
-    (hears : HearsSo now input old between) → hears.heard.is_lost ≡ is_lost
-    → is_lost ≡ true → OnOk result (HearsSo now turns.Cut between new) → OnOk result (Acts now (Hears now input ∷ []) old new)
-hears_then (Ok x) now input old between new is_lost hears is lost cut =
-    gives now (Hears now input) old new refl refl refl
-    (record { between = between; hears = hears; leaves = subst (λ b. LeavesWhere b now between new) (sym (is ∙ lost)) cut })
-hears_then (Err e) now input old between new is_lost hears is lost cut = tt
+and_false : (b : Bool) → (b && false) ≡ false
+and_false true = refl
+and_false false = refl
+
+-- no epoch is another one than itself
+rises_never : (last : ℤ) → rises last last ≡ false
+rises_never last =
+    ap (λ b. nat_lt 0 (unsigned_abs last) && b) (never_less (unsigned_abs last / 2 ^ 32)) ∙ and_false (nat_lt 0 (unsigned_abs last))
+
+-- it hears what is no end of the session on the connection, and shows no other epoch
+pub hears_and : {A : Type 0} (now : ℕ) (input : Input) (old new : Trail A) (hears : HearsSo now input old new)
+    → hears.heard.is_lost ≡ false → new.view.saved.last ≡ old.view.saved.last → Acts now (Hears now input ∷ []) old new
+hears_and now input old new hears lost same =
+    let still : rises old.view.saved.last new.view.saved.last ≡ false =
+    ap (rises old.view.saved.last) same ∙ rises_never old.view.saved.last in
+    gives now (Hears now input) old new refl refl refl (record {
+      between = new;
+      hears = hears;
+      after = new;
+      leaves = subst (λ b. LeavesWhere b now new new) (sym lost) refl;
+      doubts = subst (λ b. DoubtsWhere b now new new) (sym still) refl;
+    })
+
+-- it hears, is told of the end of the connection where that is to be, and subjects are doubted where another epoch was seen
+pub hears_then : {A X E : Type 0} (result : Result X E) (now : ℕ) (input : Input) (old between after new : Trail A) (is_lost : Bool)
+    (was : ℤ) (hears : HearsSo now input old between) → hears.heard.is_lost ≡ is_lost → was ≡ old.view.saved.last
+    → LeavesWhere is_lost now between after
+    → OnOk result (DoubtsWhere (rises was after.view.saved.last) now after new) → OnOk result (Acts now (Hears now input ∷ []) old new)
+hears_then (Ok x) now input old between after new is_lost was hears is seen leaves doubts =
+    gives now (Hears now input) old new refl refl refl (record {
+      between = between;
+      hears = hears;
+      after = after;
+      leaves = subst (λ b. LeavesWhere b now between after) (sym is) leaves;
+      doubts = subst (λ last. DoubtsWhere (rises last after.view.saved.last) now after new) seen doubts;
+    })
+hears_then (Err e) now input old between after new is_lost was hears is seen leaves doubts = tt
 
 -- to be told of leaves a subject followed
 reads_told : {A : Type 0} (view : View) (subjects : List (Subject A)) → reads_of view (map (told_of view) subjects) ≡ reads_of view subjects

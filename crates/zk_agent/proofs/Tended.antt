@@ -8,7 +8,7 @@ use Rattle.zk_turns.specs.Turns as turns
 use Rattle.zk_dialler.specs.declared.dialler.Dialler.{Dialler}
 use Rattle.zk_dialler.specs.declared.dialler.DialDue.{DialDue}
 use Rattle.zk_dialler.specs.declared.dialler.DialDue.TheVariants.{Dial, GiveUp}
-use Rattle.zk_follow.specs.Following.{news_in}
+use Rattle.zk_follow.specs.Following.{doubted, news_in}
 use Rattle.zk_calls.specs.declared.entry.Entry.{Entry}
 use Rattle.zk_calls.specs.declared.entry.Ended.{Ended as Ended_call}
 use Rattle.zk_calls.specs.declared.entry.Ending.{Ending}
@@ -20,6 +20,7 @@ use Rattle.zk_agent.specs.declared.agent.Agent.{Agent}
 use Rattle.zk_agent.specs.declared.input.AgentInput.{AgentInput}
 use Rattle.zk_agent.specs.Agents.{Trail, Move, Hears, Hands, Renews, Follows, Unfollows, Asks, GivesUp, Tires, Opened, Ended, HungUp}
 use Rattle.zk_agent.specs.Agents.{Closes, Addressed, Decides, Tends, Presents, Does, HearsSo, LeavesWhere, LetsGoWhere, trail_of}
+use Rattle.zk_agent.specs.Agents.{rises, DoubtsWhere}
 use Rattle.zk_agent.specs.inner.Agents.{tended_in, tends_of, Acts}
 use Rattle.zk_agent.specs.Calls.{answers, closings, endings, handed, hears, tells, tells_all}
 use Rattle.zk_agent.specs.Overlong.{with_too_long}
@@ -106,6 +107,10 @@ module _ {A : Type 0} where
   leaves_told true now old new does = heard_told now turns.Cut old new does
   leaves_told false now old new same = ap (λ (t : Trail A). trees_in t.told) same
 
+  doubts_told : (is_risen : Bool) (now : ℕ) (old new : Trail A) → DoubtsWhere is_risen now old new → trees_in new.told ≡ trees_in old.told
+  doubts_told true now old new does = heard_told now (turns.Now now) (record old { subjects = map doubted old.subjects }) new does
+  doubts_told false now old new same = ap (λ (t : Trail A). trees_in t.told) same
+
   like : (new same : Trail A) → new ≡ same → trees_in new.told ≡ trees_in same.told
   like new same is = ap (λ (t : Trail A). trees_in t.told) is
 
@@ -115,7 +120,8 @@ module _ {A : Type 0} where
   tells_one : (move : Move) (old new : Trail A) → Does old move new → trees_in new.told ≡ trees_in old.told ++ tends_of move
   tells_one (Hears now given) old new does =
       still old new
-      (leaves_told does.hears.heard.is_lost now does.between new does.leaves ∙ heard_told now given old does.between does.hears)
+      (doubts_told (rises old.view.saved.last does.after.view.saved.last) now does.after new does.doubts
+      ∙ leaves_told does.hears.heard.is_lost now does.between does.after does.leaves ∙ heard_told now given old does.between does.hears)
   tells_one (Hands now its asked) old new does = still old new (heard_told now (turns.Call its asked) old new does)
   tells_one Renews old new does =
       still old new (told_more (old.told ++ endings ending.Expired old.line) (Begins ∷ []) new.told does.told refl

@@ -1,6 +1,6 @@
 -- How far an agent has come, move by move.
-use Rattle.std.specs.Prelude.{◌≡◌, ◌≢◌, ◌==◌, ⊤, ℕ, ℤ, ◌+◌, ◌&&◌, Bool, true, false, not, if◌then◌else◌, List, [], ◌∷◌, ◌++◌, map}
-use Rattle.std.specs.Prelude.{Option, Some, is_some, length}
+use Rattle.std.specs.Prelude.{◌≡◌, ◌≢◌, ◌==◌, ⊤, ℕ, ℤ, ◌+◌, ◌/◌, ◌^◌, ◌&&◌, Bool, true, false, not, if◌then◌else◌, List, [], ◌∷◌, ◌++◌, map}
+use Rattle.std.specs.Prelude.{Option, Some, is_some, length, nat_lt, unsigned_abs}
 use Rattle.std.specs.List.{count_by, filter, flat_map, AllByRecursion, FoldsTo}
 use Rattle.std.specs.List.Sorted.{IsPermutation}
 use Rattle.zk_nodes.specs.Path.{Text}
@@ -25,7 +25,7 @@ use Rattle.zk_dialler.specs.Dialling.{first_moment, has_come, is_due, is_open, i
 use Rattle.zk_dialler.specs.Moves.{moves_by, order_of, tries_kept}
 use Rattle.zk_dialler.specs.Orders.{numbers, shuffled}
 use Rattle.zk_follow.specs.declared.subject.Subject.{Subject}
-use Rattle.zk_follow.specs.Following.{due_again, first_again, fresh, news_in, told_of, unfollowed, AreFollowed, RunsOut, Steps}
+use Rattle.zk_follow.specs.Following.{doubted, due_again, first_again, fresh, news_in, told_of, unfollowed, AreFollowed, RunsOut, Steps}
 use Rattle.zk_trees.specs.Tending.{are_at_rest, shifted, TreeTold}
 use Rattle.zk_calls.specs.declared.entry.Entry.{Entry}
 use Rattle.zk_calls.specs.declared.entry.Ending.TheVariants as ending
@@ -152,10 +152,23 @@ abbrev pub LeavesWhere : {A : Type 0} → (is_lost : Bool) → (now : ℕ) → (
 LeavesWhere true now old new = HearsSo now turns.Cut old new
 LeavesWhere false now old new = new ≡ old
 
+-- Whether another epoch was seen than before, by the zxids that were seen last: the upper half of a zxid counts the elections of servers.
+-- Who had seen none has nothing to doubt.
+abbrev pub rises : (was is : ℤ) → Bool
+rises was is = nat_lt 0 (unsigned_abs was) && nat_lt (unsigned_abs was / 2 ^ 32) (unsigned_abs is / 2 ^ 32)
+
+-- After an election servers may have taken back what one of them had acknowledged. So if another epoch was seen, what is kept of each
+-- subject is doubted, and the client hears the moment, so that each is read.
+abbrev pub DoubtsWhere : {A : Type 0} → (is_risen : Bool) → (now : ℕ) → (old new : Trail A) → Type 0
+DoubtsWhere true now old new = HearsSo now (turns.Now now) (record old { subjects = map doubted old.subjects }) new
+DoubtsWhere false now old new = new ≡ old
+
 pub record HearsOn {A : Type 0} (now : ℕ) (input : Input) (old new : Trail A) : Type 0 where
   pub between : Trail A
   pub hears : HearsSo now input old between
-  pub leaves : LeavesWhere hears.heard.is_lost now between new
+  pub after : Trail A
+  pub leaves : LeavesWhere hears.heard.is_lost now between after
+  pub doubts : DoubtsWhere (rises old.view.saved.last after.view.saved.last) now after new
 
 -- Another session begins, after an expiry alone, and asks for the agent's timeout. The last seen zxid is kept, each subject is to be read,
 -- and a row of failures ends. Each call that waits is answered before, that the session has expired.

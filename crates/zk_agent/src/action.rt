@@ -56,7 +56,8 @@ pub enum Action<A: Allocator = Global> {
     GivenUp(Fault),
     /// Another session begins: the one before has expired, with its ephemeral nodes.
     Renewed,
-    /// What is kept of the subject is good: look it up in the client. It was not good, or its path was reported since that was told last.
+    /// What is kept of the subject is good: look it up in the client. It was not good, or its path was reported since that was told last,
+    /// or servers had an election, and it was read again.
     Shown {
         ticket: u64,
     },

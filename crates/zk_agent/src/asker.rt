@@ -37,7 +37,7 @@ impl<A: Allocator + Copy> Asker<A> {
     ghost use Rattle.zk_turns.specs.Rule.{forgotten, Stands};
     ghost use Rattle.zk_client.specs.Clients.{renewed_start, view_of};
     ghost use Rattle.zk_client.specs.Views.{input_view};
-    ghost use Rattle.zk_follow.specs.Following.{due_again, fresh, ticked, unfollowed, AreFollowed, AreQuiet, BreaksOff};
+    ghost use Rattle.zk_follow.specs.Following.{doubted, due_again, fresh, ticked, unfollowed, AreFollowed, AreQuiet, BreaksOff};
     ghost use Rattle.zk_trees.specs.Tending.{footing_in, shifted_by, trees_told, Tends};
     ghost use Rattle.zk_agent.specs.Trees.{Alters};
     ghost use Rattle.zk_calls.specs.Lines.{ended, left, next_call};
@@ -166,6 +166,15 @@ impl<A: Allocator + Copy> Asker<A> {
         ensures line { self.new.line ≡ self.old.line }
     {
         self.follower.unfollow(ticket);
+    }
+
+    /// What is kept of the subjects is doubted.
+    pub(crate) fn doubt_all(&mut self)
+        ensures client { self.new.follower.client ≡ self.old.follower.client }
+        ensures subjects { self.new.follower.subjects.items ≡ map doubted self.old.follower.subjects.items }
+        ensures line { self.new.line ≡ self.old.line }
+    {
+        self.follower.doubt_all();
     }
 
     /// Takes the stale answers out of what the client keeps.

@@ -30,7 +30,7 @@ impl<A: Allocator + Copy> Agent<A> {
     ghost use Rattle.zk_client.specs.Views.{input_view};
     ghost use Rattle.zk_dialler.specs.Dialling.{is_open, Ends};
     ghost use Rattle.zk_follow.specs.Following.{AreFollowed};
-    ghost use Rattle.zk_agent.specs.Agents.{noted, row_after, trail_of, Hears, HearsSo, IsBroken, LetsGo};
+    ghost use Rattle.zk_agent.specs.Agents.{noted, row_after, trail_of, Hears, HearsSo, IsBroken, LeavesWhere, LetsGo};
     ghost use Rattle.zk_agent.specs.inner.Agents.{Acts, MayTake};
     ghost use Rattle.zk_agent.specs.inner.Calls.{how_many_wait, IsDone};
     ghost use Rattle.zk_agent.specs.Calls.{IsInTime};
@@ -131,7 +131,7 @@ impl<A: Allocator + Copy> Agent<A> {
 
     /// Hands the client an input, and does what it says. Whether a server says that the session is not its own: the connection is hung up
     /// then, and the client is to be told.
-    fn hear_once(
+    pub(crate) fn hear_once(
         &mut self,
         now: u64,
         input: Input<A>,
@@ -165,7 +165,25 @@ impl<A: Allocator + Copy> Agent<A> {
         Ok(())
     }
 
-    /// Hands the client an input, and does what it says.
+    /// If a server says that the session is not its own, the client is told that the connection is over.
+    fn leave_where_lost(
+        &mut self,
+        now: u64,
+        is_lost: bool,
+        actions: &mut Vec<Action<A>, A>,
+    ) -> Result<(), FollowerStop>
+        ensures leaves { OnOk result (LeavesWhere is_lost now (trail_of self.old actions.old.items) (trail_of self.new actions.new.items)) }
+        ensures followed { AreFollowed now (view_of self.old.asker.follower.client) self.old.asker.follower.subjects.items
+            → OnOk result (AreFollowed now (view_of self.new.asker.follower.client) self.new.asker.follower.subjects.items) }
+        ensures broke { OnErr result (IsBroken self.old self.new) }
+    {
+        if is_lost {
+            return self.hear_cut(now, actions);
+        }
+        Ok(())
+    }
+
+    /// Hands the client an input, and does what it says. If another epoch is seen then, what is kept of the subjects is doubted.
     pub(crate) fn step_client(
         &mut self,
         now: u64,
@@ -179,10 +197,9 @@ impl<A: Allocator + Copy> Agent<A> {
             (AreFollowed now (view_of self.new.asker.follower.client) self.new.asker.follower.subjects.items) }
         ensures broke { OnErr result (IsBroken self.old self.new) }
     {
+        let was = self.last_zxid();
         let is_lost = self.hear_once(now, input, actions)?;
-        if is_lost {
-            return self.hear_cut(now, actions);
-        }
-        Ok(())
+        self.leave_where_lost(now, is_lost, actions)?;
+        self.doubt_where_risen(now, was, actions)
     }
 }

@@ -6,8 +6,9 @@
 //! the clock, and no policy: [`Agent::step`] takes each [`AgentInput`], and [`Agent::deadline`] tells when it is to be called at the
 //! latest.
 //!
-//! Subjects that the program follows are kept good, as in `zk_follow`. After an expiry another session begins by itself, with the last
-//! seen zxid, so that no server which is behind it admits it.
+//! Subjects that the program follows are kept good, as in `zk_follow`. If a server shows another epoch than was seen before, each is read
+//! once more, since servers that elect may have taken back what one of them had acknowledged. After an expiry another session begins by
+//! itself, with the last seen zxid, so that no server which is behind it admits it.
 //!
 //! Calls of the program wait in one line, in the order of asking, until the client can take them; each is answered once, or times out. A
 //! read whose reply is lost with its connection is asked again, in its place; a write is not. A reply that is too long ends the connection:
@@ -29,6 +30,7 @@ mod asker;
 mod calls;
 mod credential;
 mod credentials;
+mod epochs;
 mod frames;
 mod growing;
 mod hearing;

@@ -8,7 +8,7 @@ use Rattle.std.proofs.lemmas.List.Elements.{filter-append}
 use Rattle.std.proofs.lemmas.List.Folds.{list_any-append}
 use Rattle.std.specs.List.{list_any}
 use Rattle.std.proofs.lemmas.Bool.Decides.{nat_tests}
-use Rattle.std.specs.Prelude.{nat_le, nat_lt, length, filter, ◌||◌}
+use Rattle.std.specs.Prelude.{nat_le, nat_lt, length, filter, not, ◌||◌, ◌&&◌}
 use Rattle.zk_session.specs.declared.states.State.TheVariants.{Connected}
 use Rattle.zk_frames.specs.Frame.{frame}
 use Rattle.zk_conversation.specs.Calls.{Call as Asked_call, call_payload}
@@ -126,7 +126,8 @@ module _ {A : Type 0} (view after : View) (asks : Asks view after) where
 
   pub others_followed : (now reads more : ℕ) → reads ≤ more → (subject : Subject A)
       → IsFollowed now view reads subject → IsFollowed now after more subject
-  others_followed now reads more le subject (inl shown) = inl (ap (λ cache. is_shown cache subject.side subject.path) asks.cache ∙ shown)
+  others_followed now reads more le subject (inl sure) =
+      inl (ap (λ cache. not subject.is_doubted && is_shown cache subject.side subject.path) asks.cache ∙ sure)
   others_followed now reads more le subject (inr (inl read)) =
       inr (inl (being_read_on view after asks subject.ticket subject.side subject.path read))
   others_followed now reads more le subject (inr (inr (inl busy))) = inr (inr (inl (busy_on view after reads more asks le busy)))

@@ -19,7 +19,7 @@ use Rattle.zk_follow.specs.declared.subject.Subject.{Subject}
 use Rattle.zk_follow.specs.Following.{is_among, is_quiet, is_report_of, is_reported, is_resting, taken, told_of}
 use Rattle.zk_follow.specs.Following.{is_still, was_shown, AreQuietBut, AreStillBut, AreVisited, IsVisited, Visits}
 use Rattle.zk_follow.specs.Places.{has_place, key_of, AreFound}
-use Rattle.zk_follow.specs.inner.Places.{is_named, AreSameBut}
+use Rattle.zk_follow.specs.inner.Places.{is_named, AreSameBut, HasEach}
 use Rattle.zk_follow.specs.Owning.{AreOwn}
 use Rattle.zk_follow.specs.inner.Owning.{asks_to_watch, is_of}
 use Rattle.zk_follow.specs.inner.Resting.{is_about, is_about_all, is_beside, is_reply, may_show_any, tells_fields, AreLeft, AreTold}
@@ -103,26 +103,20 @@ all_named foreign all ticket path (output ∷ outputs) of_all e =
 
 -- ---- who is left
 
-module _ {A : Type 0} (index : Index A) (subjects : List (Subject A)) (count : index.count ≡ length subjects)
-    (found : AreFound index subjects) where
+module _ {A : Type 0} (index : Index A) (subjects : List (Subject A)) (count : index.count ≡ length subjects) where
   within_count : (k : ℕ) → k < length subjects → k < index.count
   within_count k within = omega (arith, within, count)
 
   module _ (foreign : Bool) (moment : ℕ) (view : View) (turn : Turn) (after : View) (rule : RuleAt moment view turn after)
       (asks : foreign ≡ false → asks_to_watch turn.input ≡ false) (own : foreign ≡ false → AreOwn subjects view.pending)
       (places : List ℕ)
-      (about : (ticket : ℕ) (path : Text) (at : ℕ) → at < index.count → has_place index.keys ticket at ≡ true
-      → has_place index.keys (key_of path) at ≡ true → list_any (is_about foreign subjects ticket path) turn.outputs ≡ true
-      → is_among at places ≡ true)
-      (beside : (path : Text) (at : ℕ) → at < index.count → has_place index.keys (key_of path) at ≡ true
-      → list_any (is_beside subjects path) turn.outputs ≡ true → is_among at places ≡ true) where
+      (about : HasEach (λ s. list_any (is_about foreign subjects s.ticket s.path) turn.outputs) index.count subjects places)
+      (beside : HasEach (λ s. list_any (is_beside subjects s.path) turn.outputs) index.count subjects places) where
     silent : (k : ℕ) (d : Subject A) → k < index.count → is_among k places ≡ false
         → list_any (is_about foreign subjects (get_or subjects k d).ticket (get_or subjects k d).path) turn.outputs ≡ false
     silent k d fits none =
         let s : Subject A = get_or subjects k d in
-        let its = found.1 k d fits in
-        unless (list_any (is_about foreign subjects s.ticket s.path) turn.outputs) (is_among k places)
-        (about s.ticket s.path k fits its.0 its.1) none
+        unless (list_any (is_about foreign subjects s.ticket s.path) turn.outputs) (is_among k places) (about k d fits) none
 
     -- after a step of the client, who was quiet is so, if no output is about it
     pub quiet_stays : (some all : List ℕ) → AreQuietBut view index.count subjects some
@@ -154,8 +148,7 @@ module _ {A : Type 0} (index : Index A) (subjects : List (Subject A)) (count : i
             (silent k d fits none) (stirred e k d fits asleep))
         by false e =
             let none_beside : list_any (is_beside subjects s.path) turn.outputs ≡ false =
-            unless (list_any (is_beside subjects s.path) turn.outputs) (is_among k places)
-            (beside s.path k fits (found.1 k d fits).1) none in
+            unless (list_any (is_beside subjects s.path) turn.outputs) (is_among k places) (beside k d fits) none in
             still_at foreign subjects moment view turn after rule (λ going. own_input subjects turn.input (asks going)) own s
             (silent k d fits none) (all_beside foreign subjects s.path turn.outputs e none_beside) (still k d fits asleep)
 
@@ -182,15 +175,13 @@ module _ {A : Type 0} (index : Index A) (subjects : List (Subject A)) (count : i
   -- those are told of among whom is each of whom there is something to tell
   pub told_by : (view : View) (outputs : List (Made A)) (awake places : List ℕ) → AreStillBut view index.count subjects awake
       → ((at : ℕ) → at < index.count → is_among at awake ≡ true → is_among at places ≡ true)
-      → ((ticket : ℕ) (path : Text) (at : ℕ) → at < index.count → has_place index.keys ticket at ≡ true
-      → has_place index.keys (key_of path) at ≡ true → list_any (is_named ticket path) (said outputs) ≡ true → is_among at places ≡ true)
+      → HasEach (λ s. list_any (is_named s.ticket s.path) (said outputs)) index.count subjects places
       → AreTold view (said outputs) subjects places
   told_by view outputs awake places quiet had named k d within none =
       let s : Subject A = get_or subjects k d in
       let fits = within_count k within in
-      let its = found.1 k d fits in
       let unnamed : list_any (is_named s.ticket s.path) (said outputs) ≡ false =
-      unless (list_any (is_named s.ticket s.path) (said outputs)) (is_among k places) (named s.ticket s.path k fits its.0 its.1) none in
+      unless (list_any (is_named s.ticket s.path) (said outputs)) (is_among k places) (named k d fits) none in
       let asleep : is_among k awake ≡ false = unless (is_among k awake) (is_among k places) (had k fits) none in
       (quiet k d fits asleep, named_first s.ticket s.path outputs unnamed)
 

@@ -1,6 +1,6 @@
 -- Stale answers are forgotten: what is good stays, and no call is another one, so each subject stands where it stood.
 use Rattle.std.proofs.Common.{◌≡◌, ◌∙◌, ℕ, Bool, List, Option, Some, None, inl, inr, get_or, refl, ap}
-use Rattle.std.specs.Prelude.{◌||◌, All, if◌then◌else◌, false}
+use Rattle.std.specs.Prelude.{◌||◌, ◌&&◌, All, if◌then◌else◌, false, not}
 use Rattle.zk_nodes.specs.Path.{Text}
 use Rattle.zk_nodes.specs.declared.side.Side.{Side}
 use Rattle.zk_nodes.specs.declared.side.Side.TheVariants.{Data, Child}
@@ -46,7 +46,8 @@ after_forgetting view = record view { cache = forgotten view.cache }
 
 followed_still : {A : Type 0} (now : ℕ) (view : View) (reads : ℕ) (subject : Subject A)
     → IsFollowed now view reads subject → IsFollowed now (after_forgetting view) reads subject
-followed_still now view reads subject (inl shown) = inl (shown_still view.cache subject.side subject.path ∙ shown)
+followed_still now view reads subject (inl sure) =
+    inl (ap (λ is. not subject.is_doubted && is) (shown_still view.cache subject.side subject.path) ∙ sure)
 followed_still now view reads subject (inr rest) = inr rest
 
 pub all_followed_still : {A : Type 0} (now : ℕ) (view : View) (subjects : List (Subject A))

@@ -10,7 +10,7 @@ use Rattle.zk_turns.specs.Turns.{Input, Output}
 use Rattle.zk_turns.specs.View.{View}
 use Rattle.zk_follow.specs.declared.progress.Progress.{Progress}
 use Rattle.zk_follow.specs.declared.subject.Subject.{Subject}
-use Rattle.zk_follow.specs.Following.{reads, taken, told_of, IsVisited, Steps, Visits}
+use Rattle.zk_follow.specs.Following.{doubted, reads, taken, told_of, IsVisited, Steps, Visits}
 use Rattle.zk_follow.specs.Owning.{is_own, is_read_in, AreOwn}
 use Rattle.zk_follow.specs.inner.Owning.{asks_to_watch}
 use Rattle.zk_follow.proofs.Finding.{visit_keeps}
@@ -80,6 +80,16 @@ own_told {A} view subjects =
     own_still subjects (map (told_of view) subjects) (omega (arith, size))
     (λ k d within.
     let is = get_or-map (told_of view) subjects k d d within in
+    (ap (λ (s : Subject A). s.ticket) is, ap (λ (s : Subject A). s.side) is, ap (λ (s : Subject A). s.path) is))
+
+-- each is doubted
+pub own_doubted : {A : Type 0} (subjects : List (Subject A)) (pending : List Pending)
+    → AreOwn subjects pending → AreOwn (map doubted subjects) pending
+own_doubted {A} subjects =
+    let size = length-map subjects doubted in
+    own_still subjects (map doubted subjects) (omega (arith, size))
+    (λ k d within.
+    let is = get_or-map doubted subjects k d d within in
     (ap (λ (s : Subject A). s.ticket) is, ap (λ (s : Subject A). s.side) is, ap (λ (s : Subject A). s.path) is))
 
 -- where nothing waits

@@ -1,5 +1,5 @@
 -- Who is among places, and what is put into a bucket.
-use Rattle.std.proofs.Common.{◌≡◌, ◌≢◌, ◌<◌, ◌+◌, ◌++◌, ◌∷◌, ◌||◌, ◌∙◌, ℕ, Bool, true, false, List, [], length, get_or, map, set}
+use Rattle.std.proofs.Common.{◌≡◌, ◌≢◌, ◌<◌, ◌+◌, ◌%◌, ◌++◌, ◌∷◌, ◌||◌, ◌∙◌, ℕ, Bool, true, false, List, [], length, get_or, map, set}
 use Rattle.std.proofs.Common.{take}
 use Rattle.std.proofs.Common.{refl, sym, ap, subst, arith, ◌==◌, zero, suc}
 use Rattle.std.specs.List.{Contains}
@@ -7,8 +7,9 @@ use Rattle.std.proofs.lemmas.Bool.Decides.{Decides-eqb}
 use Rattle.std.proofs.lemmas.List.{get_or-map, get_or-set_same, get_or-set_other, length-set}
 use Rattle.std.proofs.lemmas.List.Folds.{list_any_at, list_any-append, list_any_more, Any-from_list_any}
 use Rattle.std.specs.Prelude.{Vec}
+use Rattle.zk_follow.specs.declared.places.Places.{Places}
 use Rattle.zk_follow.specs.Following.{is_among}
-use Rattle.zk_follow.specs.Places.{places_of}
+use Rattle.zk_follow.specs.Places.{has_place, places_of}
 
 pub among-contains : (place : ℕ) (places : List ℕ) → is_among place places ≡ true → Contains places place
 among-contains place places e =
@@ -58,6 +59,13 @@ not_it at place places less e = by (is_among at places) (at == place) refl e
     by false true f e = absurd (let is : at ≡ place = (Decides-eqb at place).0 f in omega arith)
     by false false f e = absurd cc
 
+-- who was there, and who is added
+pub or_first : (at place : ℕ) (places : List ℕ) → is_among at places ≡ true → (is_among at places || at == place) ≡ true
+or_first at place places e = ap (λ b. b || at == place) e
+
+pub or_last : (place : ℕ) (places : List ℕ) → (is_among place places || place == place) ≡ true
+or_last place places = ap (λ b. is_among place places || b) ((Decides-eqb place place).1 refl) ∙ or_true (is_among place places)
+
 -- one more of a list is gone over
 pub one_more : (at : ℕ) (first all places : List ℕ) (index : ℕ) → index < length places
     → ((is_among at first || is_among at (take index places)) ≡ true → is_among at all ≡ true)
@@ -76,6 +84,12 @@ one_more at first all places index within had e =
     by false false false had e = absurd cc
 
 -- ---- buckets
+
+-- who has a place by a key is in the bucket of that key
+pub in_bucket : {A : Type 0} (keys : Places A) (key place : ℕ) (bucket : List ℕ)
+    → bucket ≡ places_of keys.buckets.items (key % length keys.buckets.items) → has_place keys key place ≡ true
+    → is_among place bucket ≡ true
+in_bucket keys key place bucket is has = ap (is_among place) is ∙ has
 
 module _ {A : Type 0} (buckets : List (Vec ℕ A)) (slot : ℕ) (old new : Vec ℕ A) (place : ℕ) (fits : slot < length buckets)
     (more : new.items ≡ (get_or buckets slot old).items ++ place ∷ []) where

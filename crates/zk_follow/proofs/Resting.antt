@@ -18,7 +18,7 @@ use Rattle.zk_follow.specs.declared.progress.Progress.TheVariants.{Due, Reading,
 use Rattle.zk_follow.specs.declared.subject.Subject.{Subject}
 use Rattle.zk_follow.specs.Following.{answered, heard, heard_all, is_kept, is_reported, is_shown, news_about, news_in}
 use Rattle.zk_follow.specs.Following.{says_none}
-use Rattle.zk_follow.specs.Following.{is_quiet, told_after, told_of, was_shown, woken, woken_progress, IsCounted, IsFollowed}
+use Rattle.zk_follow.specs.Following.{is_quiet, is_sure, told_after, told_of, was_shown, woken, woken_progress, IsCounted, IsFollowed}
 use Rattle.zk_follow.specs.inner.Following.{Asks}
 use Rattle.zk_follow.specs.inner.Places.{is_heard_by}
 use Rattle.zk_follow.specs.Owning.{AreOwn}
@@ -43,29 +43,33 @@ pub record Rested {A : Type 0} (view : View) (subject : Subject A) : Type 0 wher
   pub due : is_due subject.progress ≡ true
   pub missing : subject.is_missing ≡ false
   pub there : subject.is_there ≡ false
+  pub undoubted : subject.is_doubted ≡ false
   pub stays : Stays subject.side subject.path view
 
 pub parts_of : {A : Type 0} (view : View) (subject : Subject A) → is_resting view subject ≡ true → Rested view subject
 parts_of view subject e =
     let watched = side_has view.lists subject.side subject.path in
     let good = holds view.cache subject.side subject.path in
-    let one = and_parts (is_due subject.progress) (not subject.is_missing && (not subject.is_there && (watched && good))) e in
-    let two = and_parts (not subject.is_missing) (not subject.is_there && (watched && good)) one.1 in
-    let three = and_parts (not subject.is_there) (watched && good) two.1 in
+    let last = not subject.is_doubted && (watched && good) in
+    let one = and_parts (is_due subject.progress) (not subject.is_missing && (not subject.is_there && last)) e in
+    let two = and_parts (not subject.is_missing) (not subject.is_there && last) one.1 in
+    let three = and_parts (not subject.is_there) last two.1 in
+    let four = and_parts (not subject.is_doubted) (watched && good) three.1 in
     record {
       due = one.0;
       missing = not_parts subject.is_missing two.0;
       there = not_parts subject.is_there three.0;
-      stays = and_parts watched good three.1;
+      undoubted = not_parts subject.is_doubted four.0;
+      stays = and_parts watched good four.1;
     }
 
 pub rests_by : {A : Type 0} (view : View) (subject : Subject A) → Rested view subject → is_resting view subject ≡ true
 rests_by view subject parts =
-    ap (λ b. b && (not subject.is_missing && (not subject.is_there && (side_has view.lists subject.side subject.path
-    && holds view.cache subject.side subject.path)))) parts.due
-    ∙ ap (λ b. not b && (not subject.is_there && (side_has view.lists subject.side subject.path
-    && holds view.cache subject.side subject.path))) parts.missing
-    ∙ ap (λ b. not b && (side_has view.lists subject.side subject.path && holds view.cache subject.side subject.path)) parts.there
+    let last = side_has view.lists subject.side subject.path && holds view.cache subject.side subject.path in
+    ap (λ b. b && (not subject.is_missing && (not subject.is_there && (not subject.is_doubted && last)))) parts.due
+    ∙ ap (λ b. not b && (not subject.is_there && (not subject.is_doubted && last))) parts.missing
+    ∙ ap (λ b. not b && (not subject.is_doubted && last)) parts.there
+    ∙ ap (λ b. not b && last) parts.undoubted
     ∙ ap (λ b. b && holds view.cache subject.side subject.path) parts.stays.0
     ∙ parts.stays.1
 
@@ -110,11 +114,14 @@ unheard_about foreign all ticket path (output ∷ outputs) e =
     by _ e = refl
 
 module _ {A : Type 0} (now : ℕ) (view : View) (subject : Subject A) (rest : is_resting view subject ≡ true) where
-  pub rest_shown : is_shown view.cache subject.side subject.path ≡ true
-  rest_shown = shown_by view.cache subject.side subject.path (parts_of view subject rest).stays.1
+  pub rest_sure : is_sure view subject ≡ true
+  rest_sure =
+      let parts = parts_of view subject rest in
+      ap (λ b. not b && is_shown view.cache subject.side subject.path) parts.undoubted
+      ∙ shown_by view.cache subject.side subject.path parts.stays.1
 
   pub rest_followed : (reads : ℕ) → IsFollowed now view reads subject
-  rest_followed reads = inl rest_shown
+  rest_followed reads = inl rest_sure
 
   pub rest_counted_as : IsCounted view subject
   rest_counted_as going reads =
@@ -139,7 +146,7 @@ not_visited now view subject = (view, [], view, inl (refl, refl, inl refl))
 rested_at : {A : Type 0} (view after : View) (subject : Subject A)
     → Rested view subject → Stays subject.side subject.path after → Rested after subject
 rested_at view after subject parts stays =
-    record { due = parts.due; missing = parts.missing; there = parts.there; stays = stays }
+    record { due = parts.due; missing = parts.missing; there = parts.there; undoubted = parts.undoubted; stays = stays }
 
 pub rests_at : {A : Type 0} (foreign : Bool) (all : List (Subject A)) (moment : ℕ) (view : View) (turn : Turn) (after : View)
     → RuleAt moment view turn after → (foreign ≡ false → IsOwnInput all turn.input) → (foreign ≡ false → AreOwn all view.pending)
@@ -195,16 +202,15 @@ module _ {A : Type 0} (view : View) (subject : Subject A) (rest : is_resting vie
       news_about_list (Some what) = (subject.ticket, what) ∷ []
 
       all_about : (outputs : List Output) → is_reported subject.path outputs ≡ false
-          → news_about (is_shown view.cache subject.side subject.path) (is_reported subject.path outputs) subject.progress subject.told
-          ≡ None
+          → news_about (is_sure view subject) (is_reported subject.path outputs) subject.progress subject.told ≡ None
       all_about outputs unreported =
-          ap (λ is. news_about is (is_reported subject.path outputs) subject.progress subject.told) (rest_shown 0 view subject rest)
+          ap (λ is. news_about is (is_reported subject.path outputs) subject.progress subject.told) (rest_sure 0 view subject rest)
           ∙ ap (λ is. cond (was_shown subject.told && not is) None (Some Shown)) unreported
           ∙ ap (λ was. cond (was && true) None (Some Shown)) was
 
   pub told_same : told_of view subject ≡ subject
   told_same =
-      ap (λ is. record subject { told = told_after is subject.progress subject.told }) (rest_shown 0 view subject rest)
+      ap (λ is. record subject { told = told_after is subject.progress subject.told }) (rest_sure 0 view subject rest)
       ∙ ap (λ (told : Option News). record subject { told = told }) (sym (shown_is subject.told was))
 
 pub quiet_parts : {A : Type 0} (view : View) (subject : Subject A) → is_quiet view subject ≡ true

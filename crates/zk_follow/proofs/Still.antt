@@ -9,7 +9,7 @@ use Rattle.zk_turns.specs.Turns.{Output, Answer, Enters, Turn}
 use Rattle.zk_turns.specs.View.{View}
 use Rattle.zk_turns.specs.Rule.{RuleAt}
 use Rattle.zk_follow.specs.declared.subject.Subject.{Subject}
-use Rattle.zk_follow.specs.Following.{is_among, is_awaited, is_due, is_quiet, is_reported, is_resting, is_shown, is_still}
+use Rattle.zk_follow.specs.Following.{is_among, is_awaited, is_due, is_quiet, is_reported, is_resting, is_shown, is_still, is_sure}
 use Rattle.zk_follow.specs.Following.{news_about, news_in, news_list, told_after, told_of, was_shown, woken, woken_progress}
 use Rattle.zk_follow.specs.inner.Following.{Asks}
 use Rattle.zk_follow.specs.inner.Places.{AreSameBut}
@@ -77,14 +77,13 @@ among_told k old waiting awake last places had kept e =
 
 module _ {A : Type 0} (view : View) (subject : Subject A) where
   pub awaited_parts : is_awaited view subject ≡ true
-      → (is_due subject.progress ≡ true) × (is_shown view.cache subject.side subject.path ≡ false)
+      → (is_due subject.progress ≡ true) × (is_sure view subject ≡ false)
   awaited_parts e =
-      let parts = and_parts (is_due subject.progress) (not (is_shown view.cache subject.side subject.path)) e in
-      (parts.0, not_parts (is_shown view.cache subject.side subject.path) parts.1)
+      let parts = and_parts (is_due subject.progress) (not (is_sure view subject)) e in
+      (parts.0, not_parts (is_sure view subject) parts.1)
 
-  awaited_by : is_due subject.progress ≡ true → is_shown view.cache subject.side subject.path ≡ false → is_awaited view subject ≡ true
-  awaited_by due unshown =
-      ap (λ b. b && not (is_shown view.cache subject.side subject.path)) due ∙ ap (λ b. not b) unshown
+  awaited_by : is_due subject.progress ≡ true → is_sure view subject ≡ false → is_awaited view subject ≡ true
+  awaited_by due unsure = ap (λ b. b && not (is_sure view subject)) due ∙ ap (λ b. not b) unsure
 
   -- ---- what is still
 
@@ -155,6 +154,11 @@ module _ {A : Type 0} (view : View) (subject : Subject A) where
 
 -- ---- from view to view
 
+-- what is doubted, or not good, is so still if it is not good still
+unsure_if : (is_doubted was is : Bool) → (was ≡ false → is ≡ false) → (not is_doubted && was) ≡ false → (not is_doubted && is) ≡ false
+unsure_if true was is still e = refl
+unsure_if false was is still e = still e
+
 module _ {A : Type 0} (view after : View) (subject : Subject A) where
   quiet_if : (is_resting view subject ≡ true → is_resting after subject ≡ true) → is_quiet view subject ≡ true
       → is_quiet after subject ≡ true
@@ -169,7 +173,9 @@ module _ {A : Type 0} (view after : View) (subject : Subject A) where
     | inl quiet ↦ still_quiet after subject (quiet_if so quiet)
     | inr waits ↦
         let parts = awaited_parts view subject waits.0 in
-        still_awaited after subject (awaited_by after subject parts.0 (still parts.1)) waits.1
+        let unsure = unsure_if subject.is_doubted (is_shown view.cache subject.side subject.path)
+        (is_shown after.cache subject.side subject.path) still parts.1 in
+        still_awaited after subject (awaited_by after subject parts.0 unsure) waits.1
   ]
 
   pub quiet_on : Asks view after → is_quiet view subject ≡ true → is_quiet after subject ≡ true

@@ -4,15 +4,14 @@ use Rattle.std.proofs.Common.{refl, sym, ap, arith}
 use Rattle.std.specs.Prelude.{nat_lt}
 use Rattle.std.proofs.lemmas.List.{get_or-map, get_or_past, length-map, map-append, take_more}
 use Rattle.std.proofs.lemmas.Bool.Decides.{nat_tests}
-use Rattle.zk_nodes.specs.Path.{Text}
 use Rattle.zk_turns.specs.Turns.{Output, Answer, Enters, Report}
 use Rattle.zk_client.specs.declared.output.Output.{Output as Made}
 use Rattle.zk_client.specs.Views.{output_view, said}
 use Rattle.zk_follow.specs.declared.index.Index.{Index}
 use Rattle.zk_follow.specs.declared.subject.Subject.{Subject}
 use Rattle.zk_follow.specs.Following.{answered, heard, heard_all, is_among, taken, woken}
-use Rattle.zk_follow.specs.Places.{has_place, key_of, AreFound}
-use Rattle.zk_follow.specs.inner.Places.{is_heard_by, AreSameBut}
+use Rattle.zk_follow.specs.Places.{AreFound}
+use Rattle.zk_follow.specs.inner.Places.{is_heard_by, AreSameBut, HasEach}
 use Rattle.zk_follow.specs.inner.Resting.{AreUnmoved}
 use Rattle.zk_follow.proofs.Finding.{found_still, unless}
 use Rattle.zk_follow.proofs.Hearing.{all_heard, all_same_path, all_same_ticket}
@@ -27,17 +26,14 @@ unheard now subject (Enters state) e = absurd cc
 unheard now subject _ e = refl
 
 -- who is none of those that were found is as it was
-pub unfound : {A : Type 0} (now : ℕ) (index : Index A) (subjects : List (Subject A)) (output : Output) (places : List ℕ)
-    → index.count ≡ length subjects → AreFound index subjects
-    → ((ticket : ℕ) (path : Text) (at : ℕ) → at < index.count → has_place index.keys ticket at ≡ true
-    → has_place index.keys (key_of path) at ≡ true → is_heard_by ticket path output ≡ true → is_among at places ≡ true)
+pub unfound : {A : Type 0} (now count : ℕ) (subjects : List (Subject A)) (output : Output) (places : List ℕ)
+    → count ≡ length subjects → HasEach (λ s. is_heard_by s.ticket s.path output) count subjects places
     → (k : ℕ) (d : Subject A) → k < length subjects → is_among k places ≡ false
     → heard now (get_or subjects k d) output ≡ get_or subjects k d
-unfound {A} now index subjects output places count found hear k d within none =
+unfound {A} now count subjects output places size hear k d within none =
     let s : Subject A = get_or subjects k d in
-    let fits : k < index.count = omega (arith, within, count) in
-    let its = found.1 k d fits in
-    unheard now s output (unless (is_heard_by s.ticket s.path output) (is_among k places) (hear s.ticket s.path k fits its.0 its.1) none)
+    let fits : k < count = omega (arith, within, size) in
+    unheard now s output (unless (is_heard_by s.ticket s.path output) (is_among k places) (hear k d fits) none)
 
 -- they are found still
 pub found_heard : {A : Type 0} (now : ℕ) (index : Index A) (old new : List (Subject A)) (output : Output)

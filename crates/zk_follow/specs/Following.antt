@@ -10,7 +10,7 @@ use Rattle.zk_conversation.specs.Pending.{Pending, Part_waits, Call_waits, calls
 use Rattle.zk_conversation.specs.Calls.{Call}
 use Rattle.zk_watches.specs.Lists.{side_has}
 use Rattle.zk_conversation.specs.Questions.{question_of, Question, Exists, GetData, GetChildren}
-use Rattle.zk_conversation.specs.Results.{Result, NoNode, Refused as Refused_by}
+use Rattle.zk_conversation.specs.Results.{Result, NoNode, Listing, Read, Refused as Refused_by}
 use Rattle.zk_cache.specs.declared.held.Kept.{Kept}
 use Rattle.zk_cache.specs.Kept.{Answer, Absent, Known, Full, is_good, is_marked_good}
 use Rattle.zk_session.specs.declared.states.State.TheVariants.{Connected}
@@ -75,12 +75,25 @@ abbrev pub entered : Progress → Progress
 entered (Refused TooLarge until) = Refused TooLarge until
 entered _ = Due
 
+-- Whether a subject is doubted still once a read of it was answered. A doubt ends with a reply that the client keeps: the data, or the
+-- names, or that there is no node, if the read asked whether there is one. It ends with no loss, and with none that came before the doubt.
+abbrev pub doubted_by : (was_missing was : Bool) → Result → Bool
+doubted_by was_missing was (Read bytes stat) = false
+doubted_by was_missing was (Listing names stat) = false
+doubted_by true was NoNode = false
+doubted_by was_missing was _ = was
+
+abbrev pub doubted_after : (was_missing was : Bool) → Outcome → Bool
+doubted_after was_missing was (Replied zxid result) = doubted_by was_missing was result
+doubted_after was_missing was _ = was
+
 -- What one output makes of a subject. A report of its path says that the node is another one.
 abbrev pub answered : {A : Type 0} → ℕ → Outcome → Subject A → Subject A
 answered now outcome subject = record subject {
   progress = progress_after now subject.is_there outcome;
   is_missing = missing_after subject.is_missing outcome;
   is_there = there_after subject.is_missing subject.is_there outcome;
+  is_doubted = doubted_after subject.is_missing subject.is_doubted outcome;
 }
 
 abbrev pub heard : {A : Type 0} → ℕ → Subject A → Output → Subject A
@@ -110,6 +123,10 @@ is_kept test (Some kept) = if is_good kept.mark then test kept.answer else false
 abbrev pub is_shown : Cache → Side → Text → Bool
 is_shown cache Data path = is_kept is_whole (cache.nodes path)
 is_shown cache Child path = is_marked_good (cache.children path) || is_kept says_none (cache.nodes path)
+
+-- What is kept of a subject is sure if it is good, and the subject is not doubted.
+abbrev pub is_sure : {A : Type 0} → View → Subject A → Bool
+is_sure view subject = not subject.is_doubted && is_shown view.cache subject.side subject.path
 
 -- the question that reads a subject, and asks for a watch: the other one where there is no node
 abbrev pub read_of : Side → Bool → Text → Question
@@ -186,11 +203,11 @@ abbrev pub IsAhead : (now : ℕ) → Progress → Type 0
 IsAhead now (Refused why until) = IsAfter now until
 IsAhead now _ = ⊤
 
--- THE promise about a subject, where this many are being read: what is kept of it is good; or else a read of it is under way, or waits its
+-- THE promise about a subject, where this many are being read: what is kept of it is sure; or else a read of it is under way, or waits its
 -- turn, or no server has accepted the connection, or the last read was refused, and the moment to read it again is after this one.
 abbrev pub IsFollowed : {A : Type 0} → (now : ℕ) → View → (reads : ℕ) → Subject A → Type 0
 IsFollowed now view reads subject =
-    (is_shown view.cache subject.side subject.path ≡ true) ⊎ (IsBeingRead view subject.ticket subject.side subject.path
+    (is_sure view subject ≡ true) ⊎ (IsBeingRead view subject.ticket subject.side subject.path
     ⊎ (IsBusy view reads ⊎ ((view.standing.state ≢ Connected) ⊎ IsRefused now subject.progress)))
 
 -- of each of these, where no other is followed
@@ -206,13 +223,13 @@ abbrev pub is_due : Progress → Bool
 is_due Due = true
 is_due _ = false
 
--- A subject rests where what is kept of it is good and its path is watched, and nothing is noted of its reading.
+-- A subject rests where what is kept of it is sure and its path is watched, and nothing is noted of its reading.
 abbrev pub is_resting : {A : Type 0} → View → Subject A → Bool
 is_resting view subject =
-    is_due subject.progress && (not subject.is_missing && (not subject.is_there && (side_has view.lists subject.side subject.path
-    && holds view.cache subject.side subject.path)))
+    is_due subject.progress && (not subject.is_missing && (not subject.is_there && (not subject.is_doubted
+    && (side_has view.lists subject.side subject.path && holds view.cache subject.side subject.path))))
 
--- what becomes of a subject of which what is kept is good
+-- what becomes of a subject of which what is kept is sure
 abbrev pub rested_progress : Progress → Progress
 rested_progress Reading = Reading
 rested_progress _ = Due
@@ -286,6 +303,10 @@ pub record BreaksOff (view new : View) : Type 0 where
 abbrev pub due_again : {A : Type 0} → Subject A → Subject A
 due_again subject = record subject { progress = Due; is_there = false }
 
+-- What is kept of a subject is doubted: it is to be read once more, whether or not that is good.
+abbrev pub doubted : {A : Type 0} → Subject A → Subject A
+doubted subject = record subject { is_doubted = true }
+
 -- a subject that is followed from now on: it is to be read, and nothing is known of it
 abbrev pub fresh : {A : Type 0} → (ticket : ℕ) → Side → Text → Subject A
 fresh ticket side path = record {
@@ -295,6 +316,7 @@ fresh ticket side path = record {
   progress = Due;
   is_missing = false;
   is_there = false;
+  is_doubted = false;
   told = None;
 }
 
@@ -347,15 +369,15 @@ is_report_of path _ = false
 abbrev pub is_reported : Text → List Output → Bool
 is_reported path outputs = list_any (is_report_of path) outputs
 
--- What there is to tell of a subject, by whether what is kept of it is good, and whether its path was reported since. That it is good is
--- told once, and again after each report; why its read was refused, once for each new reason.
-abbrev pub news_about : (is_good is_reported : Bool) → Progress → (told : Option News) → Option News
+-- What there is to tell of a subject, by whether what is kept of it is sure, and whether its path was reported since. That it is sure is
+-- told once, and again after each report and each doubt; why its read was refused, once for each new reason.
+abbrev pub news_about : (is_sure is_reported : Bool) → Progress → (told : Option News) → Option News
 news_about true is_reported progress told = if was_shown told && not is_reported then None else Some Shown
 news_about false is_reported (Refused why until) told = if was_refused why told then None else Some (Denied why)
 news_about false is_reported progress told = None
 
 -- what was told of it last, after that
-abbrev pub told_after : (is_good : Bool) → Progress → (told : Option News) → Option News
+abbrev pub told_after : (is_sure : Bool) → Progress → (told : Option News) → Option News
 told_after true progress told = Some Shown
 told_after false (Refused why until) told = Some (Denied why)
 told_after false progress told = if was_shown told then None else told
@@ -368,7 +390,7 @@ news_list ticket (Some what) = (ticket, what) ∷ []
 abbrev pub news_in : {A : Type 0} → View → List Output → Subject A → List (ℕ × News)
 news_in view outputs subject =
     news_list subject.ticket
-    (news_about (is_shown view.cache subject.side subject.path) (is_reported subject.path outputs) subject.progress subject.told)
+    (news_about (is_sure view subject) (is_reported subject.path outputs) subject.progress subject.told)
 
 -- A subject is quiet if it rests and that was told of it last.
 abbrev pub is_quiet : {A : Type 0} → View → Subject A → Bool
@@ -383,11 +405,11 @@ abbrev pub AreQuietBut : {A : Type 0} → View → (count : ℕ) → List (Subje
 AreQuietBut {A} view count subjects awake =
     (k : ℕ) (d : Subject A) → k < count → is_among k awake ≡ false → is_quiet view (slice_index_or subjects k d) ≡ true
 
--- A subject is awaited if it is to be read, and what is kept of it is not good.
+-- A subject is awaited if it is to be read, and what is kept of it is not sure.
 abbrev pub is_awaited : {A : Type 0} → View → Subject A → Bool
-is_awaited view subject = is_due subject.progress && not (is_shown view.cache subject.side subject.path)
+is_awaited view subject = is_due subject.progress && not (is_sure view subject)
 
--- A step may pass it over, and there is nothing to tell of it: it is quiet; or it is awaited, and that it is good was not told last.
+-- A step may pass it over, and there is nothing to tell of it: it is quiet; or it is awaited, and that it is sure was not told last.
 abbrev pub is_still : {A : Type 0} → View → Subject A → Bool
 is_still view subject = is_quiet view subject || (is_awaited view subject && not (was_shown subject.told))
 
@@ -406,4 +428,4 @@ ticked now view = next view (Ticked now)
 
 -- each was told of
 abbrev pub told_of : {A : Type 0} → View → Subject A → Subject A
-told_of view subject = record subject { told = told_after (is_shown view.cache subject.side subject.path) subject.progress subject.told }
+told_of view subject = record subject { told = told_after (is_sure view subject) subject.progress subject.told }

@@ -13,6 +13,7 @@ ghost use Rattle.zk_turns.specs.Rule.{forgotten, Stands};
 ghost use Rattle.zk_client.specs.Clients.{renewed_start, view_of};
 ghost use Rattle.zk_client.specs.Views.{input_view, said};
 ghost use Rattle.zk_follow.specs.Following.{due_again, first_again, first_of, again_at, fresh, heard_all, news_in, told_of, unfollowed};
+ghost use Rattle.zk_follow.specs.Following.{doubted};
 ghost use Rattle.zk_follow.specs.Following.{how_many_reading, taken, ticked, unfollowed_all};
 ghost use Rattle.zk_follow.specs.Following.{AreFollowed, AreQuiet, AreQuietBut, AreVisited, BreaksOff, IsAhead, IsCounted, Steps};
 ghost use Rattle.zk_follow.specs.inner.Following.{AreSeen, Asks, Reads};
@@ -24,6 +25,7 @@ ghost use Rattle.zk_follow.specs.inner.Places.{AreSameBut, IsAscending};
 ghost use Rattle.zk_follow.specs.inner.Resting.{AreAtRest, AreDueBut, AreLeft};
 
 use crate::about::asks_to_watch;
+use crate::doubting::doubt_each;
 use crate::heard::take_all;
 use crate::index::{Index, fit_all};
 use crate::leaving::{awake_left, index_of};
@@ -666,6 +668,19 @@ impl<A: Allocator + Copy> Follower<A> {
         self.awake = awake;
         self.is_foreign = is_foreign_still(&self.client, true);
         Ok(())
+    }
+
+    /// What is kept of the subjects is doubted, as when a server shows another epoch: from the next step on each is read once more, whether
+    /// or not that is good, and that it is good is told with the reply.
+    pub fn doubt_all(&mut self)
+        ensures client { self.new.client ≡ self.old.client }
+        ensures subjects { self.new.subjects.items ≡ map doubted self.old.subjects.items }
+    {
+        self.index = Index::new(self.alloc);
+        self.awake.clear();
+        self.waiting.clear();
+        let subjects = self.subjects.as_mut_slice();
+        doubt_each(subjects);
     }
 
     /// The answer to the read of this ticket was too long, so that the connection was given up. The subject counts as refused: it is read

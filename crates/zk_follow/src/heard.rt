@@ -43,7 +43,7 @@ fn hear_output<A: Allocator + Copy>(
     requires found { AreFound index.now subjects.old }
     ensures { OnOk result (subjects.new ≡ map (λ subject. heard now subject (output_view output.now)) subjects.old) }
 {
-    let places = index.hearing(alloc, output)?;
+    let places = index.hearing(alloc, subjects, output)?;
     hear_each(subjects, places.as_slice(), now, output);
     Ok(())
 }

@@ -1,22 +1,42 @@
 //! Which subjects outputs name, found in a time that does not rise with the number of subjects.
 
-ghost use Rattle.std.specs.Prelude.{◌≡◌, ◌<◌, ◌+◌, ◌++◌, ◌-◌, ◌^◌, ◌&&◌, ℕ, All, List, true, false, length, slice_index_or, IfOk, OnOk};
+ghost use Rattle.std.specs.Prelude.{◌≡◌, ◌==◌, ◌<◌, ◌+◌, ◌++◌, ◌-◌, ◌^◌, ◌&&◌, ℕ, All, List, true, length};
+ghost use Rattle.std.specs.Prelude.{bytes_eq, slice_index_or, IfOk, OnOk};
 ghost use Rattle.std.specs.List.{list_any};
-ghost use Rattle.zk_nodes.specs.Path.{Text};
 ghost use Rattle.zk_client.specs.Views.{outcome_view, output_view, said};
 ghost use Rattle.zk_follow.specs.inner.Resting.{is_about, is_beside, is_reply};
 ghost use Rattle.zk_follow.specs.inner.Owning.{is_of};
 ghost use Rattle.zk_follow.specs.Places.{has_place, key_of, AreFound};
-ghost use Rattle.zk_follow.specs.inner.Places.{is_heard_by, is_named, IsAscending};
+ghost use Rattle.zk_follow.specs.inner.Places.{is_heard_by, is_named, HasEach, IsAscending};
 ghost use Rattle.zk_follow.specs.Following.{AreQuietBut, AreStillBut};
 ghost use Rattle.zk_follow.specs.Following.{is_among};
 ghost use Rattle.zk_turns.specs.View.{View};
 
 use crate::about::{has_one_about_all, is_reply};
-use crate::places::{Places, add_below, all_below, key_of, put_in_order};
+use crate::places::{Places, add_below, add_if, all_below, key_of, put_in_order};
 use crate::subject::Subject;
 use std::alloc::{AllocError, Allocator};
 use zk_client::{Outcome, Output};
+
+/// Whether there is a subject at a place that has this ticket.
+fn has_ticket<A: Allocator>(subjects: &[Subject<A>], place: usize, ticket: u64) -> bool
+    ensures { place < length subjects.now → (d : Subject A) → result ≡ ((slice_index_or subjects.now place d).ticket == ticket) }
+{
+    if place < subjects.len() {
+        return subjects[place].ticket == ticket;
+    }
+    false
+}
+
+/// Whether there is a subject at a place that has this path.
+fn has_path<A: Allocator>(subjects: &[Subject<A>], place: usize, path: &str) -> bool
+    ensures { place < length subjects.now → (d : Subject A) → result ≡ bytes_eq path.now (slice_index_or subjects.now place d).path }
+{
+    if place < subjects.len() {
+        return path == subjects[place].path.as_str();
+    }
+    false
+}
 
 /// The places of the first subjects by their tickets, and by the keys of their paths.
 #[derive(Drop)]
@@ -99,18 +119,65 @@ impl<A: Allocator + Copy> Index<A> {
         self.add_all(subjects)
     }
 
-    /// Adds the places of those that an output names: by the ticket of an answer, or the path of a report.
-    fn add_named(&self, output: &Output<A>, all: &mut Vec<usize, A>) -> Result<(), AllocError>
-        requires { 0 < length self.now.keys.buckets.items }
+    /// Adds the places of those that have this ticket.
+    fn add_by_ticket(
+        &self,
+        subjects: &[Subject<A>],
+        ticket: u64,
+        all: &mut Vec<usize, A>,
+    ) -> Result<(), AllocError>
+        requires sized { 0 < length self.now.keys.buckets.items }
+        requires found { AreFound self.now subjects.now }
         ensures below { OnOk result (All (λ at. at < self.now.count) all.old.items → All (λ at. at < self.now.count) all.new.items) }
         ensures had { OnOk result ((at : ℕ) → at < self.now.count → is_among at all.old.items ≡ true → is_among at all.new.items ≡ true) }
-        ensures named { OnOk result ((ticket : ℕ) (path : Text) (at : ℕ) → at < self.now.count
-            → has_place self.now.keys ticket at ≡ true → has_place self.now.keys (key_of path) at ≡ true
-            → is_named ticket path (output_view output.now) ≡ true → is_among at all.new.items ≡ true) }
+        ensures each { OnOk result (HasEach (λ subject. subject.ticket == ticket) self.now.count subjects.now all.new.items) }
+    {
+        let places = self.keys.at(ticket);
+        for place in places {
+            let is_sought = has_ticket(subjects, *place, ticket);
+            add_if(is_sought, *place, self.count, all)?;
+        }
+        Ok(())
+    }
+
+    /// Adds the places of those that have this path.
+    fn add_by_path(
+        &self,
+        subjects: &[Subject<A>],
+        path: &str,
+        all: &mut Vec<usize, A>,
+    ) -> Result<(), AllocError>
+        requires sized { 0 < length self.now.keys.buckets.items }
+        requires found { AreFound self.now subjects.now }
+        ensures below { OnOk result (All (λ at. at < self.now.count) all.old.items → All (λ at. at < self.now.count) all.new.items) }
+        ensures had { OnOk result ((at : ℕ) → at < self.now.count → is_among at all.old.items ≡ true → is_among at all.new.items ≡ true) }
+        ensures each { OnOk result (HasEach (λ subject. bytes_eq path.now subject.path) self.now.count subjects.now all.new.items) }
+    {
+        let places = self.keys.at(key_of(path));
+        for place in places {
+            let is_sought = has_path(subjects, *place, path);
+            add_if(is_sought, *place, self.count, all)?;
+        }
+        Ok(())
+    }
+
+    /// Adds the places of those that an output names: by the ticket of an answer, or the path of a report.
+    fn add_named(
+        &self,
+        subjects: &[Subject<A>],
+        output: &Output<A>,
+        all: &mut Vec<usize, A>,
+    ) -> Result<(), AllocError>
+        requires sized { 0 < length self.now.keys.buckets.items }
+        requires found { AreFound self.now subjects.now }
+        ensures below { OnOk result (All (λ at. at < self.now.count) all.old.items → All (λ at. at < self.now.count) all.new.items) }
+        ensures had { OnOk result ((at : ℕ) → at < self.now.count → is_among at all.old.items ≡ true → is_among at all.new.items ≡ true) }
+        ensures named { OnOk result (HasEach (λ subject. is_named subject.ticket subject.path (output_view output.now))
+            self.now.count subjects.now all.new.items) }
     {
         match output {
-            Output::Answer { ticket, .. } => self.keys.add_at(*ticket, self.count, all),
-            Output::Report { path, .. } => self.keys.add_at(key_of(path.as_str()), self.count, all),
+            Output::Answer { ticket, .. } => self.add_by_ticket(subjects, *ticket, all),
+            Output::Report { path, .. } => self.add_by_path(subjects, path.as_str(), all),
             _ => Ok(()),
         }
     }
@@ -118,48 +185,59 @@ impl<A: Allocator + Copy> Index<A> {
     /// Adds the places of those that outputs name.
     fn add_all_named(
         &self,
+        subjects: &[Subject<A>],
         outputs: &[Output<A>],
         all: &mut Vec<usize, A>,
     ) -> Result<(), AllocError>
-        requires { 0 < length self.now.keys.buckets.items }
+        requires sized { 0 < length self.now.keys.buckets.items }
+        requires found { AreFound self.now subjects.now }
         ensures below { OnOk result (All (λ at. at < self.now.count) all.old.items → All (λ at. at < self.now.count) all.new.items) }
         ensures had { OnOk result ((at : ℕ) → at < self.now.count → is_among at all.old.items ≡ true → is_among at all.new.items ≡ true) }
-        ensures named { OnOk result ((ticket : ℕ) (path : Text) (at : ℕ) → at < self.now.count
-            → has_place self.now.keys ticket at ≡ true → has_place self.now.keys (key_of path) at ≡ true
-            → list_any (is_named ticket path) (said outputs.now) ≡ true → is_among at all.new.items ≡ true) }
+        ensures named { OnOk result (HasEach (λ subject. list_any (is_named subject.ticket subject.path) (said outputs.now))
+            self.now.count subjects.now all.new.items) }
     {
         for output in outputs {
-            self.add_named(output, all)?;
+            self.add_named(subjects, output, all)?;
         }
         Ok(())
     }
 
-    /// The places that a key has, in order. An error means that memory ran out.
-    fn places_at(&self, alloc: A, key: u64) -> Result<Vec<usize, A>, AllocError>
-        requires { 0 < length self.now.keys.buckets.items }
+    /// The places of those that an output names, in order. An error means that memory ran out.
+    fn named_by(
+        &self,
+        alloc: A,
+        subjects: &[Subject<A>],
+        output: &Output<A>,
+    ) -> Result<Vec<usize, A>, AllocError>
+        requires sized { 0 < length self.now.keys.buckets.items }
+        requires found { AreFound self.now subjects.now }
         ensures ascend { IfOk result (λ all. IsAscending all.items) }
         ensures below { IfOk result (λ all. All (λ at. at < self.now.count) all.items) }
-        ensures has { IfOk result (λ all. (at : ℕ) → at < self.now.count → has_place self.now.keys key at ≡ true
-            → is_among at all.items ≡ true) }
+        ensures named { IfOk result (λ all. HasEach (λ subject. is_named subject.ticket subject.path (output_view output.now))
+            self.now.count subjects.now all.items) }
     {
         let mut all = Vec::new(alloc);
-        self.keys.add_at(key, self.count, &mut all)?;
+        self.add_named(subjects, output, &mut all)?;
         put_in_order(&mut all);
         Ok(all)
     }
 
     /// The places of those that may hear an output, in order: of all at another state. An error means that memory ran out.
-    pub(crate) fn hearing(&self, alloc: A, output: &Output<A>) -> Result<Vec<usize, A>, AllocError>
-        requires { 0 < length self.now.keys.buckets.items }
+    pub(crate) fn hearing(
+        &self,
+        alloc: A,
+        subjects: &[Subject<A>],
+        output: &Output<A>,
+    ) -> Result<Vec<usize, A>, AllocError>
+        requires sized { 0 < length self.now.keys.buckets.items }
+        requires found { AreFound self.now subjects.now }
         ensures ascend { IfOk result (λ all. IsAscending all.items) }
         ensures below { IfOk result (λ all. All (λ at. at < self.now.count) all.items) }
-        ensures hear { IfOk result (λ all. (ticket : ℕ) (path : Text) (at : ℕ) → at < self.now.count
-            → has_place self.now.keys ticket at ≡ true → has_place self.now.keys (key_of path) at ≡ true
-            → is_heard_by ticket path (output_view output.now) ≡ true → is_among at all.items ≡ true) }
+        ensures hear { IfOk result (λ all. HasEach (λ subject. is_heard_by subject.ticket subject.path (output_view output.now))
+            self.now.count subjects.now all.items) }
     {
         match output {
-            Output::Answer { ticket, .. } => self.places_at(alloc, *ticket),
-            Output::Report { path, .. } => self.places_at(alloc, key_of(path.as_str())),
+            Output::Answer { .. } | Output::Report { .. } => self.named_by(alloc, subjects, output),
             Output::State(_) => all_below(alloc, self.count),
             _ => Ok(Vec::new(alloc)),
         }
@@ -169,19 +247,20 @@ impl<A: Allocator + Copy> Index<A> {
     fn with_those_named(
         &self,
         alloc: A,
+        subjects: &[Subject<A>],
         places: &[usize],
         outputs: &[Output<A>],
     ) -> Result<Vec<usize, A>, AllocError>
-        requires { 0 < length self.now.keys.buckets.items }
+        requires sized { 0 < length self.now.keys.buckets.items }
+        requires found { AreFound self.now subjects.now }
         ensures below { IfOk result (λ all. All (λ at. at < self.now.count) all.items) }
         ensures had { IfOk result (λ all. (at : ℕ) → at < self.now.count → is_among at places.now ≡ true → is_among at all.items ≡ true) }
-        ensures named { IfOk result (λ all. (ticket : ℕ) (path : Text) (at : ℕ) → at < self.now.count
-            → has_place self.now.keys ticket at ≡ true → has_place self.now.keys (key_of path) at ≡ true
-            → list_any (is_named ticket path) (said outputs.now) ≡ true → is_among at all.items ≡ true) }
+        ensures named { IfOk result (λ all. HasEach (λ subject. list_any (is_named subject.ticket subject.path) (said outputs.now))
+            self.now.count subjects.now all.items) }
     {
         let mut all = Vec::new(alloc);
         add_below(places, self.count, &mut all)?;
-        self.add_all_named(outputs, &mut all)?;
+        self.add_all_named(subjects, outputs, &mut all)?;
         Ok(all)
     }
 
@@ -189,60 +268,41 @@ impl<A: Allocator + Copy> Index<A> {
     pub(crate) fn with_named(
         &self,
         alloc: A,
+        subjects: &[Subject<A>],
         places: &[usize],
         outputs: &[Output<A>],
     ) -> Result<Vec<usize, A>, AllocError>
-        requires { 0 < length self.now.keys.buckets.items }
+        requires sized { 0 < length self.now.keys.buckets.items }
+        requires found { AreFound self.now subjects.now }
         ensures ascend { IfOk result (λ all. IsAscending all.items) }
         ensures below { IfOk result (λ all. All (λ at. at < self.now.count) all.items) }
         ensures had { IfOk result (λ all. (at : ℕ) → at < self.now.count → is_among at places.now ≡ true → is_among at all.items ≡ true) }
-        ensures named { IfOk result (λ all. (ticket : ℕ) (path : Text) (at : ℕ) → at < self.now.count
-            → has_place self.now.keys ticket at ≡ true → has_place self.now.keys (key_of path) at ≡ true
-            → list_any (is_named ticket path) (said outputs.now) ≡ true → is_among at all.items ≡ true) }
+        ensures named { IfOk result (λ all. HasEach (λ subject. list_any (is_named subject.ticket subject.path) (said outputs.now))
+            self.now.count subjects.now all.items) }
     {
-        let mut all = self.with_those_named(alloc, places, outputs)?;
+        let mut all = self.with_those_named(alloc, subjects, places, outputs)?;
         put_in_order(&mut all);
         Ok(all)
     }
 
-    /// Adds the places of those that have the path of this subject, if it has this ticket.
-    fn add_at_path(
-        &self,
-        subject: &Subject<A>,
-        ticket: u64,
-        all: &mut Vec<usize, A>,
-    ) -> Result<(), AllocError>
-        requires { 0 < length self.now.keys.buckets.items }
-        ensures below { OnOk result (All (λ at. at < self.now.count) all.old.items → All (λ at. at < self.now.count) all.new.items) }
-        ensures had { OnOk result ((at : ℕ) → at < self.now.count → is_among at all.old.items ≡ true → is_among at all.new.items ≡ true) }
-        ensures each { OnOk result (ticket ≡ subject.now.ticket → (at : ℕ) → at < self.now.count
-            → has_place self.now.keys (key_of subject.now.path) at ≡ true → is_among at all.new.items ≡ true) }
-    {
-        if subject.ticket != ticket {
-            return Ok(());
-        }
-        let key = key_of(subject.path.as_str());
-        self.keys.add_at(key, self.count, all)
-    }
-
-    /// Adds the places of those that have the path of a subject of this ticket at one of these places.
-    fn add_at_paths(
+    /// Adds the places of those that have the path of a subject at one of these places.
+    fn add_by_paths(
         &self,
         subjects: &[Subject<A>],
-        ticket: u64,
         places: &[usize],
         all: &mut Vec<usize, A>,
     ) -> Result<(), AllocError>
         requires sized { 0 < length self.now.keys.buckets.items }
+        requires found { AreFound self.now subjects.now }
         requires within { All (λ at. at < length subjects.now) places.now }
         ensures below { OnOk result (All (λ at. at < self.now.count) all.old.items → All (λ at. at < self.now.count) all.new.items) }
         ensures had { OnOk result ((at : ℕ) → at < self.now.count → is_among at all.old.items ≡ true → is_among at all.new.items ≡ true) }
-        ensures each { OnOk result ((k at : ℕ) (d : Subject A) → is_among k places.now ≡ true
-            → ticket ≡ (slice_index_or subjects.now k d).ticket → at < self.now.count
-            → has_place self.now.keys (key_of (slice_index_or subjects.now k d).path) at ≡ true → is_among at all.new.items ≡ true) }
+        ensures each { OnOk result ((k : ℕ) (d : Subject A) → is_among k places.now ≡ true
+            → HasEach (λ subject. bytes_eq (slice_index_or subjects.now k d).path subject.path) self.now.count subjects.now all.new.items) }
     {
         for place in places {
-            self.add_at_path(&subjects[*place], ticket, all)?;
+            let subject = &subjects[*place];
+            self.add_by_path(subjects, subject.path.as_str(), all)?;
         }
         Ok(())
     }
@@ -260,11 +320,12 @@ impl<A: Allocator + Copy> Index<A> {
         requires found { AreFound self.now subjects.now }
         ensures below { OnOk result (All (λ at. at < self.now.count) all.old.items → All (λ at. at < self.now.count) all.new.items) }
         ensures had { OnOk result ((at : ℕ) → at < self.now.count → is_among at all.old.items ≡ true → is_among at all.new.items ≡ true) }
-        ensures siblings { OnOk result ((path : Text) (at : ℕ) → at < self.now.count → has_place self.now.keys (key_of path) at ≡ true
-            → is_of subjects.now ticket path ≡ true → is_among at all.new.items ≡ true) }
+        ensures siblings { OnOk result (HasEach (λ subject. is_of subjects.now ticket subject.path)
+            self.now.count subjects.now all.new.items) }
     {
-        let places = self.places_at(alloc, ticket)?;
-        self.add_at_paths(subjects, ticket, places.as_slice(), all)
+        let mut own = Vec::new(alloc);
+        self.add_by_ticket(subjects, ticket, &mut own)?;
+        self.add_by_paths(subjects, own.as_slice(), all)
     }
 
     /// Adds the places of those beside which a call of this ticket is answered by its reply.
@@ -281,8 +342,8 @@ impl<A: Allocator + Copy> Index<A> {
         requires found { AreFound self.now subjects.now }
         ensures below { OnOk result (All (λ at. at < self.now.count) all.old.items → All (λ at. at < self.now.count) all.new.items) }
         ensures had { OnOk result ((at : ℕ) → at < self.now.count → is_among at all.old.items ≡ true → is_among at all.new.items ≡ true) }
-        ensures beside { OnOk result ((path : Text) (at : ℕ) → at < self.now.count → has_place self.now.keys (key_of path) at ≡ true
-            → (is_reply (outcome_view outcome.now) && is_of subjects.now ticket path) ≡ true → is_among at all.new.items ≡ true) }
+        ensures beside { OnOk result (HasEach (λ subject. is_reply (outcome_view outcome.now) && is_of subjects.now ticket subject.path)
+            self.now.count subjects.now all.new.items) }
     {
         if is_reply(outcome) {
             return self.add_siblings(alloc, subjects, ticket, all);
@@ -303,8 +364,8 @@ impl<A: Allocator + Copy> Index<A> {
         requires found { AreFound self.now subjects.now }
         ensures below { OnOk result (All (λ at. at < self.now.count) all.old.items → All (λ at. at < self.now.count) all.new.items) }
         ensures had { OnOk result ((at : ℕ) → at < self.now.count → is_among at all.old.items ≡ true → is_among at all.new.items ≡ true) }
-        ensures beside { OnOk result ((path : Text) (at : ℕ) → at < self.now.count → has_place self.now.keys (key_of path) at ≡ true
-            → is_beside subjects.now path (output_view output.now) ≡ true → is_among at all.new.items ≡ true) }
+        ensures beside { OnOk result (HasEach (λ subject. is_beside subjects.now subject.path (output_view output.now))
+            self.now.count subjects.now all.new.items) }
     {
         match output {
             Output::Answer { ticket, outcome } => {
@@ -327,8 +388,8 @@ impl<A: Allocator + Copy> Index<A> {
         requires found { AreFound self.now subjects.now }
         ensures below { OnOk result (All (λ at. at < self.now.count) all.old.items → All (λ at. at < self.now.count) all.new.items) }
         ensures had { OnOk result ((at : ℕ) → at < self.now.count → is_among at all.old.items ≡ true → is_among at all.new.items ≡ true) }
-        ensures beside { OnOk result ((path : Text) (at : ℕ) → at < self.now.count → has_place self.now.keys (key_of path) at ≡ true
-            → list_any (is_beside subjects.now path) (said outputs.now) ≡ true → is_among at all.new.items ≡ true) }
+        ensures beside { OnOk result (HasEach (λ subject. list_any (is_beside subjects.now subject.path) (said outputs.now))
+            self.now.count subjects.now all.new.items) }
     {
         for output in outputs {
             self.add_beside(alloc, subjects, output, all)?;
@@ -351,16 +412,16 @@ impl<A: Allocator + Copy> Index<A> {
         ensures ascend { IfOk result (λ all. IsAscending all.items) }
         ensures below { IfOk result (λ all. All (λ at. at < self.now.count) all.items) }
         ensures had { IfOk result (λ all. (at : ℕ) → at < self.now.count → is_among at places.now ≡ true → is_among at all.items ≡ true) }
-        ensures about { IfOk result (λ all. (ticket : ℕ) (path : Text) (at : ℕ) → at < self.now.count
-            → has_place self.now.keys ticket at ≡ true → has_place self.now.keys (key_of path) at ≡ true
-            → list_any (is_about is_foreign subjects.now ticket path) (said outputs.now) ≡ true → is_among at all.items ≡ true) }
-        ensures beside { IfOk result (λ all. (path : Text) (at : ℕ) → at < self.now.count → has_place self.now.keys (key_of path) at ≡ true
-            → list_any (is_beside subjects.now path) (said outputs.now) ≡ true → is_among at all.items ≡ true) }
+        ensures about { IfOk result (λ all. HasEach
+            (λ subject. list_any (is_about is_foreign subjects.now subject.ticket subject.path) (said outputs.now))
+            self.now.count subjects.now all.items) }
+        ensures beside { IfOk result (λ all. HasEach (λ subject. list_any (is_beside subjects.now subject.path) (said outputs.now))
+            self.now.count subjects.now all.items) }
     {
         if has_one_about_all(is_foreign, outputs) {
             return all_below(alloc, self.count);
         }
-        let mut all = self.with_those_named(alloc, places, outputs)?;
+        let mut all = self.with_those_named(alloc, subjects, places, outputs)?;
         self.add_all_beside(alloc, subjects, outputs, &mut all)?;
         put_in_order(&mut all);
         Ok(all)

@@ -2,10 +2,11 @@
 //!
 //! A [`Follower`] is a client with the subjects that its program follows. Each is read with a watch as soon as a server has accepted the
 //! session, and read again after each report, and after a pause where a server refused the read. Where there is no node it is asked
-//! whether there is one, with a watch, so that its making is reported.
+//! whether there is one, with a watch, so that its making is reported. Each is read once more where what is kept is doubted.
 #![tactic(auto)]
 
 mod about;
+mod doubting;
 mod follower;
 mod heard;
 mod index;

@@ -14,7 +14,6 @@ ghost use Rattle.zk_follow.specs.inner.Reported.{AreReported};
 ghost use Rattle.zk_follow.specs.inner.Resting.{is_report, AreTold};
 
 use crate::index::{Index, fit_all};
-use crate::kept::is_shown;
 use crate::progress::{Progress, Refusal};
 use crate::queue::put_last;
 use crate::reported::Reported;
@@ -26,7 +25,7 @@ use zk_client::{Client, Output, Path};
 /// What there is to tell of a subject.
 #[derive(Clone, Copy)]
 pub enum News {
-    /// What is kept of it is good. It was not, or its path was reported since that was told last.
+    /// What is kept of it is good. It was not, or its path was reported since that was told last, or it was doubted and is read again.
     Shown,
     /// Its read was refused, and not for the reason that was told last.
     Refused(Refusal),
@@ -64,14 +63,14 @@ fn was_refused(why: Refusal, told: Option<News>) -> bool
 
 /// What there is to tell.
 fn news_about(
-    is_good: bool,
+    is_sure: bool,
     is_reported: bool,
     progress: Progress,
     told: Option<News>,
 ) -> Option<News>
-    ensures { result ≡ news_about is_good is_reported progress told }
+    ensures { result ≡ news_about is_sure is_reported progress told }
 {
-    if is_good {
+    if is_sure {
         if was_shown(told) && !is_reported {
             return None;
         }
@@ -89,10 +88,10 @@ fn news_about(
 }
 
 /// What was told last, after that.
-fn told_after(is_good: bool, progress: Progress, told: Option<News>) -> Option<News>
-    ensures { result ≡ told_after is_good progress told }
+fn told_after(is_sure: bool, progress: Progress, told: Option<News>) -> Option<News>
+    ensures { result ≡ told_after is_sure progress told }
 {
-    if is_good {
+    if is_sure {
         return Some(News::Shown);
     }
     match progress {
@@ -163,10 +162,10 @@ impl<A: Allocator + Copy> Subject<A> {
         ensures news { OnOk result (all.new.items ≡ all.old.items ++ news_in (view_of client.now) (said outputs.now) self.old) }
         ensures told { self.new ≡ told_of (view_of client.now) self.old }
     {
-        let is_good = is_shown(client, self.side, &self.path);
+        let is_sure = self.is_sure(client);
         let is_reported = is_reported_where(has_report, reported, &self.path, outputs);
-        let news = news_about(is_good, is_reported, self.progress, self.told);
-        self.told = told_after(is_good, self.progress, self.told);
+        let news = news_about(is_sure, is_reported, self.progress, self.told);
+        self.told = told_after(is_sure, self.progress, self.told);
         add_news(all, self.ticket, news)
     }
 }
@@ -271,7 +270,7 @@ pub(crate) fn tell_all<A: Allocator + Copy>(
         return Ok(());
     }
     fit_all(alloc, subjects, index, awake)?;
-    let places = index.with_named(alloc, awake.as_slice(), outputs)?;
+    let places = index.with_named(alloc, subjects, awake.as_slice(), outputs)?;
     tell_each(alloc, subjects, places.as_slice(), client, outputs, all)?;
     *awake = awake_among(alloc, subjects, places.as_slice(), client, waiting)?;
     Ok(())

@@ -4,7 +4,7 @@ ghost use Rattle.std.specs.Prelude.{◌≡◌};
 ghost use Rattle.zk_records.specs.Codes.{code_number};
 ghost use Rattle.zk_conversation.specs.Views.{code_result};
 ghost use Rattle.zk_client.specs.Views.{outcome_view};
-ghost use Rattle.zk_follow.specs.Following.{after_code, entered, later, missing_after, progress_after, there_after};
+ghost use Rattle.zk_follow.specs.Following.{after_code, doubted_after, entered, later, missing_after, progress_after, there_after};
 
 use std::alloc::Allocator;
 use zk_client::{CallResult, Code, Outcome};
@@ -130,5 +130,27 @@ pub(crate) fn entered(progress: Progress) -> Progress
             ..
         } => progress,
         _ => Progress::Due,
+    }
+}
+
+/// Whether what is kept is doubted still, once a read was answered: not after the data or the names, nor after the answer to an `exists`
+/// that there is no node.
+pub(crate) fn doubted_after<A: Allocator>(
+    was_missing: bool,
+    was_doubted: bool,
+    outcome: &Outcome<A>,
+) -> bool
+    ensures { result ≡ doubted_after was_missing was_doubted (outcome_view outcome.now) }
+{
+    match outcome {
+        Outcome::Replied {
+            result: CallResult::Code(code),
+            ..
+        } => was_doubted && !(was_missing && code.is_no_node()),
+        Outcome::Replied {
+            result: CallResult::Data { .. } | CallResult::Names { .. },
+            ..
+        } => false,
+        _ => was_doubted,
     }
 }

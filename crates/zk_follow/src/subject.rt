@@ -8,16 +8,18 @@ ghost use Rattle.zk_turns.specs.Turns.{Call as Calls, Output as Said};
 ghost use Rattle.zk_turns.specs.Rule.{Rule};
 ghost use Rattle.zk_client.specs.Clients.{view_of};
 ghost use Rattle.zk_client.specs.Views.{output_view, said};
-ghost use Rattle.zk_follow.specs.Following.{fresh, heard, heard_all, is_reading, read_of, rested, due_again, woken};
+ghost use Rattle.zk_follow.specs.Following.{doubted, fresh, heard, heard_all, is_reading, read_of, rested, due_again, woken};
 ghost use Rattle.zk_follow.specs.inner.Following.{Asks};
 ghost use Rattle.zk_follow.specs.Following.{BreaksOff, IsAhead, IsBusy, IsCounted, IsFollowed};
 ghost use Rattle.zk_follow.specs.declared.reads.TheConstants.{MOST_READS};
 ghost use Rattle.zk_follow.specs.inner.Following.{VisitsAnd};
-ghost use Rattle.zk_follow.specs.Following.{is_awaited, is_due, is_quiet, is_resting, is_still};
+ghost use Rattle.zk_follow.specs.Following.{is_awaited, is_due, is_quiet, is_resting, is_still, is_sure};
 
 use crate::kept::{holds, is_shown};
 use crate::news::{News, was_shown};
-use crate::progress::{Progress, entered, missing_after, progress_after, there_after};
+use crate::progress::{
+    Progress, doubted_after, entered, missing_after, progress_after, there_after,
+};
 use crate::reads::{MOST_READS, read_of};
 use crate::stop::FollowerStop;
 use std::alloc::Allocator;
@@ -32,6 +34,7 @@ pub struct Subject<A: Allocator> {
     pub(crate) progress: Progress,
     pub(crate) is_missing: bool,
     pub(crate) is_there: bool,
+    pub(crate) is_doubted: bool,
     pub(crate) told: Option<News>,
 }
 
@@ -66,6 +69,7 @@ impl<A: Allocator> Subject<A> {
             progress: Progress::Due,
             is_missing: false,
             is_there: false,
+            is_doubted: false,
             told: None,
         }
     }
@@ -78,6 +82,7 @@ impl<A: Allocator> Subject<A> {
             Output::Answer { ticket, outcome } => {
                 if self.ticket == *ticket {
                     self.progress = progress_after(now, self.is_there, outcome);
+                    self.is_doubted = doubted_after(self.is_missing, self.is_doubted, outcome);
                     self.is_there = there_after(self.is_missing, self.is_there, outcome);
                     self.is_missing = missing_after(self.is_missing, outcome);
                 }
@@ -113,6 +118,13 @@ impl<A: Allocator> Subject<A> {
                 self.progress = Progress::Due;
             }
         }
+    }
+
+    /// What is kept of the subject is doubted: it is to be read once more, whether or not that is good.
+    pub(crate) fn doubt(&mut self)
+        ensures { self.new ≡ doubted self.old }
+    {
+        self.is_doubted = true;
     }
 
     /// The subject is to be read: another session begins.
@@ -178,7 +190,14 @@ impl<A: Allocator + Copy> Subject<A> {
         matches!(self.progress, Progress::Due)
     }
 
-    /// What is kept of the subject is good.
+    /// Whether what is kept of the subject is good, and not doubted.
+    pub(crate) fn is_sure(&self, client: &Client<A>) -> bool
+        ensures { result ≡ is_sure (view_of client.now) self.now }
+    {
+        !self.is_doubted && is_shown(client, self.side, &self.path)
+    }
+
+    /// What is kept of the subject is sure.
     fn rest(&mut self)
         ensures { self.new ≡ rested self.old }
     {
@@ -196,15 +215,16 @@ impl<A: Allocator + Copy> Subject<A> {
         self.is_unread()
             && !self.is_missing
             && !self.is_there
+            && !self.is_doubted
             && client.is_watched(self.side, &self.path)
             && holds(client, self.side, &self.path)
     }
 
-    /// Whether the subject is to be read, and what is kept of it is not good.
+    /// Whether the subject is to be read, and what is kept of it is not sure.
     pub(crate) fn is_awaited(&self, client: &Client<A>) -> bool
         ensures { result ≡ is_awaited (view_of client.now) self.now }
     {
-        self.is_unread() && !is_shown(client, self.side, &self.path)
+        self.is_unread() && !self.is_sure(client)
     }
 
     /// Whether a step may pass the subject over until there is room for a read of it, and there is nothing to tell of it.
@@ -246,7 +266,7 @@ impl<A: Allocator + Copy> Subject<A> {
         if !has_room(client, reads) {
             return Ok(reads);
         }
-        if is_shown(client, self.side, &self.path) {
+        if self.is_sure(client) {
             self.rest();
             return Ok(reads);
         }

@@ -4,12 +4,11 @@ use Rattle.std.proofs.lemmas.List.{map-append}
 use Rattle.std.proofs.Common.{◌≡◌, ◌<◌, ◌∙◌, ◌++◌, ℕ, true, ap, arith, get_or, sym, subst}
 use Rattle.std.specs.Prelude.{All}
 use Rattle.std.specs.List.{list_any}
-use Rattle.zk_nodes.specs.Path.{Text}
 use Rattle.zk_client.specs.Clients.{view_of}
 use Rattle.zk_client.specs.Views.{input_view, output_view, said, turn_of}
 use Rattle.zk_follow.specs.Following.{heard_all, how_many_reading, is_among, is_quiet, is_still, AreVisited, IsCounted}
 use Rattle.zk_follow.specs.inner.Following.{Reads}
-use Rattle.zk_follow.specs.Places.{has_place, key_of}
+use Rattle.zk_follow.specs.inner.Places.{HasEach}
 use Rattle.zk_follow.specs.inner.Resting.{is_about, is_beside, AreLeft}
 use Rattle.zk_follow.proofs.Visiting.{all_ahead, all_counted, going_at, steps}
 use Rattle.zk_follow.proofs.Finding.{after_visits, awake_also, found_visited, left_by, quiet_stays, still_stays, stirred_quiet}
@@ -66,27 +65,25 @@ visit_all-requires-clause-left g c =
     let turn = turn_of c.args.input c.step_at_into.new.outputs.items in
     let had = subst (λ some. (at : ℕ) → at < index.count → is_among at some ≡ true → is_among at places ≡ true)
     c.as_slice.ensures.value c.in_ok-places.ensures.had in
-    let about = subst (λ outputs. (ticket : ℕ) (path : Text) (at : ℕ) → at < index.count → has_place index.keys ticket at ≡ true
-    → has_place index.keys (key_of path) at ≡ true → list_any (is_about c.args.is_foreign first ticket path) (said outputs) ≡ true
-    → is_among at places ≡ true)
+    let about = subst (λ outputs. HasEach (λ s. list_any (is_about c.args.is_foreign first s.ticket s.path) (said outputs))
+    index.count first places)
     c.as_slice-heard.ensures.value c.in_ok-places.ensures.about in
-    let beside = subst (λ outputs. (path : Text) (at : ℕ) → at < index.count → has_place index.keys (key_of path) at ≡ true
-    → list_any (is_beside first path) (said outputs) ≡ true → is_among at places ≡ true)
+    let beside = subst (λ outputs. HasEach (λ s. list_any (is_beside first s.path) (said outputs)) index.count first places)
     c.as_slice-heard.ensures.value c.in_ok-places.ensures.beside in
-    let stays = still_stays index first c.requires.count c.requires.found c.args.is_foreign c.args.now view turn here
+    let stays = still_stays index first c.requires.count c.args.is_foreign c.args.now view turn here
     c.in-Ok.ensures.rule c.requires.asks c.requires.own places about beside awake
-    (stirred_quiet index first c.requires.count c.requires.found view c.args.is_foreign c.as_slice-heard.result.now
+    (stirred_quiet index first c.requires.count view c.args.is_foreign c.as_slice-heard.result.now
     c.step_at_into.new.outputs.items c.as_slice-heard.ensures.value c.args.awake.now.items c.args.waiting.now.items awake
     c.in_ok-stir.ensures.stirred c.requires.rest)
     (awake_also (is_still view) index.count first c.args.awake.now.items awake
     (λ at fits. c.in_ok-stir.ensures.had at (omega (arith, fits, c.requires.count))) c.requires.still) had in
-    let rests = quiet_stays index first c.requires.count c.requires.found c.args.is_foreign c.args.now view turn here
+    let rests = quiet_stays index first c.requires.count c.args.is_foreign c.args.now view turn here
     c.in-Ok.ensures.rule c.requires.asks c.requires.own places about beside (awake ++ waiting) (places ++ waiting)
     (awake_also (is_quiet view) index.count first (c.args.awake.now.items ++ c.args.waiting.now.items) (awake ++ waiting)
     (λ at fits. among_all at c.args.awake.now.items c.args.waiting.now.items awake waiting
     (c.in_ok-stir.ensures.kept at (omega (arith, fits, c.requires.count)))) c.requires.rest)
     (λ at fits. among_first at awake places waiting (had at fits)) (λ at. among_left at places waiting) in
-    let left = left_by index first c.requires.count c.requires.found c.args.is_foreign c.args.now view turn here
+    let left = left_by index first c.requires.count c.args.is_foreign c.args.now view turn here
     c.in-Ok.ensures.rule c.requires.asks c.requires.own places about beside stays in
     subst (λ outputs. AreLeft here (said outputs) first places) (sym c.as_slice-heard.ensures.value) left
 
@@ -102,21 +99,19 @@ visit_all-requires-clause-rest g c =
     let turn = turn_of c.args.input c.step_at_into.new.outputs.items in
     let had = subst (λ some. (at : ℕ) → at < index.count → is_among at some ≡ true → is_among at places ≡ true)
     c.as_slice.ensures.value c.in_ok-places.ensures.had in
-    let about = subst (λ outputs. (ticket : ℕ) (path : Text) (at : ℕ) → at < index.count → has_place index.keys ticket at ≡ true
-    → has_place index.keys (key_of path) at ≡ true → list_any (is_about c.args.is_foreign first ticket path) (said outputs) ≡ true
-    → is_among at places ≡ true)
+    let about = subst (λ outputs. HasEach (λ s. list_any (is_about c.args.is_foreign first s.ticket s.path) (said outputs))
+    index.count first places)
     c.as_slice-heard.ensures.value c.in_ok-places.ensures.about in
-    let beside = subst (λ outputs. (path : Text) (at : ℕ) → at < index.count → has_place index.keys (key_of path) at ≡ true
-    → list_any (is_beside first path) (said outputs) ≡ true → is_among at places ≡ true)
+    let beside = subst (λ outputs. HasEach (λ s. list_any (is_beside first s.path) (said outputs)) index.count first places)
     c.as_slice-heard.ensures.value c.in_ok-places.ensures.beside in
-    let stays = still_stays index first c.requires.count c.requires.found c.args.is_foreign c.args.now view turn here
+    let stays = still_stays index first c.requires.count c.args.is_foreign c.args.now view turn here
     c.in-Ok.ensures.rule c.requires.asks c.requires.own places about beside awake
-    (stirred_quiet index first c.requires.count c.requires.found view c.args.is_foreign c.as_slice-heard.result.now
+    (stirred_quiet index first c.requires.count view c.args.is_foreign c.as_slice-heard.result.now
     c.step_at_into.new.outputs.items c.as_slice-heard.ensures.value c.args.awake.now.items c.args.waiting.now.items awake
     c.in_ok-stir.ensures.stirred c.requires.rest)
     (awake_also (is_still view) index.count first c.args.awake.now.items awake
     (λ at fits. c.in_ok-stir.ensures.had at (omega (arith, fits, c.requires.count))) c.requires.still) had in
-    let rests = quiet_stays index first c.requires.count c.requires.found c.args.is_foreign c.args.now view turn here
+    let rests = quiet_stays index first c.requires.count c.args.is_foreign c.args.now view turn here
     c.in-Ok.ensures.rule c.requires.asks c.requires.own places about beside (awake ++ waiting) (places ++ waiting)
     (awake_also (is_quiet view) index.count first (c.args.awake.now.items ++ c.args.waiting.now.items) (awake ++ waiting)
     (λ at fits. among_all at c.args.awake.now.items c.args.waiting.now.items awake waiting
@@ -141,21 +136,19 @@ returns-in-Ok-append-clause-still g c =
     let turn = turn_of c.args.input c.step_at_into.new.outputs.items in
     let had = subst (λ some. (at : ℕ) → at < index.count → is_among at some ≡ true → is_among at places ≡ true)
     c.as_slice.ensures.value c.in_ok-places.ensures.had in
-    let about = subst (λ outputs. (ticket : ℕ) (path : Text) (at : ℕ) → at < index.count → has_place index.keys ticket at ≡ true
-    → has_place index.keys (key_of path) at ≡ true → list_any (is_about c.args.is_foreign first ticket path) (said outputs) ≡ true
-    → is_among at places ≡ true)
+    let about = subst (λ outputs. HasEach (λ s. list_any (is_about c.args.is_foreign first s.ticket s.path) (said outputs))
+    index.count first places)
     c.as_slice-heard.ensures.value c.in_ok-places.ensures.about in
-    let beside = subst (λ outputs. (path : Text) (at : ℕ) → at < index.count → has_place index.keys (key_of path) at ≡ true
-    → list_any (is_beside first path) (said outputs) ≡ true → is_among at places ≡ true)
+    let beside = subst (λ outputs. HasEach (λ s. list_any (is_beside first s.path) (said outputs)) index.count first places)
     c.as_slice-heard.ensures.value c.in_ok-places.ensures.beside in
-    let stays = still_stays index first c.requires.count c.requires.found c.args.is_foreign c.args.now view turn here
+    let stays = still_stays index first c.requires.count c.args.is_foreign c.args.now view turn here
     c.in-Ok.ensures.rule c.requires.asks c.requires.own places about beside awake
-    (stirred_quiet index first c.requires.count c.requires.found view c.args.is_foreign c.as_slice-heard.result.now
+    (stirred_quiet index first c.requires.count view c.args.is_foreign c.as_slice-heard.result.now
     c.step_at_into.new.outputs.items c.as_slice-heard.ensures.value c.args.awake.now.items c.args.waiting.now.items awake
     c.in_ok-stir.ensures.stirred c.requires.rest)
     (awake_also (is_still view) index.count first c.args.awake.now.items awake
     (λ at fits. c.in_ok-stir.ensures.had at (omega (arith, fits, c.requires.count))) c.requires.still) had in
-    let rests = quiet_stays index first c.requires.count c.requires.found c.args.is_foreign c.args.now view turn here
+    let rests = quiet_stays index first c.requires.count c.args.is_foreign c.args.now view turn here
     c.in-Ok.ensures.rule c.requires.asks c.requires.own places about beside (awake ++ waiting) (places ++ waiting)
     (awake_also (is_quiet view) index.count first (c.args.awake.now.items ++ c.args.waiting.now.items) (awake ++ waiting)
     (λ at fits. among_all at c.args.awake.now.items c.args.waiting.now.items awake waiting
@@ -180,21 +173,19 @@ returns-in-Ok-append-clause-rest g c =
     let turn = turn_of c.args.input c.step_at_into.new.outputs.items in
     let had = subst (λ some. (at : ℕ) → at < index.count → is_among at some ≡ true → is_among at places ≡ true)
     c.as_slice.ensures.value c.in_ok-places.ensures.had in
-    let about = subst (λ outputs. (ticket : ℕ) (path : Text) (at : ℕ) → at < index.count → has_place index.keys ticket at ≡ true
-    → has_place index.keys (key_of path) at ≡ true → list_any (is_about c.args.is_foreign first ticket path) (said outputs) ≡ true
-    → is_among at places ≡ true)
+    let about = subst (λ outputs. HasEach (λ s. list_any (is_about c.args.is_foreign first s.ticket s.path) (said outputs))
+    index.count first places)
     c.as_slice-heard.ensures.value c.in_ok-places.ensures.about in
-    let beside = subst (λ outputs. (path : Text) (at : ℕ) → at < index.count → has_place index.keys (key_of path) at ≡ true
-    → list_any (is_beside first path) (said outputs) ≡ true → is_among at places ≡ true)
+    let beside = subst (λ outputs. HasEach (λ s. list_any (is_beside first s.path) (said outputs)) index.count first places)
     c.as_slice-heard.ensures.value c.in_ok-places.ensures.beside in
-    let stays = still_stays index first c.requires.count c.requires.found c.args.is_foreign c.args.now view turn here
+    let stays = still_stays index first c.requires.count c.args.is_foreign c.args.now view turn here
     c.in-Ok.ensures.rule c.requires.asks c.requires.own places about beside awake
-    (stirred_quiet index first c.requires.count c.requires.found view c.args.is_foreign c.as_slice-heard.result.now
+    (stirred_quiet index first c.requires.count view c.args.is_foreign c.as_slice-heard.result.now
     c.step_at_into.new.outputs.items c.as_slice-heard.ensures.value c.args.awake.now.items c.args.waiting.now.items awake
     c.in_ok-stir.ensures.stirred c.requires.rest)
     (awake_also (is_still view) index.count first c.args.awake.now.items awake
     (λ at fits. c.in_ok-stir.ensures.had at (omega (arith, fits, c.requires.count))) c.requires.still) had in
-    let rests = quiet_stays index first c.requires.count c.requires.found c.args.is_foreign c.args.now view turn here
+    let rests = quiet_stays index first c.requires.count c.args.is_foreign c.args.now view turn here
     c.in-Ok.ensures.rule c.requires.asks c.requires.own places about beside (awake ++ waiting) (places ++ waiting)
     (awake_also (is_quiet view) index.count first (c.args.awake.now.items ++ c.args.waiting.now.items) (awake ++ waiting)
     (λ at fits. among_all at c.args.awake.now.items c.args.waiting.now.items awake waiting

@@ -18,5 +18,5 @@ hear_each-requires-clause-below g c =
 pub hear_each-requires-clause-rest : goal.hear_each-requires-clause-rest
 hear_each-requires-clause-rest g c =
     λ k d within none.
-    unfound c.args.now c.args.index.now c.args.subjects.now (output_view c.args.output.now) c.in_ok-places.places.items c.requires.count
-    c.requires.found c.in_ok-places.ensures.hear k d within (ap (is_among k) (sym c.as_slice.ensures.value) ∙ none)
+    unfound c.args.now c.args.index.now.count c.args.subjects.now (output_view c.args.output.now) c.in_ok-places.places.items
+    c.requires.count c.in_ok-places.ensures.hear k d within (ap (is_among k) (sym c.as_slice.ensures.value) ∙ none)

@@ -29,8 +29,8 @@ tell_each-requires-clause-told g c =
     let view = view_of c.args.client.now in
     let had = subst (λ some. (at : ℕ) → at < index.count → is_among at some ≡ true → is_among at places ≡ true)
     c.as_slice.ensures.value c.in_ok-places.ensures.had in
-    let told = told_by index c.args.subjects.now c.in_ok-fit_all.ensures.count c.in_ok-fit_all.ensures.found view c.args.outputs.now
-    c.fit_all.new.awake.items places (c.in_ok-fit_all.ensures.still view c.requires.still) had c.in_ok-places.ensures.named in
+    let told = told_by index c.args.subjects.now c.in_ok-fit_all.ensures.count view c.args.outputs.now c.fit_all.new.awake.items places
+    (c.in_ok-fit_all.ensures.still view c.requires.still) had c.in_ok-places.ensures.named in
     subst (AreTold view (said c.args.outputs.now) c.args.subjects.now) (sym c.as_slice-2.ensures.value) told
 
 pub awake_among-requires : goal.awake_among-requires
@@ -51,8 +51,8 @@ returns-clause-still g c =
     let view = view_of c.args.client.now in
     let had = subst (λ some. (at : ℕ) → at < index.count → is_among at some ≡ true → is_among at places ≡ true)
     c.as_slice.ensures.value c.in_ok-places.ensures.had in
-    let told = told_by index c.args.subjects.now c.in_ok-fit_all.ensures.count c.in_ok-fit_all.ensures.found view c.args.outputs.now
-    c.fit_all.new.awake.items places (c.in_ok-fit_all.ensures.still view c.requires.still) had c.in_ok-places.ensures.named in
+    let told = told_by index c.args.subjects.now c.in_ok-fit_all.ensures.count view c.args.outputs.now c.fit_all.new.awake.items places
+    (c.in_ok-fit_all.ensures.still view c.requires.still) had c.in_ok-places.ensures.named in
     let awake = c.in_ok-awake.field-0.items in
     told_but (is_still view) view (said c.args.outputs.now) index.count c.args.subjects.now c.tell_each.new.subjects places
     c.fit_all.new.awake.items awake c.in_ok-fit_all.ensures.count c.in_ok-tell_each.ensures.told told
@@ -67,8 +67,8 @@ returns-clause-rest g c =
     let view = view_of c.args.client.now in
     let had = subst (λ some. (at : ℕ) → at < index.count → is_among at some ≡ true → is_among at places ≡ true)
     c.as_slice.ensures.value c.in_ok-places.ensures.had in
-    let told = told_by index c.args.subjects.now c.in_ok-fit_all.ensures.count c.in_ok-fit_all.ensures.found view c.args.outputs.now
-    c.fit_all.new.awake.items places (c.in_ok-fit_all.ensures.still view c.requires.still) had c.in_ok-places.ensures.named in
+    let told = told_by index c.args.subjects.now c.in_ok-fit_all.ensures.count view c.args.outputs.now c.fit_all.new.awake.items places
+    (c.in_ok-fit_all.ensures.still view c.requires.still) had c.in_ok-places.ensures.named in
     let awake = c.in_ok-awake.field-0.items in
     let old = c.fit_all.new.awake.items in
     let waiting = c.args.waiting.now.items in

@@ -1,5 +1,6 @@
 -- The client hears the moment and says nothing, and the dialler notes its state: `idles`.
 use Rattle.std.proofs.Common.{◌∙◌, ap, false, refl}
+use Rattle.zk_turns.specs.View.{View}
 use Rattle.zk_client.specs.Clients.{view_of}
 use Rattle.zk_dialler.specs.declared.dialler.Dialler.{Dialler}
 use Rattle.zk_dialler.specs.Dialling.{is_open}
@@ -20,6 +21,7 @@ returns-clause-comes g c = λ said.
     (c.in_ok-pass.ensures.takes (told_by said))
     (c.note_state.ensures ∙ ap (λ timeout. noted timeout now c.state-state.result was) c.timeout_ms-timeout_ms.ensures
     ∙ ap (λ state. noted view.saved.session.timeout now state was) c.state-state.ensures) refl refl refl
+    (ap (λ (v : View). v.saved.last) c.in_ok-pass.ensures.view)
 
 pub returns-clause-open : goal.returns-clause-open
 returns-clause-open g c =

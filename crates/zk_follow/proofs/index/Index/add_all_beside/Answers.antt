@@ -1,5 +1,5 @@
 -- One output more is gone over: `named_more`. After the loop all are.
-use Rattle.std.proofs.Common.{◌≤◌, inl, inr, ap, ◌∙◌, arith, length}
+use Rattle.std.proofs.Common.{◌≤◌, inl, inr, ap, ◌∙◌, arith, get_or, length}
 use Rattle.std.proofs.lemmas.List.{take_all}
 use Rattle.std.specs.List.{list_any}
 use Rattle.zk_client.specs.Views.{said}
@@ -11,17 +11,19 @@ pub loop-output-preserved : goal.loop-output-preserved
 loop-output-preserved g c = record {
   below = λ all. c.in_ok-add_beside.ensures.below (c.loop-output.invariant.below all);
   had = λ at fits e. c.in_ok-add_beside.ensures.had at fits (c.loop-output.invariant.had at fits e);
-  beside = λ path at fits other e.
-      elim (named_more (is_beside c.args.subjects.now path) c.args.outputs.now c.loop-output.output-index c.output-item.result
+  beside = λ k d fits e.
+      let s = get_or c.args.subjects.now k d in
+      elim (named_more (is_beside c.args.subjects.now s.path) c.args.outputs.now c.loop-output.output-index c.output-item.result
       c.loop-output-test.true c.output-item.is e) [
-        | inl before ↦ c.in_ok-add_beside.ensures.had at fits (c.loop-output.invariant.beside path at fits other before)
-        | inr here ↦ c.in_ok-add_beside.ensures.beside path at fits other here
+        | inl before ↦ c.in_ok-add_beside.ensures.had k fits (c.loop-output.invariant.beside k d fits before)
+        | inr here ↦ c.in_ok-add_beside.ensures.beside k d fits here
       ];
 }
 
 pub returns-clause-beside : goal.returns-clause-beside
-returns-clause-beside g c = λ path at fits other e.
+returns-clause-beside g c = λ k d fits e.
+    let s = get_or c.args.subjects.now k d in
     let past : length c.args.outputs.now ≤ c.loop-output.output-index = omega (arith, c.loop-output-test.false) in
-    c.loop-output.invariant.beside path at fits other
-    (ap (λ outputs. list_any (is_beside c.args.subjects.now path) (said outputs))
+    c.loop-output.invariant.beside k d fits
+    (ap (λ outputs. list_any (is_beside c.args.subjects.now s.path) (said outputs))
     (take_all c.loop-output.output-index c.args.outputs.now past) ∙ e)

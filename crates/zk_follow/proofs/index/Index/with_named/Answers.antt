@@ -8,5 +8,5 @@ pub returns-clause-had : goal.returns-clause-had
 returns-clause-had g c = λ at fits e. c.put_in_order.ensures.has at (c.in_ok-all.ensures.had at fits e)
 
 pub returns-clause-named : goal.returns-clause-named
-returns-clause-named g c = λ ticket path at fits its other e.
-    c.put_in_order.ensures.has at (c.in_ok-all.ensures.named ticket path at fits its other e)
+returns-clause-named g c = λ k d fits e.
+    c.put_in_order.ensures.has k (c.in_ok-all.ensures.named k d fits e)

@@ -15,19 +15,19 @@ returns-then-not-has_room-clause-followed g c = inr (inr (inl (c.has_room.ensure
 pub returns-then-not-has_room-clause-visits : goal.returns-then-not-has_room-clause-visits
 returns-then-not-has_room-clause-visits g c = ([], inl (refl, refl, inl refl), nothing_more (said c.args.made.now.items), inl (refl, refl))
 
-pub returns-then-is_shown-clause-counted : goal.returns-then-is_shown-clause-counted
-returns-then-is_shown-clause-counted g c =
+pub returns-then-is_sure-clause-counted : goal.returns-then-is_sure-clause-counted
+returns-then-is_sure-clause-counted g c =
     let view = view_of c.args.client.now in
     subst (IsCounted view) (sym c.rest.ensures) (rest_counted view c.args.self.now c.requires.counted)
 
-pub returns-then-is_shown-clause-count : goal.returns-then-is_shown-clause-count
-returns-then-is_shown-clause-count g c =
+pub returns-then-is_sure-clause-count : goal.returns-then-is_sure-clause-count
+returns-then-is_sure-clause-count g c =
     let same : is_reading c.rest.new.self.progress ≡ is_reading c.args.self.now.progress =
     ap (λ s. is_reading s.progress) c.rest.ensures ∙ rested_reading c.args.self.now.progress in
     ap (λ b. c.args.reads + cond b 1 0) (sym same)
 
-pub returns-then-is_shown-clause-visits : goal.returns-then-is_shown-clause-visits
-returns-then-is_shown-clause-visits g c =
+pub returns-then-is_sure-clause-visits : goal.returns-then-is_sure-clause-visits
+returns-then-is_sure-clause-visits g c =
     ([], inl (refl, refl, inr c.rest.ensures), nothing_more (said c.args.made.now.items), inl (refl, refl))
 
 pub returns-then-not-is_connected-clause-followed : goal.returns-then-not-is_connected-clause-followed
