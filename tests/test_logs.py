@@ -234,7 +234,67 @@ OBJECTS = [
 
 REFUSED = [("--log", "--log names no file"), ("--log a --at x", "--at wants a zxid"), ("--log a --path", "an option has no value")]
 REFUSED += [("--log a --x", "a word is unexpected"), ("--json b --log a", "a word is unexpected")]
+REFUSED += [(f"--log a --script {word}", "--script takes no --path and no --json") for word in ("--json", "--path /a")]
 """Words, and why they are refused."""
+
+
+FIRST_NODES = "".join(f"node {path} \\e 0\n" for path in ("/zookeeper", "/zookeeper/quota", "/zookeeper/config"))
+CHANGES = {"create": 4, "container": 3, "ttl": 3, "set": 3, "delete": 2}
+"""How many words of what is printed of a change are in its line of a script."""
+
+
+def script(last: int) -> str:
+    """The script of both logs up to a zxid. The close of 22 tells no paths: that it deletes /e1 is by the server's digest."""
+    told, before = FIRST_NODES, ""
+    for line in [*PRINTED, "22 - - delete /e1"]:
+        zxid, time, _, *words = line.split()
+        if int(zxid) > last:
+            break
+        told += f"tx {zxid} {time}\n" if zxid != before else ""
+        before = zxid
+        if words[0] in CHANGES:
+            made = words[0] in ("container", "ttl")
+            told += " ".join([*(["create"] if made else words[:1]), *words[1 : CHANGES[words[0]]], *(["0"] if made else [])]) + "\n"
+    return told
+
+
+def alone(kind: int, body: bytes, session: int = 7) -> bytes:
+    """The first log with an operation more, without a digest."""
+    return FIRST[:END] + record(struct.pack(">qiqqi", session, 1, 17, 8, kind) + body)
+
+
+NO_SCRIPT: list[tuple[str, Files, str]] = [
+    ("logs that begin later", {"b": SECOND}, "b: byte 16: transactions before it are not in the logs"),
+    ("a gap", {"a": FIRST[: RECORDS[15]], "b": SECOND}, "b: byte 16: transactions before it are not in the logs"),
+    (
+        "a later epoch that begins at its second transaction",
+        {"a": FIRST, "b": in_next_epoch(SECOND, 15)},
+        "b: byte 16: transactions before it are not in the logs",
+    ),
+    ("a log twice", {"a": FIRST, "b": FIRST}, "a: its zxids are not above those of the other logs"),
+    ("another digest", {"a": with_digest(FIRST, 13)}, departs("a", 975, 13)[1:-3]),
+    ("a delete of no node", {"a": alone(2, CREATE[:6])}, f"a: byte {END}: the tree as it stands does not admit a change"),
+    ("a path that is none", {"a": alone(2, b"\0\0\0\1z")}, f"a: byte {END}: a path: the path does not begin with a slash"),
+    ("a part that is none", {"a": alone(14, struct.pack(">iii", 1, 77, 0))}, f"a: byte {END}: a part of a multi: unknown type 77"),
+    ("an owner below 0", {"a": alone(1, CREATE[:14] + b"\1" + CREATE[15:], -7)}, "zxid 17: a time or an owner below 0, which no script has"),
+]
+"""Logs that have no script, and why."""
+
+SEEN = [
+    ("9 data /a", "data 79 4 6 1795889114434 1795889114460 1 0 1"),
+    ("9 data /a/e", "data 71 9 9 1795889114466 1795889114466 0 72058146216280065 1"),
+    ("9 data /b", "data \\0 5 5 1795889114456 1795889114456 0 0 0"),
+    ("9 names /a", "names 2 e s-0000000000 9"),
+    ("9 names /", "names 3 a b zookeeper 5"),
+    ("22 data /a", "data 79 4 6 1795889114434 1795889114460 1 0 1"),
+    ("22 names /a", "names 0 16"),
+    ("22 data /m", "data 32 13 13 1795889114479 1795889114479 1 0 1"),
+    ("22 data /t", "data \\e 21 21 1795889146680 1795889146680 0 0 0"),
+    ("22 data /b", "data absent"),
+    ("22 data /e1", "data absent"),
+    ("22 names /", "names 6 a c m p t zookeeper 22"),
+]
+"""What a ZooKeeper 3.8.0 answered that was started over the logs up to zxid 9, and over all of them."""
 
 
 @unittest.skipIf(program() is None, "there is no zk_shell: rt ci builds it")
@@ -269,6 +329,23 @@ class LogTest(unittest.TestCase):
         for cut in range(RECORDS[16] + 1, END):
             torn = "torn a 1390\n" if any(FIRST[RECORDS[16] : cut]) else ""
             self.assertEqual(f"{lines(1, 15)}{torn}||0", self._end_of({"a": FIRST[:cut]}, "--log a"), cut)
+
+    def test_scripts(self) -> None:
+        files = {"a": FIRST, "b": SECOND}
+        self.assertEqual(f"{script(22)}||0", self._end_of(files, "--log b a --script"))
+        for last in range(1, 23):
+            self.assertEqual(f"{script(last)}||0", self._end_of(files, f"--log a b --script --at {last}"), last)
+
+    def test_logs_without_a_script(self) -> None:
+        for name, files, why in NO_SCRIPT:
+            with self.subTest(name):
+                self.assertEqual(f"|{why}\n|1", self._end_of(files, " ".join(["--log", *files, "--script"])))
+
+    def test_scripts_are_taken(self) -> None:
+        told = self._end_of({"a": FIRST, "b": SECOND}, "--log a b --script").split("|")[0]
+        asked = "".join(f"ask {question}\n" for question, _ in SEEN)
+        self.assertEqual("".join(f"{answer}\n" for _, answer in SEEN) + "||0", outcome(["history"], (told + asked).encode()))
+        self.assertEqual("||0", outcome(["rehearse"], f"{told}begin 30000\n".encode()))
 
     def test_words_that_are_refused(self) -> None:
         for words, why in REFUSED:

@@ -7,10 +7,12 @@ mod json_line;
 mod line;
 mod order;
 mod plan;
+mod script;
 mod tell;
 mod usage;
 
 pub use order::LogsFault;
 pub use plan::{LogPlan, asks_log, plan_of};
+pub use script::script_of;
 pub use tell::{LogText, history_of};
 pub use usage::{LOG_HELP, LogUsage};

@@ -14,6 +14,8 @@ pub struct LogPlan<'a, A: Allocator> {
     pub at: Option<i64>,
     /// Objects in place of words.
     pub json: bool,
+    /// A script in place of both.
+    pub script: bool,
 }
 
 /// Which value the next word is.
@@ -42,6 +44,16 @@ fn zxid_of(word: &str) -> Result<i64, LogUsage> {
     }
 }
 
+/// What is asked, if nothing more is awaited and all of it goes together.
+fn whole<A: Allocator>(awaited: Awaited, plan: LogPlan<'_, A>) -> Result<LogPlan<'_, A>, LogUsage> {
+    match awaited {
+        Awaited::Path | Awaited::Zxid => Err(LogUsage::NoValue),
+        _ if plan.files.is_empty() => Err(LogUsage::NoFile),
+        _ if plan.script && (plan.json || plan.path.is_some()) => Err(LogUsage::Script),
+        _ => Ok(plan),
+    }
+}
+
 /// What the words ask for. The first two are the program's name and `history`.
 ///
 /// # Errors
@@ -55,6 +67,7 @@ pub fn plan_of<'a, A: Allocator + Copy>(
     let mut path = None;
     let mut at = None;
     let mut json = false;
+    let mut script = false;
     let mut awaited = Awaited::Nothing;
     for word in words.get(2..).unwrap_or(&[]) {
         let is_option = word.starts_with("--");
@@ -66,6 +79,10 @@ pub fn plan_of<'a, A: Allocator + Copy>(
             (Awaited::Nothing | Awaited::File, "--json") => {
                 awaited = Awaited::Nothing;
                 json = true;
+            }
+            (Awaited::Nothing | Awaited::File, "--script") => {
+                awaited = Awaited::Nothing;
+                script = true;
             }
             (Awaited::Nothing, _) => return Err(LogUsage::Unexpected),
             (Awaited::File, _) if is_option => return Err(LogUsage::Unexpected),
@@ -80,15 +97,12 @@ pub fn plan_of<'a, A: Allocator + Copy>(
             }
         }
     }
-    match awaited {
-        Awaited::Path | Awaited::Zxid => return Err(LogUsage::NoValue),
-        _ if files.is_empty() => return Err(LogUsage::NoFile),
-        _ => {}
-    }
-    Ok(LogPlan {
+    let plan = LogPlan {
         files,
         path,
         at,
         json,
-    })
+        script,
+    };
+    whole(awaited, plan)
 }

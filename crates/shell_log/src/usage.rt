@@ -8,6 +8,7 @@ pub const LOG_HELP: &str = "\
 Prints what transaction logs of ZooKeeper say, a line for each change
 
 Usage: zk_shell history --log <FILE>.. [--path <PATH>] [--at <ZXID>] [--json]
+       zk_shell history --log <FILE>.. --script [--at <ZXID>]
 
 Options:
       --log <FILE>..  Logs of one server: log.* of its dataDir/version-2
@@ -15,6 +16,9 @@ Options:
       --at <ZXID>     With --path what the path held at this zxid, else that
                       transaction alone
       --json          An object a line
+      --script        The history up to the zxid of --at, or all of it, as a
+                      script: `zk_shell history` answers what was at a zxid,
+                      `zk_shell rehearse` plays it to a client
   -h, --help          Print help
 
 Logs are taken in the order of their zxids. Printed:
@@ -42,8 +46,10 @@ Logs are taken in the order of their zxids. Printed:
 TIME is in milliseconds since 1970. DATA is hex, \\e for no bytes, \\0 for
 null. In a PATH each byte outside 21 to 7e, and the backslash, is \\x and two
 digits. The logs begin with the first transaction if their first zxid ends in
-1 and is of epoch 0 or 1; else what was before them is unknown. Files are read
-whole.
+1 and is of epoch 0 or 1; else what was before them is unknown. Then, and after
+a gap, there is no script. A script has no access lists, and not what servers of
+an ensemble write into /zookeeper/config when they start. Files are read whole,
+and with --script all data are kept in memory.
 
 Servers write digests from 3.6 on. From the first transaction they are compared
 up to a gap, a record without one, or, if the tree is large, a session's close
@@ -68,6 +74,8 @@ pub enum LogUsage {
     NoValue,
     /// A zxid that is no number.
     NoNumber,
+    /// A script of one path, or of objects.
+    Script,
     /// Memory ran out.
     Memory,
 }
@@ -80,6 +88,7 @@ impl fmt::Display for LogUsage {
             LogUsage::Unexpected => write!(f, "a word is unexpected"),
             LogUsage::NoValue => write!(f, "an option has no value"),
             LogUsage::NoNumber => write!(f, "--at wants a zxid"),
+            LogUsage::Script => write!(f, "--script takes no --path and no --json"),
             LogUsage::Memory => write!(f, "out of memory"),
         }
     }

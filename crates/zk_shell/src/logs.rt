@@ -4,7 +4,7 @@ use crate::disk::Disk;
 use script_words::input::{InputFault, read_whole};
 use shell_commands::files::Files;
 use shell_commands::status::Status;
-use shell_log::{LOG_HELP, LogPlan, LogUsage, LogsFault, history_of, plan_of};
+use shell_log::{LOG_HELP, LogPlan, LogUsage, LogsFault, history_of, plan_of, script_of};
 use std::alloc::{AllocError, Global};
 use std::io::{ErrorKind, Write};
 
@@ -52,21 +52,9 @@ fn read_all<E: Write>(
     Ok(all)
 }
 
-/// Tells why logs have no history.
-fn tell_fault<E: Write>(errors: &mut E, names: &[&str], fault: LogsFault) -> Status {
-    let number = match fault {
-        LogsFault::Memory => return Status::Memory,
-        LogsFault::Unread(number, _)
-        | LogsFault::Part(number, _, _)
-        | LogsFault::Overlaps(number)
-        | LogsFault::Digest(number, _, _) => { number }
-    };
-    let name = names
-        .get(number)
-        .copied()
-        .unwrap_or("")
-        .as_bytes()
-        .escape_ascii();
+/// Tells why a log has no history, after its name.
+fn tell_of_log<E: Write>(errors: &mut E, name: &[u8], fault: LogsFault) {
+    let name = name.escape_ascii();
     let _ = match fault {
         LogsFault::Unread(_, fault) => writeln!(errors, "{name}: {fault}"),
         LogsFault::Part(_, place, fault) => {
@@ -76,11 +64,35 @@ fn tell_fault<E: Write>(errors: &mut E, names: &[&str], fault: LogsFault) -> Sta
             errors,
             "{name}: byte {place}: zxid {zxid} has the digest of another tree: transactions before it are missing, or were taken back"
         ),
+        LogsFault::Untold(_, fault) => {
+            writeln!(errors, "{name}: byte {}: {}", fault.place, fault.why)
+        }
         _ => writeln!(
             errors,
             "{name}: its zxids are not above those of the other logs"
         ),
     };
+}
+
+/// Tells why logs have no history.
+fn tell_fault<E: Write>(errors: &mut E, names: &[&str], fault: LogsFault) -> Status {
+    let number = match fault {
+        LogsFault::Memory => return Status::Memory,
+        LogsFault::Negative(zxid) => {
+            let _ = writeln!(
+                errors,
+                "zxid {zxid}: a time or an owner below 0, which no script has"
+            );
+            return Status::Fault;
+        }
+        LogsFault::Unread(number, _)
+        | LogsFault::Part(number, _, _)
+        | LogsFault::Overlaps(number)
+        | LogsFault::Untold(number, _)
+        | LogsFault::Digest(number, _, _) => { number }
+    };
+    let name = names.get(number).copied().unwrap_or("").as_bytes();
+    tell_of_log(errors, name, fault);
     Status::Fault
 }
 
@@ -108,6 +120,12 @@ fn tell_plan<O: Write, E: Write>(
     let Ok(files) = slices_of(alloc, all.as_slice()) else {
         return Status::Memory;
     };
+    if plan.script {
+        return match script_of(alloc, files.as_slice(), plan.at) {
+            Err(fault) => tell_fault(errors, plan.files.as_slice(), fault),
+            Ok(text) => write_bytes(out, text.as_bytes(), Status::Done),
+        };
+    }
     match history_of(alloc, plan, files.as_slice()) {
         Err(fault) => tell_fault(errors, plan.files.as_slice(), fault),
         Ok(told) => {

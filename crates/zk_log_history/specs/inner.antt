@@ -1,0 +1,2 @@
+-- What contracts of private functions say: nobody has to believe it.
+pub mod Refused
