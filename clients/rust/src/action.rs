@@ -64,6 +64,7 @@ impl<'a> Actions<'a> {
     }
 
     /// Hands each action to this function as the library spells it.
+    #[inline]
     pub(crate) fn for_each_flat(
         self,
         mut take: impl FnMut(&Handle, &ffi::Output) -> Result<(), UnknownNumber>,
@@ -145,7 +146,8 @@ pub enum Action<'a> {
     Drop(GivenUp<'a>),
     /// The session has expired, with its ephemeral nodes, and another one begins. What is followed is read again.
     Renewed,
-    /// What is kept of the subject with this ticket is good: look it up. It was not, or its path was reported since.
+    /// What is kept of the subject with this ticket is good: look it up. It was not, or its path was reported since, or servers had an
+    /// election, and it was read again.
     Shown {
         /// The number that the subject was given.
         ticket: u64,

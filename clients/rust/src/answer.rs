@@ -12,17 +12,29 @@ use crate::numbers::outcome;
 use crate::output::{Brought, Bytes};
 use crate::transaction::Change;
 
-/// The answer to a call. Fields that its call does not ask for are empty.
+/// The answer to a call. It is moved from hand to hand, and so it is small.
 #[derive(Debug, Default, PartialEq)]
 pub(crate) struct Answer {
     /// The zxid at which it holds.
     pub(crate) zxid: i64,
-    /// The data of a node, or the body of a reply that the core does not read.
-    pub(crate) data: Option<Vec<u8>>,
-    pub(crate) path: String,
-    pub(crate) names: TextList,
+    /// What is known of the node: zeros where the call does not ask for that.
     pub(crate) stat: Stat,
-    pub(crate) records: Option<Box<RawAnswer>>,
+    pub(crate) content: Content,
+}
+
+/// What else an answer has.
+#[derive(Debug, Default, PartialEq)]
+pub(crate) enum Content {
+    #[default]
+    Nothing,
+    /// The data of a node, or the body of a reply that the core does not read.
+    Data(Vec<u8>),
+    /// The path of a node that was made.
+    Path(String),
+    /// The names of children.
+    Names(TextList),
+    /// The records of a body that the core does not read.
+    Records(Box<RawAnswer>),
 }
 
 /// The records of such a body.
@@ -39,34 +51,62 @@ pub(crate) struct RawAnswer {
 /// The outcome of a call. The error has no path yet.
 pub(crate) type Outcome = Result<Answer, ErrorKind>;
 
-impl Answer {
-    pub(crate) fn records(self) -> RawAnswer {
-        self.records
-            .map_or_else(RawAnswer::default, |records| *records)
+impl Content {
+    fn of(brought: &Brought<'_>, chroot: &Chroot) -> Content {
+        match brought {
+            Brought::Data { data, .. } => {
+                data.map_or(Content::Nothing, |data| Content::Data(data.to_vec()))
+            }
+            Brought::Names { names, .. } => {
+                let one_by_one = |_| TextList::of(&names.iter().collect::<Vec<_>>());
+                Content::Names(names.spelled().unwrap_or_else(one_by_one))
+            }
+            Brought::Created(path) => Content::Path(chroot.inner(String::from(*path))),
+            Brought::Stat(_) | Brought::Done => Content::Nothing,
+            Brought::Raw(body) => Content::Data(body.to_vec()),
+        }
     }
 
-    fn of(brought: &Brought<'_>, chroot: &Chroot) -> Answer {
-        let mut found = Answer::default();
-        match brought {
-            Brought::Stat(stat) => found.stat = *stat,
-            Brought::Data { data, stat } => {
-                found.data = data.map(|data| data.to_vec());
-                found.stat = *stat;
-            }
-            Brought::Names { names, stat } => {
-                let one_by_one = |_| TextList::of(&names.iter().collect::<Vec<_>>());
-                found.names = names.spelled().unwrap_or_else(one_by_one);
-                found.stat = *stat;
-            }
-            Brought::Created(path) => found.path = chroot.inner(String::from(*path)),
-            Brought::Done => {}
-            Brought::Raw(body) => found.data = Some(body.to_vec()),
+    /// The data, and none where they are null.
+    pub(crate) fn data(self) -> Option<Vec<u8>> {
+        match self {
+            Content::Data(data) => Some(data),
+            _ => None,
         }
-        found
+    }
+
+    /// The body of a reply that the core does not read.
+    pub(crate) fn body(&self) -> &[u8] {
+        match self {
+            Content::Data(body) => body,
+            _ => &[],
+        }
+    }
+
+    pub(crate) fn path(self) -> String {
+        match self {
+            Content::Path(path) => path,
+            _ => String::new(),
+        }
+    }
+
+    pub(crate) fn names(self) -> Vec<String> {
+        match self {
+            Content::Names(names) => names.texts(),
+            _ => Vec::new(),
+        }
+    }
+
+    pub(crate) fn records(self) -> RawAnswer {
+        match self {
+            Content::Records(records) => *records,
+            _ => RawAnswer::default(),
+        }
     }
 }
 
 /// The answer to a call, as the library spells it.
+#[inline]
 pub(crate) fn answer_of(
     handle: &Handle,
     flat: &ffi::Output,
@@ -77,11 +117,11 @@ pub(crate) fn answer_of(
     }
     let brought = Brought::of(handle, flat, Bytes::of(handle, flat))?;
     Ok(match brought {
-        Ok(brought) => {
-            let mut found = Answer::of(&brought, chroot);
-            found.zxid = flat.zxid;
-            Ok(found)
-        }
+        Ok(brought) => Ok(Answer {
+            zxid: flat.zxid,
+            stat: flat.stat,
+            content: Content::of(&brought, chroot),
+        }),
         Err(code) => Err(code.into()),
     })
 }

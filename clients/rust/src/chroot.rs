@@ -29,6 +29,7 @@ impl Chroot {
     }
 
     /// The path that the servers know, of one of the program's. A text that is no path does not become one.
+    #[inline]
     pub(crate) fn outer<'a>(&self, path: &'a str) -> Result<Cow<'a, str>, Fault> {
         match path {
             _ if self.prefix.is_empty() => Ok(Cow::Borrowed(path)),

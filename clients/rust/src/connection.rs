@@ -203,27 +203,34 @@ impl Incoming for TcpStream {
     }
 }
 
-/// A stream, and the timeout that its socket has. Most reads and writes wait for about as long as the one before, and leave it.
+/// A stream, and the timeout that its socket has, which serves waits from this to four times as long. A wait that comes nearer to its end with
+/// each read is served for a while, so most reads and writes leave it as it is.
 struct TimedStream {
     stream: TcpStream,
     timeout: Duration,
+    longest: Duration,
 }
 
 impl TimedStream {
     fn new(stream: TcpStream) -> TimedStream {
-        let timeout = Duration::ZERO;
-        TimedStream { stream, timeout }
+        let (timeout, longest) = (Duration::ZERO, Duration::ZERO);
+        TimedStream {
+            stream,
+            timeout,
+            longest,
+        }
     }
 
-    /// Has the next wait last for so long at most, and for half of that at least. This function sets the timeout of the socket.
+    /// Has the next wait last for so long at most, and for a quarter of that at least. This function sets the timeout of the socket.
     fn set_timeout(
         &mut self,
         wait: Duration,
         tell: fn(&TcpStream, Option<Duration>) -> io::Result<()>,
     ) -> io::Result<()> {
-        if self.timeout > wait || self.timeout.saturating_mul(2) < wait {
-            tell(&self.stream, Some(wait))?;
-            self.timeout = wait;
+        if wait < self.timeout || self.longest < wait {
+            let timeout = (wait / 2).max(SHORTEST_WAIT);
+            tell(&self.stream, Some(timeout))?;
+            (self.timeout, self.longest) = (timeout, timeout.saturating_mul(4));
         }
         Ok(())
     }
@@ -304,7 +311,7 @@ mod tests {
     #[test]
     fn a_bound_that_serves_is_told_once() {
         let (mut incoming, mut server) = connected();
-        for (wait, told) in [(100, 100), (120, 100), (200, 100), (201, 201), (200, 200)] {
+        for (wait, told) in [(100, 50), (50, 50), (200, 50), (202, 101), (100, 50)] {
             server.write_all(b"one").unwrap();
             let read = incoming.read(&mut [0; 8], Duration::from_secs(wait));
             assert_eq!(read.unwrap(), 3);

@@ -129,6 +129,7 @@ impl Dispatcher {
     }
 
     /// Sorts the actions of a step.
+    #[inline]
     pub(crate) fn dispatch(&mut self, actions: Actions<'_>) -> Result<(), Fault> {
         actions.for_each_flat(|handle, flat| {
             match flat.kind {

@@ -5,8 +5,10 @@ use crate::engine::{Attempt, Engine, Plan, NEVER};
 use crate::fault::Fault;
 use crate::hosts::{Addresses, DialOrder};
 use crate::moment::Moment;
+use crate::request::Call;
 use crate::sasl::LogInFault;
 use crate::shared::{Shared, LONGEST_WAIT, WAIT_FOR_ROOM};
+use crate::ticket::AskedCall;
 use std::io;
 use std::net::SocketAddr;
 use std::sync::Arc;
@@ -25,12 +27,12 @@ const SHORTEST_DIAL: Duration = Duration::from_millis(1);
 /// How long a session waits before it tries again what there was no memory for.
 const WAIT_FOR_MEMORY: Duration = Duration::from_millis(10);
 
-/// The outcome of a read.
+/// The outcome of a read. Something may have been due before it ended.
 enum Received {
-    /// Bytes, which the engine has. Something may have been due before.
+    /// Bytes, which the engine has.
     Bytes { is_late: bool },
     /// Nothing in time.
-    Nothing,
+    Nothing { is_late: bool },
     /// The end of the connection.
     End,
 }
@@ -66,8 +68,8 @@ impl Driver {
     pub(crate) fn run(mut self) {
         let _end = StopsSession(Arc::clone(&self.shared));
         loop {
-            let plan = self.shared.plan(NEVER);
             let now = self.look();
+            let plan = self.shared.plan(now, NEVER);
             match self.execute(now, plan) {
                 _ if plan == Plan::Stop => return,
                 Err(Fault::NoMemory) => thread::sleep(WAIT_FOR_MEMORY),
@@ -79,15 +81,31 @@ impl Driver {
 
     /// Does the next task, until this moment at most.
     pub(crate) fn turn(&mut self, until: Moment) -> Result<(), Fault> {
-        let plan = self.shared.plan(until);
         let now = self.look();
+        let plan = self.shared.plan(now, until);
         self.execute(now, plan)
     }
 
-    /// The same after a step at this moment, which is now still, without another look at the clock.
-    pub(crate) fn turn_at(&mut self, now: Moment, until: Moment) -> Result<(), Fault> {
-        let plan = self.shared.plan(until);
-        self.execute(now, plan)
+    /// Asks a call of a session without a thread, once it has caught up. Unless the call has ended by then, it does the next task.
+    pub(crate) fn ask_alone(
+        &mut self,
+        asked: &AskedCall,
+        call: Call,
+        limit: Option<Duration>,
+    ) -> Result<(), Fault> {
+        self.looked = asked.at();
+        let now = self.shared.clock().at(self.looked);
+        let mut engine = self.shared.lock();
+        if engine.is_late(now) {
+            drop(engine);
+            self.catch_up()?;
+            engine = self.shared.lock();
+        }
+        let plan = self.shared.with_locked(engine, |engine| {
+            engine.ask_alone(now, call, limit, asked.path());
+            (!engine.is_alone_answered()).then(|| engine.plan(now, NEVER))
+        });
+        plan.map_or(Ok(()), |plan| self.execute(now, plan))
     }
 
     /// When the last turn ended.
@@ -150,8 +168,10 @@ impl Driver {
             wait = wait.min(WAIT_FOR_ROOM);
         }
         match self.receive(wait)? {
-            Received::End | Received::Bytes { is_late: false } => Ok(()),
-            Received::Nothing | Received::Bytes { is_late: true } => self.catch_up(),
+            Received::Bytes { is_late } | Received::Nothing { is_late } if is_late => {
+                self.catch_up()
+            }
+            _ => Ok(()),
         }
     }
 
@@ -162,7 +182,7 @@ impl Driver {
         for _ in 0..MOST_PIECES {
             match self.receive(Duration::ZERO)? {
                 Received::Bytes { .. } => now = self.look(),
-                Received::Nothing => break,
+                Received::Nothing { .. } => break,
                 Received::End => return Ok(()),
             }
         }
@@ -197,7 +217,7 @@ impl Driver {
                     engine.hand_in(now, &room[..count])?;
                     Ok(Received::Bytes { is_late })
                 }
-                Err(fault) if connection::is_late(&fault) => Ok(Received::Nothing),
+                Err(fault) if connection::is_late(&fault) => Ok(Received::Nothing { is_late }),
                 Ok(_) => {
                     engine.end()?;
                     Ok(Received::End)

@@ -147,6 +147,8 @@ pub(crate) struct Engine {
     outbox: Option<Arc<Outbox>>,
     /// The one that has frames to write, or has ended: written without the lock.
     to_write: Option<Arc<Outbox>>,
+    /// No more bytes than these wait to be written.
+    most_unwritten: usize,
     /// The server of the last connection.
     address: Option<SocketAddr>,
     /// Why no server was found since the last accepted session: the last reason of each address.
@@ -191,6 +193,7 @@ impl Engine {
             server: None,
             outbox: None,
             to_write: None,
+            most_unwritten: 0,
             address: None,
             reasons: Vec::new(),
             inbox: Vec::new(),
@@ -228,7 +231,7 @@ impl Engine {
         if let Some(recorder) = &mut self.recorder {
             recorder.begin(self.asked_timeout, Some(saved.as_bytes()));
         }
-        self.deadline.forget();
+        self.deadline.forget(self.machine.timeout());
         self.places.begin_again();
         if matches!(self.phase, Phase::Ended(_) | Phase::Unauthorized) {
             self.contenders.clear();
@@ -267,7 +270,7 @@ impl Engine {
     /// Forgets all stale answers.
     pub(crate) fn forget_stale(&mut self) {
         self.machine.forget_stale();
-        self.deadline.forget();
+        self.deadline.forget(self.machine.timeout());
     }
 
     /// Other hosts. Hosts with another chroot are handed back.
@@ -293,7 +296,7 @@ impl Engine {
         let (now, added) = (self.now(), self.hosts.len() - kept);
         let actions = self.machine.set_addresses(now, kept, added, is_listed);
         let taken = actions.and_then(|actions| self.dispatcher.dispatch(actions));
-        self.deadline.forget();
+        self.deadline.forget(self.machine.timeout());
         // A session that moves leaves no server for a missing answer.
         self.dispatcher.lacks_no_answer();
         self.settle(now, taken)
@@ -357,8 +360,8 @@ impl Engine {
             Phase::Panicked => return None,
             _ => {}
         }
-        let late = self.due().saturating_add(lateness);
-        let is_served = self.outbox.is_none() || self.clock.now() < late;
+        let now = self.clock.now();
+        let is_served = self.outbox.is_none() || now < self.due(now).saturating_add(lateness);
         is_served.then(|| self.machine.state())
     }
 
@@ -434,6 +437,7 @@ impl Engine {
     }
 
     /// What is to be handed out without the lock, if there is something.
+    #[inline]
     pub(crate) fn take_news(&mut self) -> Option<News> {
         let wakes_all = self.wakes_all();
         let has_calls = self.calls.has_answered();
@@ -475,6 +479,7 @@ impl Engine {
     }
 
     /// How the call ends that a session without a thread has asked, if it has ended by now.
+    #[inline]
     pub(crate) fn take_alone(&mut self, call: &AskedCall, now: Instant) -> Option<CallResult> {
         let ending = self.calls.take_alone(call)?;
         self.tally.note_call(call, &ending, now);
@@ -497,20 +502,15 @@ impl Engine {
         stats
     }
 
-    /// The first moment at which something is due, as the machine has it.
-    fn deadline(&self) -> Moment {
-        self.deadline.of(&self.machine)
-    }
-
-    /// The first moment at which something is due, also for calls that the machine does not know.
-    fn due(&self) -> Moment {
-        self.deadline().min(self.credentials.deadline())
+    /// A moment before which nothing is due. It is after this one, unless something is due by then.
+    fn due(&self, now: Moment) -> Moment {
+        let due = self.deadline.at(now, &self.machine);
+        due.min(self.credentials.deadline())
     }
 
     /// Whether something is due on the connection already.
     pub(crate) fn is_late(&self, now: Moment) -> bool {
-        let is_soon = !self.deadline.is_after(now) || self.credentials.deadline() <= now;
-        is_soon && self.outbox.is_some() && self.due() <= now
+        self.outbox.is_some() && self.due(now) <= now
     }
 
     /// Whether there is a connection.
@@ -550,8 +550,8 @@ impl Engine {
 
 /// Tasks and moments.
 impl Engine {
-    /// The driver's next task, until this moment at most.
-    pub(crate) fn plan(&self, until: Moment) -> Plan {
+    /// The driver's next task at this moment, until another one at most.
+    pub(crate) fn plan(&self, now: Moment, until: Moment) -> Plan {
         if matches!(self.phase, Phase::Stopped | Phase::Panicked) {
             return Plan::Stop;
         }
@@ -561,22 +561,22 @@ impl Engine {
         if self.wanted.is_some() {
             return Plan::Dial;
         }
-        let due = self.due();
+        let due = self.due(now);
         match &self.outbox {
             Some(_) if !self.inbox.is_empty() => Plan::HandIn,
-            Some(_) => Plan::Listen(self.listens_until(until.min(due))),
-            None if due <= self.clock.now() => Plan::Tick,
+            Some(_) => Plan::Listen(self.listens_until(now, until.min(due))),
+            None if due <= now => Plan::Tick,
             None => Plan::Rest(until.min(due)),
         }
     }
 
     /// Until when the connection is read, before something else is to be looked at.
-    fn listens_until(&self, until: Moment) -> Moment {
+    fn listens_until(&self, now: Moment, until: Moment) -> Moment {
         let until = until.min(self.tree_deadline());
         if self.machine.state() == State::Connected {
             return until;
         }
-        until.min(self.clock.now().saturating_add(LOOK_ROUND))
+        until.min(now.saturating_add(LOOK_ROUND))
     }
 
     /// Hands the present moment in.
@@ -598,7 +598,7 @@ impl Engine {
             return;
         }
         let now = if self.outbox.is_none() { now } else { limit };
-        if self.outbox.is_none() || limit <= self.due() {
+        if self.outbox.is_none() || limit <= self.due(limit) {
             // A machine that halts answers each call.
             let _ = self.tick_at(now);
         }
@@ -606,208 +606,4 @@ impl Engine {
 }
 
 #[cfg(test)]
-mod tests {
-    use super::{
-        DialOrder, Engine, EngineOptions, Error, ErrorKind, Fault, Hosts, NoReply, Plan, Slot,
-        NEVER,
-    };
-    use crate::action::Refusal;
-    use crate::connection::Outgoing;
-    use crate::dispatch::{SubjectUpdate, TreeUpdate};
-    use crate::jute::Writer;
-    use crate::machine::Limits;
-    use crate::machine::State;
-    use crate::node::ANY_VERSION;
-    use crate::request::Request;
-    use std::io;
-    use std::net::SocketAddr;
-    use std::sync::Arc;
-    use std::thread::sleep;
-    use std::time::Duration;
-
-    /// What a session writes to, where nobody reads it.
-    struct Nowhere;
-
-    impl Outgoing for Nowhere {
-        fn write(&mut self, bytes: &[u8], _: Duration) -> io::Result<usize> {
-            Ok(bytes.len())
-        }
-
-        fn close(&mut self) {}
-    }
-
-    fn address() -> SocketAddr {
-        SocketAddr::from(([127, 0, 0, 1], 1))
-    }
-
-    fn engine() -> Engine {
-        Engine::new(EngineOptions {
-            timeout: Duration::from_secs(10),
-            limits: Limits::default(),
-            hosts: Hosts::from(address()),
-            order: DialOrder::Shuffled,
-            saved: None,
-            renews: true,
-            limit: None,
-            credentials: Vec::new(),
-        })
-        .unwrap()
-    }
-
-    /// A response that admits the session of this number with this timeout. Zeros say that it has expired.
-    pub(super) fn response(timeout_ms: i32, session: i32) -> Vec<u8> {
-        let (mut response, mut frame) = (Writer::default(), Writer::default());
-        response.int(0).int(timeout_ms).int(0).int(session);
-        response.buffer(&[0; 16]).boolean(false);
-        frame.buffer(&response.into_bytes());
-        frame.into_bytes()
-    }
-
-    /// One of the session of number 7, with a timeout of 3 seconds.
-    fn accepted() -> Vec<u8> {
-        response(3_000, 7)
-    }
-
-    /// Makes the connection that is asked for.
-    pub(super) fn open(engine: &mut Engine) {
-        let attempt = engine.begin_attempt().unwrap();
-        let made = engine.opened(attempt.number, address(), Box::new(Nowhere));
-        made.unwrap();
-    }
-
-    /// Dials, and makes the connection.
-    fn connect(engine: &mut Engine) {
-        assert_eq!(engine.plan(NEVER), Plan::Tick);
-        engine.tick().unwrap();
-        assert_eq!(engine.plan(NEVER), Plan::Dial);
-        open(engine);
-    }
-
-    fn ask<T>(engine: &mut Engine, request: Request<T>) -> Arc<Slot> {
-        let slot = Slot::new(request.path, &request.call);
-        let now = engine.clock.at(slot.call().at());
-        engine.ask(now, request.call, request.limit, &slot);
-        slot
-    }
-
-    /// Why a call has failed.
-    fn fault_of(engine: &mut Engine, slot: &Slot) -> Error {
-        engine.take_answered().iter().for_each(|slot| slot.tell());
-        slot.take().unwrap().unwrap_err()
-    }
-
-    pub(super) fn connected() -> Engine {
-        let mut engine = engine();
-        connect(&mut engine);
-        engine.hand_in(engine.clock.now(), &accepted()).unwrap();
-        assert_eq!(engine.state(Duration::ZERO), Some(State::Connected));
-        engine
-    }
-
-    #[test]
-    fn a_library_of_another_version_ends_a_session_in_words() {
-        let mut engine = engine();
-        let fault = Fault::from(State::try_from(9).unwrap_err());
-        let settled = engine.settle(NEVER, Err(fault.clone()));
-        assert_eq!(settled, Err(fault.clone()));
-        assert!(engine.is_over());
-        assert_eq!(engine.halt(), Err(fault.clone()));
-        let slot = ask(&mut engine, Request::get("/a"));
-        assert_eq!(fault_of(&mut engine, &slot).kind(), &fault.into());
-    }
-
-    #[test]
-    fn a_session_that_has_halted_goes_on_where_it_is_renewed() {
-        let mut engine = connected();
-        let slot = ask(&mut engine, Request::get("/a"));
-        let settled = engine.settle(NEVER, Err(Fault::Halted));
-        assert_eq!(settled, Err(Fault::Halted));
-        assert_eq!(engine.plan(NEVER), Plan::Rest(NEVER));
-        assert!(fault_of(&mut engine, &slot).may_have_happened());
-        let slot = ask(&mut engine, Request::get("/a"));
-        assert_eq!(fault_of(&mut engine, &slot).kind(), &Fault::Halted.into());
-        engine.renew().unwrap();
-        let saved = engine.machine().saved().unwrap();
-        assert_eq!((saved.id(), engine.is_over()), (Some(7), false));
-        connect(&mut engine);
-    }
-
-    #[test]
-    fn what_has_panicked_is_told_after_the_thread_has_ended() {
-        let mut engine = connected();
-        engine.panicked();
-        engine.stop();
-        assert_eq!(engine.halt(), Err(Fault::Panicked));
-        assert_eq!(engine.state(Duration::ZERO), None);
-    }
-
-    /// So it is where as many paths are watched as may be: the read is refused at once.
-    #[test]
-    fn a_refusal_is_of_the_node_that_is_told_after_it() {
-        let mut engine = connected();
-        let shown = engine.open_tree("/t", 10).unwrap();
-        let (tree, ticket) = (*engine.trees.keys().next().unwrap(), 1 << 63 | 1);
-        let refused = SubjectUpdate::Refused(Refusal::TooManyWatches);
-        let path = String::from("/t/a");
-        engine.dispatcher.update().shown.push((ticket, refused));
-        let taken_on = TreeUpdate::MemberAdded { ticket, path };
-        engine.dispatcher.update().trees.push((tree, taken_on));
-        engine.settle(NEVER, Ok(())).unwrap();
-        let trouble = shown.trouble().unwrap();
-        let kind = ErrorKind::from(Refusal::TooManyWatches);
-        assert_eq!((trouble.path(), trouble.kind()), (Some("/t/a"), &kind));
-    }
-
-    #[test]
-    fn what_there_was_no_memory_for_is_handed_in_again() {
-        let mut engine = engine();
-        connect(&mut engine);
-        engine.inbox = accepted();
-        assert_eq!(engine.plan(NEVER), Plan::HandIn);
-        engine.hand_in(engine.clock.now(), &[]).unwrap();
-        assert_eq!(engine.state(Duration::ZERO), Some(State::Connected));
-        assert!(matches!(engine.plan(NEVER), Plan::Listen(_)));
-    }
-
-    #[test]
-    fn why_a_connection_is_left_is_told() {
-        let mut engine = connected();
-        let slot = ask(&mut engine, Request::set_acls("/", &[], ANY_VERSION));
-        let begun = engine.clock.now();
-        let after = |millis| begun.saturating_add(Duration::from_millis(millis));
-        let mut notice = Writer::default();
-        notice.int(-1).long(-1).int(0).int(3).int(3).text("/a");
-        let mut frame = Writer::default();
-        frame.buffer(&notice.into_bytes());
-        let frame = frame.into_bytes();
-        let heard = engine.step(after(1_500), |machine, now| machine.bytes(now, &frame));
-        heard.unwrap();
-        assert!(engine.is_open() && engine.take_answered().is_empty());
-        engine.tick_at(after(2_100)).unwrap();
-        assert!(!engine.is_open());
-        let lost = ErrorKind::NoReply(NoReply::ConnectionLoss);
-        assert_eq!(fault_of(&mut engine, &slot).kind(), &lost);
-        let slot = ask(&mut engine, Request::get("/a").within(Duration::ZERO));
-        sleep(Duration::from_millis(2));
-        engine.tick().unwrap();
-        let told = fault_of(&mut engine, &slot).to_string();
-        let seconds = told
-            .strip_prefix("no server of 127.0.0.1:1 accepted the session in ")
-            .and_then(|rest| rest.strip_suffix(" s; last: 127.0.0.1:1: an answer did not come"));
-        let seconds = seconds.map(str::parse::<f64>);
-        assert!(matches!(seconds, Some(Ok(_))), "{told}");
-    }
-
-    #[test]
-    fn an_attempt_that_was_given_up_is_no_connection() {
-        let mut engine = engine();
-        engine.tick().unwrap();
-        let attempt = engine.begin_attempt().unwrap();
-        engine.change_hosts(Hosts::default()).unwrap();
-        engine.hang_up(); // as where the machine gives it up
-        let made = engine.opened(attempt.number, address(), Box::new(Nowhere));
-        made.unwrap();
-        assert!(!engine.is_open());
-        assert_eq!(engine.state(Duration::ZERO), Some(State::Idle));
-    }
-}
+mod tests;

@@ -219,29 +219,35 @@ impl From<UnknownNumber> for Fault {
 
 /// What a code of the library says of a step or a look-up at this path. The other codes of the header have no cause here: a handle is
 /// open, texts are UTF-8, and a [`Mode`](crate::Mode) has its number.
+#[inline]
 pub(crate) fn done_at(path: &str, code: i32) -> Result<(), Fault> {
-    match code {
-        result::OK => Ok(()),
-        result::HALTED => Err(Fault::Halted),
-        result::NO_MEMORY => Err(Fault::NoMemory),
-        result::NOT_PATH => Err(Fault::not_path(path)),
-        result::BAD_TIMEOUT => Err(Fault::BadTimeout),
-        result::NOT_SAVED => Err(Fault::NotSaved),
-        result::NOT_WHOLE => Err(Fault::NotWhole),
-        result::TOO_MANY => Err(Fault::TooManyNodes),
-        result::CREDENTIAL_TOO_LARGE => Err(Fault::CredentialTooLarge),
-        result::NO_SUCH_LIMITS => Err(Fault::NoSuchLimits),
-        result::NOT_ACL => Err(Fault::NotAcl),
-        _ => Err(UnknownNumber::of("result", code).into()),
-    }
-}
-
-/// The same where there is no path.
-pub(crate) fn done(code: i32) -> Result<(), Fault> {
     if code == result::OK {
         return Ok(());
     }
+    Err(fault_at(path, code))
+}
+
+/// The same where there is no path.
+#[inline]
+pub(crate) fn done(code: i32) -> Result<(), Fault> {
     done_at("", code)
+}
+
+#[cold]
+fn fault_at(path: &str, code: i32) -> Fault {
+    match code {
+        result::HALTED => Fault::Halted,
+        result::NO_MEMORY => Fault::NoMemory,
+        result::NOT_PATH => Fault::not_path(path),
+        result::BAD_TIMEOUT => Fault::BadTimeout,
+        result::NOT_SAVED => Fault::NotSaved,
+        result::NOT_WHOLE => Fault::NotWhole,
+        result::TOO_MANY => Fault::TooManyNodes,
+        result::CREDENTIAL_TOO_LARGE => Fault::CredentialTooLarge,
+        result::NO_SUCH_LIMITS => Fault::NoSuchLimits,
+        result::NOT_ACL => Fault::NotAcl,
+        _ => UnknownNumber::of("result", code).into(),
+    }
 }
 
 impl NoReply {

@@ -139,15 +139,7 @@ impl LocalSession {
 
     fn call_once<T>(&mut self, request: Request<T>) -> Result<T, Error> {
         let asked = AskedCall::now(request.path, &request.call);
-        let now = self.inner().clock().at(asked.at());
-        self.driver.catch_up_if_late(now)?;
-        let is_answered = self.inner().with(|engine| {
-            engine.ask_alone(now, request.call, request.limit, asked.path());
-            engine.is_alone_answered()
-        });
-        if !is_answered {
-            self.driver.turn_at(now, NEVER)?;
-        }
+        self.driver.ask_alone(&asked, request.call, request.limit)?;
         loop {
             let now = self.driver.looked();
             if let Some(ending) = self.inner().take_alone(&asked, now) {

@@ -19,7 +19,8 @@ pub struct Moment(u64);
 
 /// Whole milliseconds, and the most that there are for what is longer.
 fn millis(duration: Duration) -> u64 {
-    u64::try_from(duration.as_millis()).unwrap_or(u64::MAX)
+    let seconds = duration.as_secs().saturating_mul(1_000);
+    seconds.saturating_add(duration.subsec_millis().into())
 }
 
 impl Moment {

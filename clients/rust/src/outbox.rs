@@ -36,7 +36,7 @@ impl Line {
 /// What the lock of an outbox guards. It is never held while something is written.
 struct Held {
     /// None while a thread writes, and once it is closed.
-    line: Option<Line>,
+    line: Option<Box<Line>>,
     /// How many bytes of the line are not written.
     left: usize,
     /// Whole frames, after those bytes.
@@ -47,9 +47,14 @@ struct Held {
 }
 
 impl Held {
+    /// How many bytes wait.
+    fn waiting(&self) -> usize {
+        self.left + self.frames.len()
+    }
+
     /// Whether nothing is to be written, nor to be closed.
     fn is_done(&self) -> bool {
-        self.left == 0 && self.frames.is_empty() && !self.is_over
+        self.waiting() == 0 && !self.is_over
     }
 }
 
@@ -84,14 +89,14 @@ pub(crate) struct Outbox {
 
 impl Outbox {
     pub(crate) fn new(outgoing: Box<dyn Outgoing>) -> Arc<Outbox> {
-        let line = Some(Line {
+        let line = Line {
             outgoing,
             taken: Vec::new(),
             written: 0,
-        });
+        };
         Arc::new(Outbox {
             held: Mutex::new(Held {
-                line,
+                line: Some(Box::new(line)),
                 left: 0,
                 frames: Vec::new(),
                 is_helped: false,
@@ -104,20 +109,21 @@ impl Outbox {
         self.held.lock().unwrap_or_else(PoisonError::into_inner)
     }
 
-    /// These frames are to be written, after those that wait. They are copied only where some do.
-    pub(crate) fn put(&self, frames: &mut Vec<u8>) {
+    /// These frames are to be written, after those that wait. They are copied only where some do. How many bytes wait then.
+    #[inline]
+    pub(crate) fn put(&self, frames: &mut Vec<u8>) -> usize {
         let mut held = self.held();
         if held.frames.is_empty() {
             mem::swap(&mut held.frames, frames);
         } else {
             held.frames.append(frames);
         }
+        held.waiting()
     }
 
     /// How many bytes wait.
     pub(crate) fn waiting(&self) -> usize {
-        let held = self.held();
-        held.left + held.frames.len()
+        self.held().waiting()
     }
 
     /// The connection is over: who writes next closes it.
@@ -141,7 +147,7 @@ impl Outbox {
     }
 
     /// Takes what is to be written, where nobody else writes.
-    fn begin(&self, writer: Writer) -> Option<Line> {
+    fn begin(&self, writer: Writer) -> Option<Box<Line>> {
         let mut held = self.held();
         if held.is_helped && writer != Writer::Helper {
             return None;
@@ -168,7 +174,7 @@ impl Outbox {
     /// Another thread may write. How the writes have ended, unless this thread writes on.
     fn put_back(
         &self,
-        line: Line,
+        line: Box<Line>,
         writer: Writer,
         done: io::Result<()>,
         is_last: bool,

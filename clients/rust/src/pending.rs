@@ -128,6 +128,7 @@ impl PendingCalls {
     }
 
     /// The same, of the one that asks one at a time.
+    #[inline]
     pub(crate) fn begin_alone(&mut self) -> u64 {
         let ticket = self.next_ticket();
         self.alone = None;
@@ -154,6 +155,7 @@ impl PendingCalls {
     }
 
     /// A call is answered. If the core has not read the answer, the call reads it. Whether it parses: if not, the call may have happened.
+    #[inline]
     pub(crate) fn read(&mut self, ticket: u64, outcome: Outcome, root: &Chroot) -> bool {
         let Some(PendingCall { asker, raw }) = self.waiting.remove(ticket) else {
             return true;
@@ -162,7 +164,7 @@ impl PendingCalls {
             self.answer(asker, outcome);
             return true;
         };
-        let read = call.read(found.data.as_deref().unwrap_or_default(), root);
+        let read = call.read(found.content.body(), root);
         let parses = read.is_some();
         let lost = || Err(NoReply::ConnectionLoss.into());
         self.answer(asker, read.unwrap_or_else(lost));
@@ -200,6 +202,7 @@ impl PendingCalls {
     }
 
     /// How the call of the one that asks one at a time ends, if it has.
+    #[inline]
     pub(crate) fn take_alone(&mut self, call: &AskedCall) -> Option<CallResult> {
         let outcome = self.alone.take()?;
         Some(call.ending(outcome, self.search.as_ref()))

@@ -1,7 +1,7 @@
 //! Calls whose records this crate spells and reads, as `zookeeper.jute` has them. The core carries them, and looks at no byte of them.
 
 use crate::acl::Acl;
-use crate::answer::{Answer, Outcome, RawAnswer};
+use crate::answer::{Answer, Content, Outcome, RawAnswer};
 use crate::chroot::Chroot;
 use crate::fault::Fault;
 use crate::jute::{Reader, Writer};
@@ -212,7 +212,7 @@ impl RawCall {
             }
             RawCall::SetAcls { .. } => found.stat = reply.stat()?,
             RawCall::Create { .. } => {
-                found.path = root.inner(reply.text()?);
+                found.content = Content::Path(root.inner(reply.text()?));
                 found.stat = reply.stat()?;
             }
             RawCall::Transaction(operations) => {
@@ -229,7 +229,9 @@ impl RawCall {
             RawCall::AllChildrenNumber => records.count = reply.int()?,
             RawCall::WhoAmI => records.ids = reply.vector(Reader::id)?,
         }
-        found.records = Some(Box::new(records));
+        if found.content == Content::Nothing {
+            found.content = Content::Records(Box::new(records));
+        }
         Some(Ok(found))
     }
 }
@@ -238,7 +240,7 @@ impl RawCall {
 mod tests {
     use super::{Lifetime, RawCall};
     use crate::acl::{Acl, Id, Permissions};
-    use crate::answer::{Answer, RawAnswer};
+    use crate::answer::{Answer, Content, RawAnswer};
     use crate::chroot::Chroot;
     use crate::fault::{Code, Fault};
     use crate::multi_read::{Read, ReadAnswer};
@@ -378,7 +380,7 @@ mod tests {
         }
     }
 
-    /// Each call, a body of a reply, and what it says.
+    /// Each call, a body of a reply, and what it says: with its records, if they are all the content that it has.
     fn answers() -> Vec<(RawCall, Vec<u8>, Answer, RawAnswer)> {
         let (none, records) = (Answer::default, RawAnswer::default);
         let with_stat = || Answer {
@@ -386,7 +388,7 @@ mod tests {
             ..none()
         };
         let (mut made, mut ephemerals, mut of_acls) = (with_stat(), records(), records());
-        made.path = String::from("/a");
+        made.content = Content::Path(String::from("/a"));
         ephemerals.paths = ["/a", "/b"].map(String::from).to_vec();
         of_acls.acls = vec![Acl::new(Permissions::READ, "ip", "::1")];
         let body_of_acls = [int(1), int(1), text("ip"), text("::1"), stat_bytes()].concat();
@@ -434,10 +436,11 @@ mod tests {
 
     #[test]
     fn each_answer_is_read_as_the_protocol_has_it() {
-        for (call, body, found, records) in answers().into_iter().chain(answers_of_records()) {
+        for (call, body, mut told, records) in answers().into_iter().chain(answers_of_records()) {
             let number = call.operation().number();
-            let records = Some(Box::new(records));
-            let told = Answer { records, ..found };
+            if told.content == Content::Nothing {
+                told.content = Content::Records(Box::new(records));
+            }
             assert_eq!(call.read(&body, &app()), Some(Ok(told)), "{number}");
         }
     }

@@ -2,7 +2,6 @@
 
 use crate::acl::{Acl, Id};
 use crate::action::Actions;
-use crate::answer::Answer;
 use crate::credentials::Credential;
 use crate::error::Error;
 use crate::fault::{Code, Fault};
@@ -29,6 +28,7 @@ pub(crate) enum CoreCall {
 
 impl CoreCall {
     /// Asks the machine, about the node of this path at the servers. It waits to this moment at most.
+    #[inline]
     pub(crate) fn ask<'a>(
         &self,
         machine: &'a mut Machine,
@@ -192,8 +192,10 @@ impl Request<Node> {
     /// The data of a node. Where there is none the answer is [`Code::NO_NODE`].
     pub fn get(path: &str) -> Request<Node> {
         Request::new(path, Call::Core(CoreCall::Data(Watch::No)), |ending| {
-            let Answer { data, stat, .. } = ending?;
-            Ok(Node { data, stat })
+            ending.map(|found| Node {
+                data: found.content.data(),
+                stat: found.stat,
+            })
         })
     }
 
@@ -209,7 +211,7 @@ impl Request<(Vec<String>, Stat)> {
     /// [`Code::NO_NODE`].
     pub fn children(path: &str) -> Request<(Vec<String>, Stat)> {
         Request::new(path, Call::Core(CoreCall::Children(Watch::No)), |ending| {
-            ending.map(|found| (found.names.texts(), found.stat))
+            ending.map(|found| (found.content.names(), found.stat))
         })
     }
 
@@ -224,7 +226,7 @@ impl Request<(Vec<String>, i64)> {
     /// The names of the children of a node, and the zxid at which it has these.
     pub(crate) fn listing(path: &str) -> Request<(Vec<String>, i64)> {
         Request::new(path, Call::Core(CoreCall::Children(Watch::No)), |ending| {
-            ending.map(|found| (found.names.texts(), found.zxid))
+            ending.map(|found| (found.content.names(), found.zxid))
         })
     }
 }
@@ -252,9 +254,7 @@ impl Request<(Vec<Acl>, Stat)> {
     /// The ACL of a node, and what is known of it.
     pub fn acls(path: &str) -> Request<(Vec<Acl>, Stat)> {
         Request::new(path, RawCall::Acls.into(), |ending| {
-            ending
-                .map(|found| (found.stat, found.records().acls))
-                .map(|(stat, acls)| (acls, stat))
+            ending.map(|found| (found.content.records().acls, found.stat))
         })
     }
 }
@@ -266,7 +266,11 @@ impl Request<String> {
         Request::new(
             path,
             Call::Core(CoreCall::Create { data, mode }),
-            |ending| ending.map(|found| found.path).map_err(Error::of_create),
+            |ending| {
+                ending
+                    .map(|found| found.content.path())
+                    .map_err(Error::of_create)
+            },
         )
     }
 
@@ -306,7 +310,9 @@ impl Request<String> {
 
     fn created(path: &str, data: &[u8], acls: &[Acl], lifetime: Lifetime) -> Request<String> {
         Request::new(path, creation(data, acls, lifetime), |ending| {
-            ending.map(|found| found.path).map_err(Error::of_create)
+            ending
+                .map(|found| found.content.path())
+                .map_err(Error::of_create)
         })
     }
 }
@@ -327,7 +333,7 @@ impl Request<(String, Stat)> {
     pub fn create2(path: &str, data: &[u8], mode: Mode, acls: &[Acl]) -> Request<(String, Stat)> {
         Request::new(path, creation(data, acls, Lifetime::Mode(mode)), |ending| {
             let found = ending.map_err(Error::of_create)?;
-            Ok((found.path, found.stat))
+            Ok((found.content.path(), found.stat))
         })
     }
 }
@@ -338,7 +344,7 @@ impl Request<Vec<Result<ReadAnswer, Code>>> {
     pub fn multi_read(reads: &[Read]) -> Request<Vec<Result<ReadAnswer, Code>>> {
         let call = RawCall::Reads(reads.to_vec());
         Request::new("/", call.into(), |ending| {
-            ending.map(|found| found.records().answers)
+            ending.map(|found| found.content.records().answers)
         })
     }
 }
@@ -348,7 +354,7 @@ impl Request<Vec<String>> {
     /// has it since version 3.6.
     pub fn ephemerals(prefix: &str) -> Request<Vec<String>> {
         Request::new(prefix, RawCall::Ephemerals.into(), |ending| {
-            ending.map(|found| found.records().paths)
+            ending.map(|found| found.content.records().paths)
         })
     }
 }
@@ -358,7 +364,7 @@ impl Request<i32> {
     /// 3.6.
     pub fn all_children_number(path: &str) -> Request<i32> {
         Request::new(path, RawCall::AllChildrenNumber.into(), |ending| {
-            ending.map(|found| found.records().count)
+            ending.map(|found| found.content.records().count)
         })
     }
 }
@@ -368,7 +374,7 @@ impl Request<Vec<Id>> {
     /// [`Code::UNIMPLEMENTED`].
     pub fn who_am_i() -> Request<Vec<Id>> {
         Request::new("/", RawCall::WhoAmI.into(), |ending| {
-            ending.map(|found| found.records().ids)
+            ending.map(|found| found.content.records().ids)
         })
     }
 }

@@ -74,13 +74,22 @@ impl Shared {
         self.clock
     }
 
-    fn lock(&self) -> MutexGuard<'_, Engine> {
+    /// Locks the engine. Whoever changes it goes on by [`with_locked`](Shared::with_locked).
+    pub(crate) fn lock(&self) -> MutexGuard<'_, Engine> {
         self.engine.lock().unwrap_or_else(PoisonError::into_inner)
     }
 
     /// Does something with the engine, and then hands out the answers.
     pub(crate) fn with<R>(&self, act: impl FnOnce(&mut Engine) -> R) -> R {
-        let mut engine = self.lock();
+        self.with_locked(self.lock(), act)
+    }
+
+    /// The same with the engine that is locked already.
+    pub(crate) fn with_locked<R>(
+        &self,
+        mut engine: MutexGuard<'_, Engine>,
+        act: impl FnOnce(&mut Engine) -> R,
+    ) -> R {
         let result = act(&mut engine);
         engine.update_trees();
         self.hand_out(engine);
@@ -94,10 +103,13 @@ impl Shared {
     }
 
     /// How the call ends that a session without a thread has asked, if it has ended by now.
+    #[inline]
     pub(crate) fn take_alone(&self, call: &AskedCall, now: Instant) -> Option<CallResult> {
         let mut engine = self.lock();
         let ending = engine.take_alone(call, now)?;
-        self.hand_out(engine);
+        if self.observer.is_some() {
+            self.hand_out(engine);
+        }
         Some(ending)
     }
 
@@ -217,6 +229,7 @@ impl Shared {
     }
 
     /// Writes on for a while, in a session without helpers. Whether something waits for room still.
+    #[inline]
     pub(crate) fn writes_on(&self) -> bool {
         if self.writer != Writer::Alone || !self.is_full.load(Ordering::Relaxed) {
             return false;
@@ -252,9 +265,9 @@ impl Shared {
     }
 
     /// The driver's next task, after a rest if there is time for one.
-    pub(crate) fn plan(&self, until: Moment) -> Plan {
+    pub(crate) fn plan(&self, now: Moment, until: Moment) -> Plan {
         let engine = self.lock();
-        let plan = engine.plan(until);
+        let plan = engine.plan(now, until);
         if let Plan::Rest(moment) = plan {
             let wait = moment.saturating_duration_since(self.clock.now());
             drop(self.rest(engine, wait));

@@ -331,19 +331,16 @@ impl Stats {
             Observation::Connected { .. } => self.connections += 1,
             Observation::ConnectionEnded(end) => self.ends[*end as usize] += 1,
             Observation::SessionLost => self.sessions_lost += 1,
-            Observation::Answered {
-                kind,
-                outcome,
-                took,
-                ..
-            } => self.note_answer(*kind, *outcome, *took),
-            Observation::BytesIn(count) => self.bytes_in += *count as u64,
-            Observation::BytesOut(count) => self.bytes_out += *count as u64,
-            Observation::RecordEnded { .. } => {}
+            // The first three are counted by functions of their own.
+            Observation::Answered { .. }
+            | Observation::BytesIn(_)
+            | Observation::BytesOut(_)
+            | Observation::RecordEnded { .. } => {}
         }
     }
 
-    pub(crate) fn note_answer(&mut self, kind: CallKind, outcome: CallOutcome, took: Duration) {
+    #[inline]
+    fn note_answer(&mut self, kind: CallKind, outcome: CallOutcome, took: Duration) {
         self.calls[kind as usize][outcome as usize] += 1;
         if outcome != CallOutcome::NotAsked {
             self.times[kind as usize].note(took);
@@ -489,7 +486,24 @@ impl Tally {
         }
     }
 
+    /// This many bytes came.
+    pub(crate) fn note_bytes_in(&mut self, count: usize) {
+        self.stats.bytes_in += count as u64;
+        if self.is_observed {
+            self.tell(Observation::BytesIn(count));
+        }
+    }
+
+    /// This many bytes are handed to the connection.
+    pub(crate) fn note_bytes_out(&mut self, count: usize) {
+        self.stats.bytes_out += count as u64;
+        if self.is_observed {
+            self.tell(Observation::BytesOut(count));
+        }
+    }
+
     /// A call has ended so, by now.
+    #[inline]
     pub(crate) fn note_call(&mut self, call: &AskedCall, ending: &CallResult, now: Instant) {
         let (kind, outcome, took) = call.came(ending, now);
         self.stats.note_answer(kind, outcome, took);
@@ -516,7 +530,7 @@ impl Tally {
 
 #[cfg(test)]
 mod tests {
-    use super::{CallKind, CallOutcome, Histogram, Observation, Stats};
+    use super::{CallKind, CallOutcome, Histogram, Stats};
     use std::time::Duration;
 
     #[test]
@@ -536,14 +550,7 @@ mod tests {
     #[test]
     fn a_page_has_the_lines_of_prometheus() {
         let mut stats = Stats::default();
-        stats.note(&Observation::Answered {
-            kind: CallKind::Get,
-            path: None,
-            outcome: CallOutcome::Ok,
-            code: None,
-            zxid: 5,
-            took: Duration::from_millis(3),
-        });
+        stats.note_answer(CallKind::Get, CallOutcome::Ok, Duration::from_millis(3));
         let page = stats.prometheus();
         for line in [
             "# TYPE dirwolleu_call_seconds histogram",

@@ -48,6 +48,7 @@ pub(crate) struct AskedCall {
 
 impl AskedCall {
     /// This call, which is asked now at this path.
+    #[inline]
     pub(crate) fn now(path: String, call: &Call) -> AskedCall {
         AskedCall {
             path,
@@ -58,6 +59,7 @@ impl AskedCall {
     }
 
     /// How the call ends with this outcome, after this search for a server where there was one.
+    #[inline]
     pub(crate) fn ending(&self, outcome: Outcome, search: Option<&Search>) -> CallResult {
         outcome.map_err(|kind| {
             let error = Error::about(self.node(), kind);
@@ -69,6 +71,7 @@ impl AskedCall {
     }
 
     /// What the call was about, what has come of it by this ending, and the time since it was asked.
+    #[inline]
     pub(crate) fn came(
         &self,
         ending: &CallResult,
@@ -214,8 +217,9 @@ pub(crate) struct CallLimit {
 impl CallLimit {
     /// The limit, or soon where it has come.
     fn next(&self) -> Option<Instant> {
-        let left = self.moment.saturating_duration_since(self.clock.now());
-        Instant::now().checked_add(left.max(BETWEEN_LOOKS))
+        let now = Instant::now();
+        let left = self.moment.saturating_duration_since(self.clock.at(now));
+        now.checked_add(left.max(BETWEEN_LOOKS))
     }
 
     /// Has the session tell what is late.

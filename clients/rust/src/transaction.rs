@@ -199,7 +199,7 @@ impl Request<Vec<Change>> {
     pub fn transaction(operations: Operations) -> Request<Vec<Change>> {
         let call = Call::from(RawCall::Transaction(operations.list));
         Request::new("/", call, |ending| {
-            ending.map(|found| found.records().changes)
+            ending.map(|found| found.content.records().changes)
         })
     }
 }

@@ -81,6 +81,9 @@ impl Engine {
 
     /// Why no call is asked while a server reads slowly. To end the session always may be.
     fn refusal_of_backlog(&self, call: &Call) -> Option<ErrorKind> {
+        if self.most_unwritten <= MOST_UNWRITTEN {
+            return None;
+        }
         let waiting = self.outbox.as_ref().map_or(0, |outbox| outbox.waiting());
         let is_refused = waiting > MOST_UNWRITTEN && !matches!(call, Call::Core(CoreCall::Close));
         is_refused.then_some(ErrorKind::QueueFull)

@@ -7,7 +7,6 @@ use crate::machine::Machine;
 use crate::moment::Moment;
 use crate::outbox::Outbox;
 use crate::stats::{ConnectionEnd, Observation};
-use std::borrow::Cow;
 use std::io;
 use std::mem;
 use std::net::SocketAddr;
@@ -66,27 +65,31 @@ impl Engine {
     }
 
     /// Hands in bytes that came from the server by now, after those that there was no memory for.
+    #[inline]
     pub(crate) fn hand_in(&mut self, now: Moment, bytes: &[u8]) -> Result<(), Fault> {
-        let now = self.before_due(now);
         if !bytes.is_empty() {
-            self.tally.note(Observation::BytesIn(bytes.len()));
+            self.tally.note_bytes_in(bytes.len());
         }
-        let kept = mem::take(&mut self.inbox);
-        let came = if kept.is_empty() {
-            Cow::Borrowed(bytes)
-        } else {
-            Cow::Owned([&kept, bytes].concat())
-        };
-        let actions = self.machine.bytes(now, &came);
+        if self.inbox.is_empty() {
+            return self.hand_in_all(now, bytes);
+        }
+        let mut all = mem::take(&mut self.inbox);
+        all.extend(bytes);
+        self.hand_in_all(now, &all)
+    }
+
+    fn hand_in_all(&mut self, now: Moment, bytes: &[u8]) -> Result<(), Fault> {
+        let now = self.before_due(now);
+        let actions = self.machine.bytes(now, bytes);
         let taken = actions.and_then(|actions| self.dispatcher.dispatch(actions));
         self.note_plain_step(now, NEVER);
         // Nothing is due at this moment, so the machine does not leave for a missing answer.
         self.dispatcher.lacks_no_answer();
         if taken.is_err() {
-            self.inbox = came.into_owned();
+            self.inbox = bytes.to_vec();
         } else if let Some(recorder) = &mut self.recorder {
             recorder.at(now);
-            recorder.bytes(&came);
+            recorder.bytes(bytes);
         }
         self.settle(now, taken)
     }

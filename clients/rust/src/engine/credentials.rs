@@ -77,7 +77,7 @@ impl Engine {
         let saved = self.machine.saved();
         if let Ok(other) = saved.and_then(|saved| self.machine_of(&saved)) {
             self.machine = other; // the one before is freed, with what it knows of the session
-            self.deadline.forget();
+            self.deadline.forget(self.machine.timeout());
         }
         self.dispatcher.push_event(Event::CredentialsRefused);
     }

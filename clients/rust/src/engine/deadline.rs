@@ -18,32 +18,32 @@ pub(super) struct Deadline {
     first: Cell<Moment>,
     /// Whether something is due at it.
     is_known: Cell<bool>,
+    /// For how long after a plain step nothing is due that this has brought.
+    rest: Duration,
 }
 
 impl Deadline {
-    /// When something is due.
-    pub(super) fn of(&self, machine: &Machine) -> Moment {
-        if !self.is_known.get() {
+    /// A moment before which nothing is due. It is after this one, unless something is due by then.
+    pub(super) fn at(&self, now: Moment, machine: &Machine) -> Moment {
+        if self.first.get() <= now && !self.is_known.get() {
             self.first.set(machine.deadline().unwrap_or(NEVER));
             self.is_known.set(true);
         }
         self.first.get()
     }
 
-    /// Whether nothing is due at this moment, as far as that is known without the machine.
-    pub(super) fn is_after(&self, now: Moment) -> bool {
-        now < self.first.get()
-    }
-
-    /// Nothing is known of it.
-    pub(super) fn forget(&mut self) {
-        *self = Deadline::default();
+    /// Nothing is known of it, of a session with this timeout.
+    pub(super) fn forget(&mut self, timeout: Duration) {
+        *self = Deadline {
+            rest: LONGEST_REST.min(timeout / 10),
+            ..Deadline::default()
+        };
     }
 
     /// The machine has made a step that has brought answers and frames alone: what these make due is due after a third of the timeout, and
     /// what is asked again after a second, or later. At this moment it is the limit of a call.
-    pub(super) fn note_plain_step(&mut self, now: Moment, timeout: Duration, limit: Moment) {
-        let rest = now.saturating_add(LONGEST_REST.min(timeout / 10));
+    pub(super) fn note_plain_step(&mut self, now: Moment, limit: Moment) {
+        let rest = now.saturating_add(self.rest);
         let first = self.first.get().min(rest).min(limit);
         self.first.set(first);
         self.is_known.set(false);
@@ -66,21 +66,20 @@ mod tests {
         let mut machine = Machine::open(Duration::from_secs(9), 1, 1).unwrap();
         let _ = machine.tick(at(1)).unwrap();
         let mut deadline = Deadline::default();
-        assert!(!deadline.is_after(at(0)));
-        assert_eq!(deadline.of(&machine), at(3_001)); // the attempt has a third of the timeout
-        assert!(deadline.is_after(at(3_000)) && !deadline.is_after(at(3_001)));
+        deadline.forget(Duration::from_secs(9));
+        assert_eq!(deadline.at(at(0), &machine), at(3_001)); // the attempt has a third of the timeout
         for (now, limit, first) in [
             (1, 900, 501),
             (100, NEVER.as_millis(), 501),
             (200, 400, 400),
         ] {
-            deadline.note_plain_step(at(now), Duration::from_secs(9), at(limit));
-            assert!(deadline.is_after(at(first - 1)) && !deadline.is_after(at(first)));
+            deadline.note_plain_step(at(now), at(limit));
+            assert_eq!(deadline.at(at(first - 1), &machine), at(first));
         }
-        assert_eq!(deadline.of(&machine), at(3_001));
-        deadline.note_plain_step(at(10), Duration::from_secs(1), NEVER);
-        assert!(deadline.is_after(at(109)) && !deadline.is_after(at(110)));
-        deadline.forget();
-        assert!(!deadline.is_after(at(0)));
+        assert_eq!(deadline.at(at(400), &machine), at(3_001));
+        deadline.forget(Duration::from_secs(1));
+        assert_eq!(deadline.at(at(0), &machine), at(3_001));
+        deadline.note_plain_step(at(10), NEVER);
+        assert_eq!(deadline.at(at(109), &machine), at(110));
     }
 }

@@ -21,8 +21,8 @@ impl Engine {
 
     /// The same, at this moment. If something is due by then, it is the last moment before: the server's answer may be there, unread.
     pub(super) fn before_due(&self, now: Moment) -> Moment {
-        if self.outbox.is_some() && !self.deadline.is_after(now) {
-            return now.min(self.deadline().before());
+        if self.outbox.is_some() {
+            return now.min(self.deadline.at(now, &self.machine).before());
         }
         now
     }
@@ -34,7 +34,7 @@ impl Engine {
     {
         let actions = step(&mut self.machine, now);
         let taken = actions.and_then(|actions| self.dispatcher.dispatch(actions));
-        self.deadline.forget();
+        self.deadline.forget(self.machine.timeout());
         self.settle(now, taken)
     }
 
@@ -52,10 +52,9 @@ impl Engine {
     /// The machine has taken a call that waits to this moment at most, or bytes.
     pub(super) fn note_plain_step(&mut self, now: Moment, until: Moment) {
         if self.dispatcher.update.is_some() {
-            return self.deadline.forget();
+            return self.deadline.forget(self.machine.timeout());
         }
-        let timeout = self.machine.timeout();
-        self.deadline.note_plain_step(now, timeout, until);
+        self.deadline.note_plain_step(now, until);
     }
 
     /// Does what the machine has said at a step, in its order. It closes the connection if the machine says so, or has halted.
@@ -216,8 +215,8 @@ impl Engine {
             if let Some(recorder) = &mut self.recorder {
                 recorder.sent(frames);
             }
-            self.tally.note(Observation::BytesOut(frames.len()));
-            outbox.put(frames);
+            self.tally.note_bytes_out(frames.len());
+            self.most_unwritten = outbox.put(frames);
             self.to_write = Some(Arc::clone(outbox));
         }
         self.dispatcher.frames.clear();

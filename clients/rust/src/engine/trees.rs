@@ -84,10 +84,14 @@ impl Engine {
     }
 
     /// Copies the trees that are complete and due.
+    #[inline]
     pub(crate) fn update_trees(&mut self) {
-        if self.trees.is_empty() {
-            return;
+        if !self.trees.is_empty() {
+            self.update_each_tree();
         }
+    }
+
+    fn update_each_tree(&mut self) {
         self.unfollow_unwanted_trees();
         let (is_over, may_look) = (self.is_over(), self.may_look());
         for tree in self.trees.values_mut() {

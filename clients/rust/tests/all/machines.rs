@@ -192,27 +192,33 @@ fn a_refused_read_of_what_is_followed_is_told_once_and_made_again() {
     }
 }
 
-/// A server that answers one request, then says that the session has expired, and serves the next one.
-fn expiring() -> Partner {
-    Partner::start(|number, mut line| {
+/// A server that answers one request, waits until it is told that the answer was seen, then says that the session has expired, and serves
+/// the next one.
+fn expiring() -> (Partner, mpsc::Sender<()>) {
+    let (seen, is_seen) = mpsc::channel();
+    let partner = Partner::start(move |number, mut line| {
         if number == 1 {
             line.expire();
-        } else if line.admit(10_000) {
+        } else if line.admit(60_000) {
             let request = line.request().unwrap();
             line.answer(&request);
-            if number > 0 {
+            if number == 0 {
+                let _ = is_seen.recv(); // it fails where the test has failed
+            } else {
                 line.serve();
             }
         }
-    })
+    });
+    (partner, seen)
 }
 
 #[test]
 fn what_follows_ends_with_its_session() {
-    let partner = expiring();
+    let (partner, seen) = expiring();
     let session = Session::open(partner.address, TIMEOUT).unwrap();
     let mut nodes = session.follow("/a");
     assert!(nodes.next().unwrap().is_ok());
+    seen.send(()).unwrap();
     let ended = nodes.next().unwrap().unwrap_err();
     assert_eq!(ended.no_reply(), Some(NoReply::SessionExpired));
     assert!(nodes.next().is_none());
@@ -229,7 +235,7 @@ fn what_follows_ends_with_its_session() {
 
 #[test]
 fn what_is_followed_goes_on_with_a_renewed_session() {
-    let partner = expiring();
+    let (partner, seen) = expiring();
     let session = Session::open(partner.address, TIMEOUT).unwrap().shared();
     let follower = session.clone();
     let (sender, told) = mpsc::channel();
@@ -239,6 +245,7 @@ fn what_is_followed_goes_on_with_a_renewed_session() {
         }
     });
     assert_eq!(told.recv_timeout(PATIENCE), Ok(Ok(())));
+    seen.send(()).unwrap();
     assert!(told.recv_timeout(PATIENCE).unwrap().is_err());
     session.renew().unwrap();
     assert!(session.create("/mine", b"", Mode::Ephemeral).is_ok());
