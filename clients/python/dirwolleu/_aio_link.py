@@ -8,19 +8,19 @@ import weakref
 from collections.abc import Callable
 from typing import Any, Optional, cast
 
-from dirwolleu._driver import CLOSED, SHORT, Driver
+from dirwolleu._driver import CLOSED, Driver
 from dirwolleu._hosts import Place, Servers
-from dirwolleu._poll import ROOM
+from dirwolleu._rooms import Inbox, Rooms
 
-_rooms: weakref.WeakKeyDictionary[asyncio.AbstractEventLoop, memoryview] = weakref.WeakKeyDictionary()
+_rooms: weakref.WeakKeyDictionary[asyncio.AbstractEventLoop, Rooms] = weakref.WeakKeyDictionary()
 
 
-def _room_of(loop: asyncio.AbstractEventLoop) -> memoryview:
-    """Where the connections of a loop read what comes, one after the other: each takes it out at once."""
-    room = _rooms.get(loop)
-    if room is None:
-        room = _rooms[loop] = memoryview(bytearray(ROOM))
-    return room
+def _rooms_of(loop: asyncio.AbstractEventLoop) -> Rooms:
+    """Where the connections of a loop read what comes."""
+    rooms = _rooms.get(loop)
+    if rooms is None:
+        rooms = _rooms[loop] = Rooms()
+    return rooms
 
 
 async def address_at(servers: Servers, place: int) -> Place:
@@ -51,7 +51,7 @@ class Link(asyncio.BufferedProtocol):
 
     def __init__(self, driver: Driver, place: int) -> None:
         loop = asyncio.get_running_loop()
-        self._driver, self._room = driver, _room_of(loop)
+        self._driver, self.inbox = driver, Inbox(_rooms_of(loop))
         self._transport: Optional[asyncio.Transport] = None
         self._is_over = False
         self._dialling = loop.create_task(self._connect(loop, driver.tls, place))
@@ -78,12 +78,11 @@ class Link(asyncio.BufferedProtocol):
             self._driver.begin()
 
     def get_buffer(self, sizehint: int) -> memoryview:
-        return self._room
+        return self.inbox.room()
 
     def buffer_updated(self, nbytes: int) -> None:
         if not self._is_over:
-            piece = self._room[:nbytes]
-            self._driver.bring(piece.tobytes() if nbytes < SHORT else piece)
+            self._driver.bring(self.inbox.take(nbytes))
 
     def connection_lost(self, error: Optional[Exception]) -> None:
         self.end(str(error) if error is not None else CLOSED)

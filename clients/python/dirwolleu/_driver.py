@@ -6,12 +6,13 @@ import errno
 import logging
 import os
 import sys
-from typing import TYPE_CHECKING, Any, Callable, Optional, Protocol, Union
+from typing import TYPE_CHECKING, Any, Callable, Optional, Protocol
 
 from dirwolleu._clock import moment as moment
 from dirwolleu._engine import Engine
 from dirwolleu._hosts import Hosts, Place, Servers
 from dirwolleu._login import Failed, Login, Refused
+from dirwolleu._rooms import Inbox, Piece
 from dirwolleu.types import State
 
 if TYPE_CHECKING:
@@ -23,8 +24,6 @@ if TYPE_CHECKING:
 logger = logging.getLogger("dirwolleu.connection")
 
 SHORTEST_WAIT = 0.1
-SHORT = 4096
-"""Fewer bytes than these are copied before the session takes them."""
 MOST_TURNS = 16
 """How often what a connection has is read before the moment is told, at most."""
 CLOSED = "the server has closed it"
@@ -54,6 +53,8 @@ class Timer(Protocol):
 
 class Link(Protocol):
     """One connection, from the moment that it is dialled. It tells its driver by `dials`, `begin`, `bring`, `failed` and `leave`."""
+
+    inbox: Inbox
 
     def write(self, frames: bytes) -> object: ...
 
@@ -93,7 +94,7 @@ class Driver:
         self._engine = engine
         self._link: Optional[Link] = None
         self._timer: Optional[Timer] = None
-        self._wakes_at = self._awake_at = 0
+        self._wakes_at = self._awake_at = self._came_at = 0
         self._has_brought = self._is_dialling = False
         self._is_to_act = self._is_started = self.is_stopped = self.is_over = False
 
@@ -129,14 +130,16 @@ class Driver:
         self._engine.opened(moment())
         self.act()
 
-    def bring(self, data: Union[bytes, memoryview]) -> None:
-        """Bytes came. The engine takes them before others are read into their place."""
+    def bring(self, piece: Piece) -> None:
+        """Bytes came, and this piece is to be handed in, if it is any. The engine takes it before others are read into its place."""
         self._has_brought = True
-        now = self._noticed()
+        now = self._came_at = self._noticed()
+        if not piece:
+            return
         if self._login is not None:
-            data = self._log_in(self._login, bytes(data))
-        if data:
-            self._engine.received(now, data)
+            piece = self._log_in(self._login, bytes(piece))
+        if piece:
+            self._engine.received(now, piece)
         if not self._engine.is_at_rest():
             self.act(now)
 
@@ -269,21 +272,28 @@ class Driver:
         """Tells the moment if something is due, after the loop has read what the socket has: a timer comes after it in each turn."""
         self._noticed()
         deadline = self._engine.deadline()
-        if deadline is None or deadline <= moment() or self._awake_at < self._wakes_at:
+        if deadline is None or deadline <= moment() or self._awake_at < self._wakes_at or self._has_rest():
             return self._tick_next(MOST_TURNS)
         self._timer = None
         self._wake_by(deadline)
 
     def _tick_next(self, turns: int) -> None:
-        self._has_brought = False
-        self._timer = self._loop.call_later(0, self._tick, turns - 1)
+        self._has_brought, ticks_at = False, moment()
+        self._timer = self._loop.call_later(0, self._tick, turns - 1, ticks_at)
 
-    def _tick(self, turns: int) -> None:
+    def _tick(self, turns: int, ticks_at: int) -> None:
+        """Tells the moment before the loop has read: it may be held up between that and this, and what comes meanwhile is read later."""
         if self._has_brought and turns:
             return self._tick_next(turns)  # the socket may have more
         self._timer = None
-        self._engine.tick(moment())
+        if self._link is not None and self._has_rest():
+            self._engine.received(self._came_at, self._link.inbox.rest())
+        self._engine.tick(ticks_at)
         self.act()
+
+    def _has_rest(self) -> bool:
+        """Whether the session is to be told of the beginning of a long frame: so it knows when the server was heard."""
+        return self._login is None and self._link is not None and self._link.inbox.has_rest()
 
     def _end(self) -> None:
         if self._timer is not None:

@@ -21,6 +21,7 @@ import time
 from typing import Any, Callable, Optional, Protocol
 
 from dirwolleu._process import this_process
+from dirwolleu._rooms import Rooms
 from dirwolleu._semaphore import has_system_threads
 from dirwolleu._waiting import ends_within
 
@@ -28,8 +29,6 @@ logger = logging.getLogger("dirwolleu")
 
 READ, WRITE = 1, 4
 """What a descriptor is polled for, as poll and epoll number it."""
-ROOM = 262_144
-"""How many bytes of a connection are read at once, at most."""
 PAUSE = 1.0
 """How long the thread rests after a turn that has failed, in seconds: so one that always fails takes no processor."""
 _ONE = (1).to_bytes(8, sys.byteorder)
@@ -118,8 +117,8 @@ class Reactor:
     """What polls, from the first client that joins until the last one has left. `members` counts them, within the thread."""
 
     def __init__(self) -> None:
-        self.room = memoryview(bytearray(ROOM))
-        """Where connections read what comes, one after the other: each takes it out at once."""
+        self.rooms = Rooms()
+        """Where connections read what comes."""
         self.members = 0
         self.wakes: list[Function] = []
         """What wakes threads whose answers have come: before the next wait, which lets them have the interpreter."""
@@ -252,14 +251,12 @@ class Reactor:
 
     def _turn(self) -> None:
         """What has come is read before what was asked is done, and that before what is due."""
-        self._wake()
+        if self.wakes:
+            self._wake()
         self._waits = True  # before it looks whether something is asked
-        patience: Optional[float] = None
-        if self._asked or self._posted:
-            patience = 0
-        elif self._timers:
-            patience = max(self._timers[0][0] - time.monotonic(), 0)
-        events = self._polls.poll(patience, _MOST_EVENTS)
+        left = self._timers[0][0] - time.monotonic() if self._timers else None
+        is_due = left is not None and left <= 0
+        events = self._polls.poll(0 if is_due or self._asked or self._posted else left, _MOST_EVENTS)
         self._waits = False
         for descriptor, ready in events:
             function = self._functions.get(descriptor)
@@ -269,7 +266,7 @@ class Reactor:
             self._serve_those_who_ask()
         if self._posted:
             self._call_what_was_posted()
-        if self._timers and self._timers[0][0] <= time.monotonic():
+        if is_due or not events:  # else it looks in the next turn
             self._call_those_due()
 
     def _wake(self) -> None:

@@ -73,7 +73,7 @@ class TimedOut(NamedTuple):
 
 
 class Shown(NamedTuple):
-    """What is kept of a subject is good. It was not, or its path was reported since."""
+    """What is kept of a subject is good. It was not, or its path was reported since, or servers had an election."""
 
     ticket: int
 

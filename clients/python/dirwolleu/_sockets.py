@@ -7,9 +7,10 @@ import os
 import socket
 from typing import TYPE_CHECKING, Any, Callable, Optional
 
-from dirwolleu._driver import CLOSED, SHORT, Driver
+from dirwolleu._driver import CLOSED, Driver
 from dirwolleu._hosts import Place
 from dirwolleu._poll import READ, WRITE, Reactor
+from dirwolleu._rooms import Inbox
 
 if TYPE_CHECKING:
     import ssl
@@ -29,6 +30,7 @@ class Link:
     def __init__(self, reactor: Reactor, do: Do, driver: Driver) -> None:
         """`do` does a step of the client, and what comes of it."""
         self._reactor, self._do, self._driver = reactor, do, driver
+        self.inbox = Inbox(reactor.rooms)
         self._socket: Optional[socket.socket] = None
         self._unsent = bytearray()
         self._is_over = False
@@ -161,15 +163,15 @@ class Link:
 
     def _read(self) -> None:
         """Reads on only where the room came full: else the rest of what is long is mostly not there yet."""
-        room = self._reactor.room
+        inbox = self.inbox
         for _ in range(MOST_ROOMS):
             if self._socket is None:
                 return
+            room = inbox.room()
             count = self._socket.recv_into(room)
             if not count:
                 return self.end(CLOSED)
-            piece = room[:count]
-            self._driver.bring(piece.tobytes() if count < SHORT else piece)  # a copy takes less than to lend it
+            self._driver.bring(inbox.take(count))
             if count < len(room):
                 return
 

@@ -134,7 +134,7 @@ class Loop:
             logger.exception("a step of a client has failed")
         if self._driver.is_over:
             self._finish()
-        elif self._reactor is not None:
+        elif self._sleepers.waiters and self._reactor is not None:
             self._reactor.wakes.append(self._sleepers.wake)
 
     def _finish(self) -> None:

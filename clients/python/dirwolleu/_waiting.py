@@ -51,8 +51,8 @@ class Sleepers:
     """
 
     def __init__(self) -> None:
-        self._waiters: collections.deque[Union[Waiter, Future]] = collections.deque()
-        self.add = self._waiters.append
+        self.waiters: collections.deque[Union[Waiter, Future]] = collections.deque()
+        self.add = self.waiters.append
         """Has a thread go on at the end of the step."""
         self._spare: list[Union[Semaphore, News]] = []
         self.keep = self._spare.append
@@ -67,7 +67,7 @@ class Sleepers:
 
     def wake(self) -> None:
         """Has them go on. Any thread may say so, and it does not matter where it is interrupted: none is forgotten before it goes on."""
-        waiters = self._waiters
+        waiters = self.waiters
         while waiters:
             try:
                 waiter = waiters[0]

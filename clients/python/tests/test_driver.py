@@ -6,6 +6,7 @@ import asyncio
 import contextlib
 import errno
 import fcntl
+import functools
 import pathlib
 import signal
 import struct
@@ -17,7 +18,7 @@ import time
 from typing import Any, Callable
 from unittest import mock
 
-from support import PASSWORD, PING, WAIT, Asked, Connected, PartnerCase, Peer, data_reply, notice, reply, within
+from support import PASSWORD, PING, WAIT, Asked, Connected, PartnerCase, Peer, data_reply, framed, notice, reply, within
 
 from dirwolleu import Client, ConnectionClosedError, ConnectionLoss, NotConnectedError, State, aio
 from dirwolleu._driver import Driver
@@ -70,6 +71,18 @@ def unread(client: aio.Client) -> int:
     connection = driver._link._transport.get_extra_info("socket")
     (count,) = struct.unpack("i", fcntl.ioctl(connection, termios.FIONREAD, bytes(4)))
     return int(count)
+
+
+def before_it_tells(client: aio.Client, function: Callable[[], None]) -> None:
+    """Has a function called once, in the turn of the loop in which its driver tells the moment, after that has read."""
+    driver: Any = client._driver
+
+    def late(*words: int) -> None:
+        del driver._tick
+        function()
+        driver._tick(*words)
+
+    driver._tick = late
 
 
 class DialTest(PartnerCase):
@@ -251,8 +264,14 @@ class DialTest(PartnerCase):
     def test_a_loop_that_was_held_up_reads_all_that_its_socket_has(self) -> None:
         """The answer comes after more notices than are read at once, and would be too late where it is read later.
 
-        The clock is the test's own: it goes on by 2.4 seconds, while the loop is held up for longer than its timer takes.
+        The clock is the test's own: it goes on by 2.4 seconds, while the loop is held up for longer than its timer takes: at any time, or right
+        before it tells the moment.
         """
+        for is_before_it_tells in (False, True):
+            with self.subTest(is_before_it_tells=is_before_it_tells):
+                self.read_through_a_loop_that_is_held_up(is_before_it_tells)
+
+    def read_through_a_loop_that_is_held_up(self, is_before_it_tells: bool) -> None:
         is_held_up, is_asked, sent = threading.Event(), threading.Event(), list[int]()
         clock = [1_000_000]
 
@@ -266,25 +285,54 @@ class DialTest(PartnerCase):
             sent.append(sum(4 + len(frame) for frame in frames))
             time.sleep(9 * WAIT)
 
+        def hold_up(client: aio.Client) -> None:
+            is_held_up.set()
+            time.sleep(0.5)
+            clock[0] += 2400
+            within(lambda: sent == [unread(client)])
+
         async def run() -> None:
             async with aio.Client(server.host, 3.0) as client:
                 read = client.get_async("/a")
                 while not is_asked.is_set():
                     await asyncio.sleep(0.01)
                 connections = client.stats().connections  # a busy system may have taken too long for the first dial
-                is_held_up.set()
-                time.sleep(0.5)
-                clock[0] += 2400
-                within(lambda: sent == [unread(client)])
+                if is_before_it_tells:
+                    before_it_tells(client, functools.partial(hold_up, client))
+                else:
+                    hold_up(client)
                 self.assertEqual((await asyncio.wait_for(read, WAIT))[0], b"one")
                 self.assertEqual(client.stats().connections, connections)
 
         server = self.raw_server(serve)
         with contextlib.ExitStack() as patches:
-            patches.enter_context(mock.patch("dirwolleu._aio_link.ROOM", 1024))
+            patches.enter_context(mock.patch("dirwolleu._rooms.ROOM", 1024))
             for module in ("_driver", "aio"):
                 patches.enter_context(mock.patch(f"dirwolleu.{module}.moment", lambda: clock[0]))
             asyncio.run(run())
+
+    def test_a_long_answer_comes_in_pieces(self) -> None:
+        """Notices and another answer are in the same pieces."""
+        data = bytes(range(250)) * 400
+
+        def serve(peer: Peer) -> None:
+            peer.admit()
+            answers = framed(notice("/a"), data_reply(peer.take(), data), notice("/b"), data_reply(peer.take(), data[1:]), notice("/c"))
+            for begin in range(0, len(answers), 12_000):
+                peer.send_bytes(answers[begin : begin + 12_000])
+                time.sleep(0.005)
+            time.sleep(9 * WAIT)
+
+        async def read() -> None:
+            async with aio.Client(server.host, 60.0) as client:
+                found = await asyncio.wait_for(asyncio.gather(*[client.get_async("/a") for _ in range(2)]), WAIT)
+                self.assertEqual([answer[0] for answer in found], [data, data[1:]])
+
+        server = self.raw_server(serve)
+        client = self.client(server.host, 60.0)
+        answers = [client.get_async("/a") for _ in range(2)]
+        self.assertEqual([answer.result(WAIT)[0] for answer in answers], [data, data[1:]])
+        asyncio.run(read())
 
     def test_how_a_connection_has_ended_is_told(self) -> None:
         """Between two calls, or where the frame of a call meets its end."""

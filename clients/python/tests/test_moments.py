@@ -7,7 +7,7 @@ from typing import Any, Optional
 
 from unittest import mock
 
-from support import EXISTS, GET_DATA, PING, STAT, WAIT, Asked, data_reply, reply, within
+from support import EXISTS, GET_DATA, PING, STAT, WAIT, Asked, data_reply, framed, notice, reply, within
 from untimed import Server, UntimedCase, blocking_clients_in
 
 from dirwolleu import CallTimeoutError, Client, ConnectionLoss, Mark, NotConnectedError, State
@@ -134,6 +134,22 @@ class AwayTest(UntimedCase):
                 self.assertEqual((client.state, client.session_id), (State.LOST, 0))
 
         self.run_in_loop(run())
+
+    def test_one_that_has_begun_a_long_frame_was_heard_then(self) -> None:
+        """It sends no more, and the rest is waited for until two thirds after that: once where nothing was told meanwhile, and once beside a ping."""
+        for moment in (0.5, 1.9):
+            with self.subTest(moment=moment):
+                self.setUp()
+
+                async def run(moment: float = moment) -> None:
+                    server, _ = Server(self.loop, 1, says_nothing), Server(self.loop, 2, answers)
+                    async with self.client(1, 2, timeout=6.0):
+                        await asyncio.sleep(moment)
+                        server.write(framed(notice("/" + 8000 * "a"))[:5000])
+                        left = await self.until(lambda: len(self.loop.dials) == 2, 10.0)
+                        self.check(left - self.loop.dials[0][0], moment + 4.0)
+
+                self.run_in_loop(run())
 
     def test_one_that_answers_no_call_is_left_at_two_thirds(self) -> None:
         """It accepts the session, and is silent then: the call is lost, and the session goes on at the next one."""

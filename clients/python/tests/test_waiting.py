@@ -16,10 +16,11 @@ from unittest import mock
 import support
 
 from dirwolleu._library import CHILDREN_SIDE, DATA_SIDE
-from dirwolleu._poll import READ, ROOM, WRITE, Reactor, join
+from dirwolleu._poll import READ, WRITE, Reactor, join
 from dirwolleu._process import this_process
 from dirwolleu._registry import Watchers
 from dirwolleu._requests import Watcher
+from dirwolleu._rooms import ROOM, Rooms
 from dirwolleu._sockets import MOST_ROOMS, Link
 from dirwolleu._waiting import Future, Sleepers
 
@@ -81,7 +82,7 @@ class LinkTest(unittest.TestCase):
         """What a connection tells of reads that bring these, and how often it reads."""
         told = list[object]()
         driver: Any = SimpleNamespace(bring=lambda piece: told.append(len(piece)), leave=told.append)
-        reactor: Any = SimpleNamespace(room=memoryview(bytearray(ROOM)), leave=mock.Mock())
+        reactor: Any = SimpleNamespace(rooms=Rooms(), leave=mock.Mock())
         link = Link(reactor, mock.Mock(), driver)
         receives = mock.Mock(side_effect=counts)
         link._socket = mock.Mock(recv_into=receives)
@@ -103,7 +104,7 @@ class LinkTest(unittest.TestCase):
 
     def test_nothing_is_read_of_a_connection_that_a_piece_has_ended(self) -> None:
         driver: Any = mock.Mock()
-        link = Link(SimpleNamespace(room=memoryview(bytearray(ROOM)), leave=mock.Mock()), mock.Mock(), driver)  # type: ignore[arg-type]
+        link = Link(SimpleNamespace(rooms=Rooms(), leave=mock.Mock()), mock.Mock(), driver)  # type: ignore[arg-type]
         driver.bring = lambda _: link.close()
         receives = mock.Mock(return_value=ROOM)
         link._socket = mock.Mock(recv_into=receives)

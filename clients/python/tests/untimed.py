@@ -145,6 +145,8 @@ class Server:
         """The timeout that it grants, where that is not the one that is asked for."""
         self.came: list[Came] = []
         self.connects: list[Connected] = []
+        self.write: Callable[[bytes], object] = lambda _: None
+        """Sends bytes over the connection that came last."""
         self.loop = loop
         loop.servers[port] = lambda: _Served(self)
 
@@ -157,6 +159,7 @@ class _Served(asyncio.Protocol):
 
     def connection_made(self, transport: asyncio.BaseTransport) -> None:
         self._transport = cast(asyncio.Transport, transport)
+        self._server.write = self._transport.write
 
     def data_received(self, data: bytes) -> None:
         self._came += data
@@ -229,6 +232,10 @@ class _Dialled:
 
     def __init__(self, _: object, do: Callable[..., object], driver: Any, __: object) -> None:
         self._driver, self._link = cast(Any, _Stepping(do, driver)), cast(Any, None)
+
+    @property
+    def inbox(self) -> Any:
+        return self._link.inbox
 
     def dial(self, place: int) -> None:
         self._link = aio_link.Loop().dial(self._driver, place)
