@@ -219,7 +219,8 @@ enum dw_code DW_AS_INT32 {
  *   DW_KIND_HANG_UP   close the connection, or give the attempt up. What of it was not yet written is forgotten, and nothing is handed in.
  *   DW_KIND_TIMED_OUT the limit of the call with this ticket has come, and it waits no more. Where was_sent, it may have happened, or may yet.
  *   DW_KIND_RENEWED   the session has expired, with its ephemeral nodes, and another one begins. What is followed is read again.
- *   DW_KIND_SHOWN     what is kept of the subject with this ticket is good: look it up. It was not, or its path was reported since.
+ *   DW_KIND_SHOWN     what is kept of the subject with this ticket is good: look it up. It was not, or its path was reported since, or servers
+ *                     had an election, and it was read again.
  *   DW_KIND_REFUSED   a read of the subject with this ticket was refused: refusal says why, with the code of DW_REFUSAL_CODE. It is read
  *                     again after a second, or over a new connection. Where its answer is too long, which ends the connection, it is read
  *                     again after a second, and from then on after a minute, or in a new session. This is told once for each new reason.
@@ -400,8 +401,8 @@ enum dw_result dw_session_credential(dw_session *handle, uint64_t now_ms, const 
 enum dw_result dw_session_close(dw_session *handle, uint64_t now_ms, uint64_t ticket, uint64_t until_ms);
 
 /* Follows the data of a node, or the names of its children, also of a node that is not there yet: it is read with a watch, and read again after
- * each report, on each new connection and in each new session. DW_KIND_SHOWN tells that what is kept of it is good. No other call or subject has
- * or had the ticket. Each may also answer DW_NO_MEMORY, DW_NOT_TEXT, DW_NOT_PATH: no step was made. */
+ * each report, after each election of servers, and in each new session. DW_KIND_SHOWN tells that what is kept of it is good. No other call or
+ * subject has or had the ticket. Each may also answer DW_NO_MEMORY, DW_NOT_TEXT, DW_NOT_PATH: no step was made. */
 enum dw_result dw_session_follow_data(dw_session *handle, uint64_t now_ms, uint64_t ticket, const char *path, size_t path_length);
 enum dw_result dw_session_follow_names(dw_session *handle, uint64_t now_ms, uint64_t ticket, const char *path,
                                        size_t path_length);
