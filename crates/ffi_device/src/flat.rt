@@ -13,7 +13,7 @@ use zk_client::{CallResult, Event, Fault, Outcome, Output, Side, Stat, State};
 
 /// What is known of a node, as the protocol has it.
 #[repr(C)]
-#[derive(Clone, Copy, Debug, PartialEq, Eq)]
+#[derive(Clone, Copy)]
 pub struct FlatStat {
     pub czxid: i64,
     pub mzxid: i64,
@@ -30,7 +30,7 @@ pub struct FlatStat {
 
 /// An output, as numbers. Its text, which is a frame, data, a path, what stands after the header of a reply, or a code, is read separately.
 #[repr(C)]
-#[derive(Clone, Copy, Debug, PartialEq, Eq)]
+#[derive(Clone, Copy)]
 pub struct Flat {
     /// 1 send, 2 answer, 3 report, 4 state, 5 drop; of a session alone 6 dial, 7 hang up, 8 timed out, 9 renewed, 10 shown, 11 refused,
     /// 12 taken on, 13 let go, 14 bounded, 15 whole, 16 answer to a credential.

@@ -18,7 +18,7 @@ use zk_client::{Children, Client, DataAnswer, DataStat, Mark};
 
 /// What is kept of the fields of a node that change only where a data watch fires.
 #[repr(C)]
-#[derive(Clone, Copy, Debug)]
+#[derive(Clone, Copy)]
 pub struct FlatDataStat {
     pub czxid: i64,
     pub mzxid: i64,
@@ -31,7 +31,7 @@ pub struct FlatDataStat {
 
 /// What is kept about the data of a path, as numbers. The data are read separately.
 #[repr(C)]
-#[derive(Clone, Copy, Debug)]
+#[derive(Clone, Copy)]
 pub struct KeptData {
     /// 0 nothing is kept, 1 no node is there, 2 a node whose data were not read, 3 a node with its data.
     pub kind: i32,
@@ -46,7 +46,7 @@ pub struct KeptData {
 
 /// What is kept about the children of a path, as numbers. The names are read separately.
 #[repr(C)]
-#[derive(Clone, Copy, Debug)]
+#[derive(Clone, Copy)]
 pub struct KeptNames {
     /// 0 nothing is kept, 1 good, 2 stale.
     pub mark: i32,

@@ -8,7 +8,7 @@ use zk_client::Halt;
 use zk_conclusions::NoSubtree;
 
 /// Why a device does not do what it is asked. But for `Halted`, nothing happened then.
-#[derive(Clone, Copy, Debug, PartialEq, Eq)]
+#[derive(Clone, Copy)]
 pub enum DeviceRefusal {
     /// The client ran out of memory within a step. It has no use from then on, but its saved session can be taken.
     Halted,

@@ -17,7 +17,7 @@ use zk_client::{Client, Path};
 use zk_conclusions::{Kind, Listing, Standing};
 
 /// Where a session stands.
-#[derive(Clone, Copy, Debug, PartialEq, Eq)]
+#[derive(Clone, Copy)]
 pub enum Stands {
     /// First, by this token.
     First(i64),

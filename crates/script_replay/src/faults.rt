@@ -14,7 +14,7 @@ use zk_conversation::TalkFault;
 use zk_jute::TakeError;
 
 /// A fault of reading as it is told: its code, and its place where it has one.
-#[derive(Clone, Copy, Debug, PartialEq, Eq)]
+#[derive(Clone, Copy)]
 pub struct ToldFault(pub TakeError);
 
 impl fmt::Display for ToldFault {

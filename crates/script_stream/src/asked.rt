@@ -8,7 +8,7 @@ use zk_jute::{Cursor, take};
 use zk_records::RequestHeader;
 
 /// What a frame of the server is about.
-#[derive(Clone, Copy, Debug, PartialEq, Eq)]
+#[derive(Clone, Copy)]
 pub enum Topic {
     /// It tells of a watch.
     Notice,

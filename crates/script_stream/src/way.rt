@@ -6,7 +6,7 @@ ghost use Rattle.script_stream.specs.Ways.{way_mark, way_of};
 use script_words::reads::is_named;
 
 /// Who sent.
-#[derive(Clone, Copy, Debug, PartialEq, Eq)]
+#[derive(Clone, Copy)]
 pub enum Way {
     Client,
     Server,

@@ -9,7 +9,7 @@ use crate::stop::LineStop;
 use std::alloc::Allocator;
 
 /// How the lines of a script ended.
-#[derive(Clone, Copy, PartialEq, Eq)]
+#[derive(Clone, Copy)]
 pub enum ScriptEnd {
     /// Each line was taken.
     Taken,

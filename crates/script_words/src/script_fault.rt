@@ -9,7 +9,7 @@ use std::fmt;
 use zk_nodes::PathFault;
 
 /// Why a line of a script is refused: the first reason that applies, in this order.
-#[derive(Clone, Copy, Debug, PartialEq, Eq)]
+#[derive(Clone, Copy, Debug)]
 pub enum ScriptFault {
     /// The first word is no line of the command.
     Unknown,

@@ -1,7 +1,7 @@
 //! How a call ends, or a walk.
 
 /// How a call ended, or a walk.
-#[derive(Clone, Copy, Debug, PartialEq, Eq)]
+#[derive(Clone, Copy)]
 pub enum CallEnd {
     /// It is done, and what was asked for is printed.
     Done,

@@ -4,7 +4,7 @@ use std::alloc::Allocator;
 use zk_client::{Call, Path};
 
 /// How an answer is printed.
-#[derive(Clone, Copy, Debug, PartialEq, Eq)]
+#[derive(Clone, Copy)]
 pub enum Form {
     /// Data as text where they are text, and else in hex after `hex:`.
     Plain,

@@ -7,7 +7,7 @@ use zk_jute::TakeError;
 use zk_records::RequestFault;
 
 /// Why nothing could be shown: the first that applies, in this order.
-#[derive(Clone, Copy, Debug, PartialEq, Eq)]
+#[derive(Clone, Copy)]
 pub enum ShowFault {
     /// The text is not hex.
     Hex,

@@ -27,7 +27,7 @@ pub trait Files {
 }
 
 /// Why a file that is named gives no data.
-#[derive(Clone, Copy, Debug, PartialEq, Eq)]
+#[derive(Clone, Copy)]
 pub enum FileFault {
     /// There is no file of this name.
     Missing,

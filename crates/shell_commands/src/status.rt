@@ -1,7 +1,7 @@
 //! How a command ended.
 
 /// How a command ended; its number is the program's exit status.
-#[derive(Clone, Copy, Debug, PartialEq, Eq)]
+#[derive(Clone, Copy, PartialEq, Eq)]
 pub enum Status {
     /// It is done.
     Done = 0,

@@ -62,7 +62,7 @@ file is not read.
 ";
 
 /// Why a command line asks for nothing.
-#[derive(Clone, Copy, Debug, PartialEq, Eq)]
+#[derive(Clone, Copy)]
 pub enum LogUsage {
     /// It asks for help.
     Help,

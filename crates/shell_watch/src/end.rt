@@ -6,7 +6,7 @@ use std::alloc::AllocError;
 use zk_driver::Stop;
 
 /// How a watch ended.
-#[derive(Clone, Copy, Debug, PartialEq, Eq)]
+#[derive(Clone, Copy, Debug)]
 pub enum WatchEnd {
     /// Its time was over, and it is closed. A server has accepted its session.
     Over,

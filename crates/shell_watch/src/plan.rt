@@ -5,7 +5,7 @@ use zk_client::Path;
 use zk_trees::NodeSide;
 
 /// How lines are printed.
-#[derive(Clone, Copy, Debug, PartialEq, Eq)]
+#[derive(Clone, Copy)]
 pub enum Style {
     /// In words, and data in hex.
     Hex,

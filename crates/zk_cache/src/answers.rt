@@ -12,7 +12,6 @@ use zk_nodes::DataStat;
 
 /// What a read of a node answered about the node itself.
 #[derive(Drop)]
-#[derive_where(Debug)]
 pub enum DataAnswer<A: Allocator = Global> {
     /// No node is there.
     Absent,

@@ -12,7 +12,6 @@ use zk_jute::TextRef;
 
 /// Texts, seen as the list of them. However many there are, they take two blocks of memory: one text, and where in it each ends.
 #[derive(Drop)]
-#[derive_where(Debug)]
 pub struct JoinedTexts<A: Allocator = Global> {
     text: String<A>,
     ends: Vec<usize, A>,

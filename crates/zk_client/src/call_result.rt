@@ -6,7 +6,6 @@ use zk_records::{Code, Stat};
 
 /// What the reply to a call brings: the code of its error, or what was asked for.
 #[derive(Drop)]
-#[derive_where(Debug)]
 pub enum CallResult<A: Allocator = Global> {
     /// The server refused the request, or there is no node.
     Code(Code),

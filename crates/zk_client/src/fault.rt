@@ -10,7 +10,7 @@ use zk_conversation::TalkFault;
 use zk_frames::FrameFault;
 
 /// Why a client gives its connection up.
-#[derive(Clone, Copy, Debug, PartialEq, Eq)]
+#[derive(Clone, Copy, Debug)]
 pub enum Fault {
     /// F1, F2: a length stands next that is not admitted.
     Framed(FrameFault),
@@ -67,7 +67,7 @@ impl fmt::Display for Fault {
 impl Error for Fault {}
 
 /// A step was refused memory. The client has no use from then on: it keeps nothing, and each later step answers the same.
-#[derive(Clone, Copy, Debug, PartialEq, Eq)]
+#[derive(Clone, Copy, Debug)]
 pub struct Halt;
 
 impl fmt::Display for Halt {

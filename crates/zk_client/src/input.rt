@@ -10,7 +10,6 @@ use zk_conversation::Call;
 /// program that tells moments only when a timer fires drops a healthy connection: what came in between counts as heard when the
 /// moment was told before it.
 #[derive(Drop)]
-#[derive_where(Debug)]
 pub enum Input<A: Allocator = Global> {
     /// A connection begins. It ends the one before.
     Opened,

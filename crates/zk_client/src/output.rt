@@ -14,7 +14,6 @@ use zk_session::State;
 
 /// What a call is answered: its reply, or why there is none.
 #[derive(Drop)]
-#[derive_where(Debug)]
 pub enum Outcome<A: Allocator = Global> {
     /// The reply, with its zxid.
     Replied { zxid: i64, result: CallResult<A> },
@@ -80,7 +79,6 @@ impl<A: Allocator> fmt::Display for Outcome<A> {
 
 /// What a client says.
 #[derive(Drop)]
-#[derive_where(Debug)]
 pub enum Output<A: Allocator = Global> {
     /// One frame, for the server.
     Send(Vec<u8, A>),

@@ -10,7 +10,7 @@ use zk_jute::TakeError;
 
 /// Why a text, bytes or numbers are no saved session: the first reason that applies, in the order of the variants. A place is
 /// counted in bytes, from 0.
-#[derive(Clone, Copy, Debug, PartialEq, Eq)]
+#[derive(Clone, Copy, Debug)]
 pub enum SavedFault {
     /// The text has an odd number of bytes: how many. It is told also where not all of them are digits.
     OddDigits { count: usize },

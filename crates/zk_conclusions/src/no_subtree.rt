@@ -8,7 +8,7 @@ use std::error::Error;
 use std::fmt;
 
 /// Why there is no subtree.
-#[derive(Clone, Copy, Debug, PartialEq, Eq)]
+#[derive(Clone, Copy, Debug)]
 pub enum NoSubtree {
     /// A node that is reached through kept names is not kept with its data, or the names below it are not kept; one of both is not
     /// good; or one of the names makes no path. Read what is not good, and ask again.

@@ -17,7 +17,7 @@ use std::cmp::Ordering;
 /// | Curator's read lock; write lock | `__READ__`; `__WRIT__` | `__WRIT__`; `__WRIT__`, `__READ__` |
 /// | kazoo's `Lock`, `Election` | `__lock__` | `__lock__` |
 /// | kazoo's `ReadLock`; `WriteLock` | `__rlock__`; `__lock__` | `__lock__`; `__lock__`, `__rlock__` |
-#[derive(Clone, Copy, Debug)]
+#[derive(Clone, Copy)]
 pub struct Kind<'a> {
     pub own: &'a str,
     pub against: &'a [&'a str],

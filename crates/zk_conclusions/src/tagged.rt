@@ -16,7 +16,7 @@ use zk_client::JoinedTexts;
 
 /// The nodes in a directory whose names begin with a tag that one session alone puts in front of its names. A create whose answer was
 /// lost may have made one, so after it more than one may be there: the least stays, and the others are to be deleted.
-#[derive(Clone, Copy, Debug)]
+#[derive(Clone, Copy)]
 pub struct Tagged<'a> {
     tag: &'a str,
     least: &'a str,

@@ -18,7 +18,6 @@ use zk_records::{CreateRequestRef, DeleteRef, Operation, ReadRequestRef, SetData
 
 /// What a caller asks of a server. A `watch` asks to leave a watch on the path.
 #[derive(Drop)]
-#[derive_where(Debug)]
 pub enum Call<A: Allocator = Global> {
     /// Whether there is a node, and what is known of it.
     Exists {
@@ -62,7 +61,7 @@ pub enum Call<A: Allocator = Global> {
 }
 
 /// What kind of node is made: `CreateMode` of the Programmer's Guide, "Nodes and ephemeral nodes".
-#[derive(Clone, Copy, Debug, PartialEq, Eq)]
+#[derive(Clone, Copy)]
 pub enum CreateMode {
     /// It stays until it is deleted.
     Persistent,

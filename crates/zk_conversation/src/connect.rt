@@ -7,7 +7,7 @@ use std::alloc::Allocator;
 use zk_jute::{BytesRef, PutError, Record};
 
 /// What a connection asks for as it begins. The protocol version is 0, and a read-only server is never asked for.
-#[derive(Clone, Copy, Debug, PartialEq, Eq)]
+#[derive(Clone, Copy)]
 pub struct Connect<'a> {
     /// A server that is behind this zxid closes the connection.
     pub last_zxid_seen: i64,

@@ -95,7 +95,7 @@ impl<A: Allocator + Copy> Model for Conversation<A> {
 }
 
 /// How much is pending.
-#[derive(Clone, Copy, Debug, PartialEq, Eq)]
+#[derive(Clone, Copy)]
 pub struct Pending {
     /// The calls; parts of setWatches are not counted.
     pub calls: u32,

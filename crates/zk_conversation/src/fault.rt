@@ -10,7 +10,7 @@ use std::fmt;
 use zk_jute::TakeError;
 
 /// Why a call is not sent: the first that applies. Nothing was sent then, and nothing changed.
-#[derive(Clone, Copy, Debug, PartialEq, Eq)]
+#[derive(Clone, Copy, Debug)]
 pub enum AskFault {
     /// A1: its payload is above the limit of outgoing payloads.
     TooLarge,
@@ -67,7 +67,7 @@ impl<T: Drop> From<AllocFailed<T>> for AskFault {
 }
 
 /// Why a payload is not taken. What the peer sent breaks the protocol then, or memory was refused.
-#[derive(Clone, Copy, Debug, PartialEq, Eq)]
+#[derive(Clone, Copy, Debug)]
 pub enum TalkFault {
     /// C1: the payload has fewer than the 16 bytes of a header.
     BadHeader,

@@ -1,7 +1,7 @@
 //! Where a connection is.
 
 /// Where a connection is.
-#[derive(Clone, Copy, Debug, PartialEq, Eq)]
+#[derive(Clone, Copy)]
 pub enum Phase {
     /// There is none, and what the last one left may be taken.
     Closed,

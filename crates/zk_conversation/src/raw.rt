@@ -8,7 +8,7 @@ ghost use Rattle.zk_conversation.specs.Calls.{raw_number, raw_numbered};
 /// None of these leaves, moves or removes a watch, begins or ends a session, or says who asks, and each is answered once,
 /// in its place, under its own xid. So a client whose caller asks them stays what it is without them. None has the number of
 /// an operation that a client asks by itself or by another call.
-#[derive(Clone, Copy, Debug)]
+#[derive(Clone, Copy)]
 pub enum RawOperation {
     GetAcl,
     SetAcl,

@@ -6,7 +6,7 @@ ghost use Rattle.zk_driver.specs.inner.Reads.{reason_of};
 use std::io::ErrorKind;
 
 /// Why a connection could not be made, or why one has ended, as far as it is known.
-#[derive(Clone, Copy, Debug, PartialEq, Eq)]
+#[derive(Clone, Copy)]
 pub enum Reason {
     /// The other side has ended it: no more bytes come.
     EndOfStream,

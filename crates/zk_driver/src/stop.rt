@@ -4,7 +4,7 @@ use std::error::Error;
 use std::fmt;
 
 /// Memory was refused, so that a driver goes on no further.
-#[derive(Clone, Copy, Debug, PartialEq, Eq)]
+#[derive(Clone, Copy, Debug)]
 pub enum Stop {
     /// To a step of the client, which has no use from then on.
     Halted,

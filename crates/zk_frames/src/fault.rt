@@ -7,7 +7,7 @@ use std::error::Error;
 use std::fmt;
 
 /// Why a reader gives no frame, or takes no piece.
-#[derive(Clone, Copy, Debug, PartialEq, Eq)]
+#[derive(Clone, Copy, Debug)]
 pub enum FrameFault {
     /// The length is below 0.
     Negative,
@@ -59,7 +59,7 @@ impl From<AllocError> for FrameFault {
 }
 
 /// Why no frame was put.
-#[derive(Clone, Copy, Debug, PartialEq, Eq)]
+#[derive(Clone, Copy, Debug)]
 pub enum PutFault {
     /// The payload is above the limit of outgoing payloads.
     TooLarge,

@@ -10,7 +10,7 @@ pub const HIGHEST_LIMIT: usize = 1_073_741_823;
 
 /// How many bytes the payloads of a session may have. A limit is at least the standard one, for which a server needs no setting,
 /// and is raised beside the `jute.maxbuffer` of the servers.
-#[derive(Clone, Copy, Debug, PartialEq, Eq)]
+#[derive(Clone, Copy)]
 pub struct FrameLimits {
     /// The most bytes of a payload that comes, once a server has accepted the session.
     pub incoming: usize,

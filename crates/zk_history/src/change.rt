@@ -7,7 +7,6 @@ use zk_nodes::Path;
 
 /// A change of the tree.
 #[derive(Drop)]
-#[derive_where(Debug)]
 pub enum Change<A: Allocator> {
     /// A node is made, with its data, null or bytes, and the session that owns it, or 0.
     Create(Path<A>, Option<Vec<u8, A>>, i64),

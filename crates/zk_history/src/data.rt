@@ -5,7 +5,6 @@ use zk_nodes::DataStat;
 
 /// The data of a node, null or bytes, and the fields that change with them.
 #[derive(Drop)]
-#[derive_where(Debug)]
 pub struct Data<A: Allocator = Global> {
     pub bytes: Option<Vec<u8, A>>,
     pub stat: DataStat,

@@ -9,7 +9,7 @@ use std::error::Error;
 use std::fmt;
 
 /// Why a history refuses what it is given: the first fault that applies, in this order.
-#[derive(Clone, Copy, Debug, PartialEq, Eq)]
+#[derive(Clone, Copy, Debug)]
 pub enum HistoryFault {
     /// A node of the first tree comes after the first transaction, or a change before it.
     Place,

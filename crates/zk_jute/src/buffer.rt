@@ -13,7 +13,6 @@ use std::marker::Model;
 
 /// Bytes, or null. Null and no bytes are two values.
 #[derive(Drop)]
-#[derive_where(Debug)]
 pub struct Buffer<A: Allocator> {
     bytes: Option<Vec<u8, A>>,
 }

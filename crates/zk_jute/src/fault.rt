@@ -13,7 +13,7 @@ use std::fmt;
 /// first byte of the payload.
 ///
 /// Refusing what `BadLength`, `BadBool` and `NotUtf8` name is a rule of this project.
-#[derive(Clone, Copy, Debug, PartialEq, Eq)]
+#[derive(Clone, Copy, Debug)]
 pub enum TakeError {
     /// J1: a number, a boolean or the contents of a buffer or a text are cut off. The place of its first byte.
     Short(usize),
@@ -78,7 +78,7 @@ impl<T: Drop> From<AllocFailed<T>> for TakeError {
 }
 
 /// Why a value could not be written.
-#[derive(Clone, Copy, Debug, PartialEq, Eq)]
+#[derive(Clone, Copy, Debug)]
 pub enum PutError {
     /// A length or a count is above 2,147,483,647, the greatest int.
     TooLong,

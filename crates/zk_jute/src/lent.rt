@@ -15,13 +15,13 @@ use crate::record::{Readable, Record};
 use std::alloc::Allocator;
 
 /// Lent text, or null: a ustring of the encoding.
-#[derive(Clone, Copy, Debug, PartialEq, Eq)]
+#[derive(Clone, Copy)]
 pub struct TextRef<'a> {
     pub text: Option<&'a str>,
 }
 
 /// Lent bytes, or null: a buffer of the encoding.
-#[derive(Clone, Copy, Debug, PartialEq, Eq)]
+#[derive(Clone, Copy)]
 pub struct BytesRef<'a> {
     pub bytes: Option<&'a [u8]>,
 }

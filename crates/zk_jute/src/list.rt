@@ -20,7 +20,6 @@ use std::alloc::Allocator;
 /// Reading takes memory as the elements come and never by the count alone, so a short payload with a large count
 /// costs nothing.
 #[derive(Drop)]
-#[derive_where(Debug; R)]
 pub struct List<R, A: Allocator> {
     pub elements: Option<Vec<R, A>>,
 }
@@ -38,7 +37,7 @@ impl<R, A: Allocator> List<R, A> {
 }
 
 /// Elements that are lent, or null. It is written as a `List` of the same elements.
-#[derive(Clone, Copy, Debug)]
+#[derive(Clone, Copy)]
 pub struct ListRef<'a, R> {
     pub elements: Option<&'a [R]>,
 }

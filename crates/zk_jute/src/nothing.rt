@@ -9,7 +9,7 @@ use crate::record::{Readable, Record};
 use std::alloc::Allocator;
 
 /// A record with no field, and so of no bytes: what stands after the header of a ping, say.
-#[derive(Clone, Copy, Debug, PartialEq, Eq)]
+#[derive(Clone, Copy)]
 pub struct Nothing;
 
 impl<A: Allocator + Copy> Record<A> for Nothing {

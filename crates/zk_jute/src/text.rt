@@ -13,7 +13,6 @@ use std::marker::Model;
 
 /// Text, or null. Its value is its UTF-8 bytes.
 #[derive(Drop)]
-#[derive_where(Debug)]
 pub struct Text<A: Allocator> {
     text: Option<String<A>>,
 }

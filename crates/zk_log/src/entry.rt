@@ -32,7 +32,7 @@ pub struct LogEntry<'a, A: Allocator> {
 }
 
 /// A number that is made of all nodes of a tree.
-#[derive(Clone, Copy, Debug, PartialEq, Eq)]
+#[derive(Clone, Copy)]
 pub struct TreeDigest {
     /// How it is made.
     pub version: i32,

@@ -10,7 +10,7 @@ use std::fmt;
 use zk_jute::TakeError;
 
 /// Why an entry could not be read: the first fault from left to right. A place is a number of bytes, counted from the entry's first.
-#[derive(Clone, Copy, Debug, PartialEq, Eq)]
+#[derive(Clone, Copy, Debug)]
 pub enum EntryFault {
     /// Its header, its fields or its digest cannot be read.
     Unread(TakeError),

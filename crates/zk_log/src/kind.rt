@@ -7,7 +7,7 @@ ghost use Rattle.zk_log.specs.Kinds.{kind_number, kind_at, stands_alone};
 const DIGEST_LEN: usize = 12;
 
 /// The operation of an entry, or of a part of a multi.
-#[derive(Clone, Copy, Debug, PartialEq, Eq)]
+#[derive(Clone, Copy)]
 pub enum TxnKind {
     Create,
     Create2,

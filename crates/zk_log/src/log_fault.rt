@@ -10,7 +10,7 @@ use std::fmt;
 use zk_jute::TakeError;
 
 /// Why a log could not be read: the first fault from left to right. A place is a number of bytes, counted from the file's first.
-#[derive(Clone, Copy, Debug, PartialEq, Eq)]
+#[derive(Clone, Copy, Debug)]
 pub enum LogFault {
     /// The header of the file cannot be read.
     Header(TakeError),

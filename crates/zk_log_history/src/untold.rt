@@ -11,7 +11,7 @@ use zk_log::EntryFault;
 use zk_nodes::PathFault;
 
 /// Why an entry is no transaction of the history so far.
-#[derive(Clone, Copy, Debug, PartialEq, Eq)]
+#[derive(Clone, Copy, Debug)]
 pub enum Untold {
     /// A path of it is none.
     Path(PathFault),
@@ -28,7 +28,7 @@ pub enum Untold {
 }
 
 /// Why logs tell no history: the first entry that is no transaction, by the place of its record.
-#[derive(Clone, Copy, Debug, PartialEq, Eq)]
+#[derive(Clone, Copy)]
 pub struct UntoldEntry {
     pub place: usize,
     pub why: Untold,

@@ -7,7 +7,7 @@ use crate::stat::Stat;
 
 /// The fields of a `Stat` that change only where a data watch fires.
 // The two of 32 bits are side by side: fields lie in the order of the source, and so no bytes are lost between them.
-#[derive(Clone, Copy, Debug, PartialEq, Eq)]
+#[derive(Clone, Copy, PartialEq, Eq)]
 pub struct DataStat {
     pub czxid: i64,
     pub mzxid: i64,

@@ -5,7 +5,6 @@ use std::collections::BTreeSet;
 
 /// The names of a node's children, in byte order, and the zxid of the last change of this set.
 #[derive(Drop)]
-#[derive_where(Debug)]
 pub struct Names<A: Allocator = Global> {
     pub names: BTreeSet<String<A>, A>,
     pub pzxid: i64,

@@ -17,7 +17,6 @@ use zk_limits::LONGEST_PATH;
 /// The path of a node: `/` for the root, else a `/` before each name. It has at most 4,096 bytes, and no name of it
 /// is empty, `.` or `..` (Programmer's Guide, "The ZooKeeper Data Model"). It is seen as its text.
 #[derive(Drop)]
-#[derive_where(Debug)]
 pub struct Path<A: Allocator = Global> {
     text: String<A>,
 }

@@ -10,7 +10,7 @@ use std::fmt;
 
 /// Why a text is no path: the first fault that applies, in this order. `SlashInName` is told of a name that is joined to a
 /// path, and of no text.
-#[derive(Clone, Copy, Debug, PartialEq, Eq)]
+#[derive(Clone, Copy, Debug)]
 pub enum PathFault {
     /// It has no byte.
     Empty,

@@ -7,7 +7,7 @@ use std::alloc::Allocator;
 use zk_jute::{Cursor, PutError, Readable, Record, TakeError, Then};
 
 /// What is known of a node beside its data.
-#[derive(Clone, Copy, Debug, PartialEq, Eq)]
+#[derive(Clone, Copy)]
 pub struct Stat {
     pub czxid: i64,
     pub mzxid: i64,

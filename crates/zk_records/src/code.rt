@@ -5,7 +5,7 @@ ghost use Rattle.zk_records.specs.Codes.{code_of, code_number, is_no_node};
 
 /// Why a server refused a request: the error codes of the protocol that this client knows by name. Any other number is
 /// carried as it is, which is a rule of this project.
-#[derive(Clone, Copy, Debug, PartialEq, Eq)]
+#[derive(Clone, Copy, PartialEq, Eq)]
 pub enum Code {
     ConnectionLoss,
     Unimplemented,

@@ -6,7 +6,7 @@ ghost use Rattle.zk_records.specs.Events.{event_of, event_number, concerns};
 use zk_nodes::Side;
 
 /// What happened to a watched node: the event types of the ZooKeeper Programmer's Guide.
-#[derive(Clone, Copy, Debug, PartialEq, Eq)]
+#[derive(Clone, Copy)]
 pub enum Event {
     /// NodeCreated, type 1: a node was made at a path where none was.
     Created,

@@ -4,7 +4,7 @@ ghost use Rattle.std.specs.Prelude.{◌≡◌, IfSome};
 ghost use Rattle.zk_records.specs.Operations.{operation_number, operation_numbered};
 
 /// What a request asks for, as the type in its header says.
-#[derive(Clone, Copy, PartialEq, Eq)]
+#[derive(Clone, Copy)]
 pub enum Operation {
     Create,
     Delete,

@@ -10,7 +10,7 @@ use std::fmt;
 use zk_jute::TakeError;
 
 /// Why a request could not be read: the first fault from left to right.
-#[derive(Clone, Copy, Debug, PartialEq, Eq)]
+#[derive(Clone, Copy, Debug)]
 pub enum RequestFault {
     /// The header is whole, and its type is none of the ten operations' numbers.
     Unknown(i32),

@@ -9,7 +9,7 @@ use std::error::Error;
 use std::fmt;
 
 /// Why a path is not registered: the first fault that applies, in this order.
-#[derive(Clone, Copy, Debug, PartialEq, Eq)]
+#[derive(Clone, Copy, Debug)]
 pub enum RegisterFault {
     /// The path is new to its side, and the side has all the paths that it can hold.
     Full,
