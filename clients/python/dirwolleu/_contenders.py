@@ -58,7 +58,7 @@ class Contender:
         return None if is_lived_through(error) else error
 
 
-class Contending(Connection):
+class ContendingConnection(Connection):
     """Hands contenders over, and wakes those who wait for them: they listen by the guid, as others do by a path."""
 
     def __init__(self, *words: Any) -> None:

@@ -15,7 +15,7 @@ from typing import Optional
 
 from dirwolleu import _library as library
 from dirwolleu._connection_commands import News as News
-from dirwolleu._contending import Contending
+from dirwolleu._contenders import ContendingConnection
 from dirwolleu._core import Listener as Listener
 from dirwolleu._core import Tell as Tell
 from dirwolleu._credentials import Credential
@@ -49,7 +49,7 @@ from dirwolleu.types import EventType, State, Stats, WatchedEvent
 logger = logging.getLogger("dirwolleu.connection")
 
 
-class Engine(Contending):
+class Engine(ContendingConnection):
     """A session with its callers.
 
     The steps, those of `take_handed` too, are for one thread, or for another one once that has ended. What only looks,

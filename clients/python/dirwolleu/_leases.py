@@ -11,7 +11,7 @@ from typing import Any, Callable, Optional
 from dirwolleu import _library as library
 from dirwolleu import _plans as plans
 from dirwolleu import _requests as requests
-from dirwolleu._contending import Contender
+from dirwolleu._contenders import Contender
 from dirwolleu._locks import BETWEEN_TRIES, LEASES, AnyClient, AnyHeld, BaseTaker, Taken, identifiers
 from dirwolleu._plans import Acls, Plan
 from dirwolleu._records import Mode

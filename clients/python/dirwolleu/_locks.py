@@ -1,6 +1,6 @@
 """How a lock is taken and given back, for both kinds of clients: what it asks of the core, and what it waits for.
 
-A lock hands a contender over, by the names of kazoo or of Curator, and the core does the rest: see `_contending`.
+A lock hands a contender over, by the names of kazoo or of Curator, and the core does the rest: see `_contenders`.
 """
 
 from __future__ import annotations
@@ -17,7 +17,7 @@ from dirwolleu import _plans as plans
 from dirwolleu import _requests as requests
 from dirwolleu._checks import checked_path, checked_text
 from dirwolleu._clock import moment
-from dirwolleu._contending import Contender
+from dirwolleu._contenders import Contender
 from dirwolleu._engine import Engine
 from dirwolleu._plans import Acls, Plan
 from dirwolleu._retry import is_lived_through

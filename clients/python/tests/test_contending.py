@@ -12,7 +12,7 @@ from test_library import CONNECT_RESPONSE, STAT_BYTES
 from test_library import reply as answer_to
 
 from dirwolleu import _library as library
-from dirwolleu._contending import Contender
+from dirwolleu._contenders import Contender
 from dirwolleu._engine import Engine
 from dirwolleu._library import Halted, NoMemory
 from dirwolleu._session import Session

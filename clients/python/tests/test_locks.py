@@ -27,7 +27,7 @@ from dirwolleu import (
     TransactionFailedError,
     ZookeeperError,
 )
-from dirwolleu._contending import Contender
+from dirwolleu._contenders import Contender
 from dirwolleu._library import Halted
 from dirwolleu._retry import is_passing
 from dirwolleu._session import Session

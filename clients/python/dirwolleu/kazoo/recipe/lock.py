@@ -14,7 +14,7 @@ from typing import TYPE_CHECKING, Any, Optional
 
 from dirwolleu import _library as library
 from dirwolleu import exceptions as own
-from dirwolleu._contending import Contender
+from dirwolleu._contenders import Contender
 from dirwolleu._locks import KAZOO, Taken, TurnIsNotYet, contend, in_line, mixed_names
 from dirwolleu._steps import SHORTEST_ASK, Result, Step, Steps, Wait
 from dirwolleu.kazoo._checks import own_acls
