@@ -56,11 +56,11 @@ impl<'a> Actions<'a> {
     /// [`Fault::UnknownNumber`] alone, where the library is of another version than this crate.
     #[allow(clippy::should_implement_trait)] // an iterator can't lend
     pub fn next(&mut self) -> Result<Option<Action<'_>>, Fault> {
-        let mut flat = ffi::Output::default();
-        if !self.machine.handle.next(&mut flat)? {
+        let Machine { handle, told, .. } = &mut *self.machine;
+        if !handle.next(told)? {
             return Ok(None);
         }
-        Ok(Some(Action::of(&self.machine.handle, &flat)?))
+        Ok(Some(Action::of(handle, told)?))
     }
 
     /// Hands each action to this function as the library spells it.
@@ -69,9 +69,9 @@ impl<'a> Actions<'a> {
         self,
         mut take: impl FnMut(&Handle, &ffi::Output) -> Result<(), UnknownNumber>,
     ) -> Result<(), Fault> {
-        let mut flat = ffi::Output::default();
-        while self.machine.handle.next(&mut flat)? {
-            take(&self.machine.handle, &flat)?;
+        let Machine { handle, told, .. } = self.machine;
+        while handle.next(told)? {
+            take(handle, told)?;
         }
         Ok(())
     }

@@ -8,9 +8,10 @@ use crate::fault::{Code, NoReply, UnknownNumber};
 use crate::ffi::{self, Handle};
 use crate::multi_read::ReadAnswer;
 use crate::node::Stat;
-use crate::numbers::outcome;
+use crate::numbers::{brought, outcome};
 use crate::output::{Brought, Bytes};
 use crate::transaction::Change;
+use std::mem;
 
 /// The answer to a call. It is moved from hand to hand, and so it is small.
 #[derive(Debug, Default, PartialEq)]
@@ -20,6 +21,18 @@ pub(crate) struct Answer {
     /// What is known of the node: zeros where the call does not ask for that.
     pub(crate) stat: Stat,
     pub(crate) content: Content,
+}
+
+impl Answer {
+    /// The answer, which has no content from now on.
+    #[inline]
+    pub(crate) fn take(&mut self) -> Answer {
+        Answer {
+            zxid: self.zxid,
+            stat: self.stat,
+            content: mem::take(&mut self.content),
+        }
+    }
 }
 
 /// What else an answer has.
@@ -105,23 +118,25 @@ impl Content {
     }
 }
 
-/// The answer to a call, as the library spells it.
+/// What the answer to a call has besides its Stat, as the library spells it, or why there is none.
 #[inline]
-pub(crate) fn answer_of(
+pub(crate) fn content_of(
     handle: &Handle,
     flat: &ffi::Output,
     chroot: &Chroot,
-) -> Result<Outcome, UnknownNumber> {
-    if flat.detail != outcome::REPLIED {
-        return NoReply::try_from(flat.detail).map(|reason| Err(reason.into()));
+) -> Result<Result<Content, ErrorKind>, UnknownNumber> {
+    let bytes = Bytes::of(handle, flat);
+    match flat.result {
+        // most answers, without a way round
+        _ if flat.detail != outcome::REPLIED => {
+            NoReply::try_from(flat.detail).map(|reason| Err(reason.into()))
+        }
+        brought::STAT => Ok(Ok(Content::Nothing)),
+        brought::DATA if !flat.is_null => Ok(Ok(Content::Data(bytes.to_vec()))),
+        _ => {
+            let brought = Brought::of(handle, flat, bytes)?;
+            let content = brought.map(|brought| Content::of(&brought, chroot));
+            Ok(content.map_err(ErrorKind::from))
+        }
     }
-    let brought = Brought::of(handle, flat, Bytes::of(handle, flat))?;
-    Ok(match brought {
-        Ok(brought) => Ok(Answer {
-            zxid: flat.zxid,
-            stat: flat.stat,
-            content: Content::of(&brought, chroot),
-        }),
-        Err(code) => Err(code.into()),
-    })
 }

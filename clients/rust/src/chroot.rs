@@ -31,8 +31,16 @@ impl Chroot {
     /// The path that the servers know, of one of the program's. A text that is no path does not become one.
     #[inline]
     pub(crate) fn outer<'a>(&self, path: &'a str) -> Result<Cow<'a, str>, Fault> {
+        if self.prefix.is_empty() {
+            return Ok(Cow::Borrowed(path));
+        }
+        self.below(path)
+    }
+
+    /// The same, of a session that has its nodes below a path.
+    #[inline(never)]
+    fn below<'a>(&self, path: &'a str) -> Result<Cow<'a, str>, Fault> {
         match path {
-            _ if self.prefix.is_empty() => Ok(Cow::Borrowed(path)),
             "/" => Ok(Cow::Owned(self.prefix.clone())),
             _ if path.starts_with('/') => Ok(Cow::Owned(self.prefix.clone() + path)),
             _ => Err(Fault::not_path(path)),

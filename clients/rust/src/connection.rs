@@ -3,6 +3,7 @@
 use std::fmt::Display;
 use std::io::{self, ErrorKind, Read, Write};
 use std::net::{Shutdown, SocketAddr, TcpStream};
+use std::ops::RangeInclusive;
 use std::time::Duration;
 
 /// The shortest timeout that the system takes.
@@ -203,42 +204,51 @@ impl Incoming for TcpStream {
     }
 }
 
+/// Sets a timeout of a socket.
+type SetTimeout = fn(&TcpStream, Option<Duration>) -> io::Result<()>;
+
 /// A stream, and the timeout that its socket has, which serves waits from this to four times as long. A wait that comes nearer to its end with
 /// each read is served for a while, so most reads and writes leave it as it is.
 struct TimedStream {
     stream: TcpStream,
     timeout: Duration,
-    longest: Duration,
+    /// The waits that it serves. The shortest timeout serves all that are shorter.
+    serves: RangeInclusive<Duration>,
 }
 
 impl TimedStream {
     fn new(stream: TcpStream) -> TimedStream {
-        let (timeout, longest) = (Duration::ZERO, Duration::ZERO);
         TimedStream {
             stream,
-            timeout,
-            longest,
+            timeout: Duration::ZERO,
+            serves: Duration::MAX..=Duration::ZERO,
         }
     }
 
     /// Has the next wait last for so long at most, and for a quarter of that at least. This function sets the timeout of the socket.
-    fn set_timeout(
-        &mut self,
-        wait: Duration,
-        tell: fn(&TcpStream, Option<Duration>) -> io::Result<()>,
-    ) -> io::Result<()> {
-        if wait < self.timeout || self.longest < wait {
-            let timeout = (wait / 2).max(SHORTEST_WAIT);
-            tell(&self.stream, Some(timeout))?;
-            (self.timeout, self.longest) = (timeout, timeout.saturating_mul(4));
+    #[inline]
+    fn set_timeout(&mut self, wait: Duration, tell: SetTimeout) -> io::Result<()> {
+        if self.serves.contains(&wait) {
+            return Ok(());
         }
+        self.set_other_timeout(wait, tell)
+    }
+
+    #[cold]
+    fn set_other_timeout(&mut self, wait: Duration, tell: SetTimeout) -> io::Result<()> {
+        let timeout = (wait / 2).max(SHORTEST_WAIT);
+        tell(&self.stream, Some(timeout))?;
+        let is_shortest = timeout == SHORTEST_WAIT;
+        let least = if is_shortest { Duration::ZERO } else { timeout };
+        self.timeout = timeout;
+        self.serves = least..=timeout.saturating_mul(4);
         Ok(())
     }
 }
 
 impl Incoming for TimedStream {
     fn read(&mut self, room: &mut [u8], wait: Duration) -> io::Result<usize> {
-        let mut left = wait.max(SHORTEST_WAIT);
+        let mut left = wait;
         loop {
             self.set_timeout(left, TcpStream::set_read_timeout)?;
             match Read::read(&mut self.stream, room) {
@@ -265,7 +275,7 @@ impl Outgoing for TcpStream {
 
 impl Outgoing for TimedStream {
     fn write(&mut self, bytes: &[u8], wait: Duration) -> io::Result<usize> {
-        self.set_timeout(wait.max(SHORTEST_WAIT), TcpStream::set_write_timeout)?;
+        self.set_timeout(wait, TcpStream::set_write_timeout)?;
         Write::write(&mut self.stream, bytes)
     }
 

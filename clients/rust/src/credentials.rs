@@ -53,6 +53,10 @@ impl Credentials {
         credentials
     }
 
+    pub(crate) fn is_empty(&self) -> bool {
+        self.all.is_empty()
+    }
+
     /// The place of a credential that was handed in before.
     pub(crate) fn place_of(&self, credential: &Credential) -> Option<usize> {
         self.all.iter().position(|it| it.credential == *credential)

@@ -1,15 +1,17 @@
 //! Sorts the actions of a machine: frames to send, answers to calls, events, and the update of its session.
 
 use crate::action::{Action, Actions, Refusal};
-use crate::answer::{answer_of, Outcome};
+use crate::answer::{content_of, Answer, Outcome};
 use crate::chroot::Chroot;
 use crate::error::ErrorKind;
 use crate::events::Event;
-use crate::fault::{Code, Fault, NoReply};
+use crate::fault::{Code, Fault, NoReply, UnknownNumber};
+use crate::ffi::{self, Handle};
 use crate::machine::State;
 use crate::node::{NodeEvent, Side};
 use crate::numbers::kind;
-use crate::output::{Bytes, GivenUp, Text};
+use crate::output::{GivenUp, Text};
+use crate::pending::PendingCalls;
 use crate::stats::ConnectionEnd;
 use std::collections::VecDeque;
 use std::mem;
@@ -128,22 +130,44 @@ impl Dispatcher {
         }
     }
 
-    /// Sorts the actions of a step.
-    #[inline]
-    pub(crate) fn dispatch(&mut self, actions: Actions<'_>) -> Result<(), Fault> {
+    /// Sorts the actions of a step. The answer to the call of a session that asks one at a time goes where that is waited for.
+    pub(crate) fn dispatch(
+        &mut self,
+        actions: Actions<'_>,
+        calls: &mut PendingCalls,
+    ) -> Result<(), Fault> {
         actions.for_each_flat(|handle, flat| {
             match flat.kind {
-                kind::SEND => Bytes::of(handle, flat).append_to(&mut self.frames),
-                kind::ANSWER => {
-                    let outcome = answer_of(handle, flat, &self.chroot)?;
-                    self.answer(flat.ticket, outcome);
-                }
+                kind::SEND => handle.append(flat.length, &mut self.frames),
+                kind::ANSWER => self.dispatch_answer(handle, flat, calls)?,
                 _ => self.dispatch_one(&Action::of(handle, flat)?),
             }
             Ok(())
         })
     }
 
+    #[inline(never)]
+    fn dispatch_answer(
+        &mut self,
+        handle: &Handle,
+        flat: &ffi::Output,
+        calls: &mut PendingCalls,
+    ) -> Result<(), UnknownNumber> {
+        let content = content_of(handle, flat, &self.chroot)?;
+        let (zxid, stat) = (flat.zxid, flat.stat);
+        let outcome = content.map(|content| Answer {
+            zxid,
+            stat,
+            content,
+        });
+        match calls.end_alone(flat.ticket) {
+            Some(place) => *place = outcome,
+            None => self.answer(flat.ticket, outcome),
+        }
+        Ok(())
+    }
+
+    #[cold]
     fn dispatch_one(&mut self, action: &Action<'_>) {
         match *action {
             Action::TimedOut { ticket, was_sent } => {
@@ -257,6 +281,11 @@ impl Dispatcher {
         }
         self.events.push_back(event);
         self.is_news = true;
+    }
+
+    /// Whether an event came since the last call of `takes_news`.
+    pub(crate) fn is_news(&self) -> bool {
+        self.is_news
     }
 
     /// Whether an event came since the last call of this.

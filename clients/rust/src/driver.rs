@@ -5,15 +5,15 @@ use crate::engine::{Attempt, Engine, Plan, NEVER};
 use crate::fault::Fault;
 use crate::hosts::{Addresses, DialOrder};
 use crate::moment::Moment;
-use crate::request::Call;
+use crate::request::Asking;
 use crate::sasl::LogInFault;
 use crate::shared::{Shared, LONGEST_WAIT, WAIT_FOR_ROOM};
-use crate::ticket::AskedCall;
+use crate::ticket::{AskedCall, CallResult};
 use std::io;
 use std::net::SocketAddr;
 use std::sync::Arc;
 use std::thread;
-use std::time::{Duration, Instant};
+use std::time::Duration;
 
 /// The most bytes that one read is asked for.
 const PIECE: usize = 65_536;
@@ -44,8 +44,8 @@ pub(crate) struct Driver {
     addresses: Addresses,
     incoming: Option<Box<dyn Incoming>>,
     room: Vec<u8>,
-    /// When the clock was looked at last, after what was waited for.
-    looked: Instant,
+    /// How long the clock had run when it was looked at last, after what was waited for.
+    looked: Duration,
 }
 
 impl Driver {
@@ -56,7 +56,7 @@ impl Driver {
             addresses: Addresses::new(order),
             incoming: None,
             room: vec![0; PIECE],
-            looked: Instant::now(),
+            looked: Duration::ZERO,
         }
     }
 
@@ -86,43 +86,60 @@ impl Driver {
         self.execute(now, plan)
     }
 
-    /// Asks a call of a session without a thread, once it has caught up. Unless the call has ended by then, it does the next task.
-    pub(crate) fn ask_alone(
-        &mut self,
-        asked: &AskedCall,
-        call: Call,
-        limit: Option<Duration>,
-    ) -> Result<(), Fault> {
-        self.looked = asked.at();
-        let now = self.shared.clock().at(self.looked);
+    /// Asks a call of a session without a thread, and goes on until it has ended.
+    pub(crate) fn call_alone(&mut self, asking: &Asking<'_>) -> CallResult {
+        let clock = self.shared.clock();
+        let asked = AskedCall::now(asking.path.into(), asking.call, clock);
+        self.ask_alone(asked.at(), asking)?;
+        loop {
+            let engine = self.shared.lock();
+            if engine.has_ended_alone() {
+                return self.shared.take_alone(engine, &asked, self.looked);
+            }
+            drop(engine);
+            self.turn(NEVER)?;
+        }
+    }
+
+    /// Asks it, at this time of the clock, once it has caught up. Unless the call has ended by then, it does the next task.
+    fn ask_alone(&mut self, at: Duration, asking: &Asking<'_>) -> Result<(), Fault> {
+        self.looked = at;
+        let now = Moment::after(at);
         let mut engine = self.shared.lock();
         if engine.is_late(now) {
             drop(engine);
             self.catch_up()?;
             engine = self.shared.lock();
         }
-        let plan = self.shared.with_locked(engine, |engine| {
-            engine.ask_alone(now, call, limit, asked.path());
-            (!engine.is_alone_answered()).then(|| engine.plan(now, NEVER))
-        });
-        plan.map_or(Ok(()), |plan| self.execute(now, plan))
-    }
-
-    /// When the last turn ended.
-    pub(crate) fn looked(&self) -> Instant {
-        self.looked
+        engine.ask_alone(now, asking);
+        if engine.has_ended_alone() {
+            self.shared.release(engine);
+            return Ok(());
+        }
+        let plan = engine.plan(now, NEVER);
+        self.shared.release(engine);
+        self.execute(now, plan)
     }
 
     /// Looks at the clock.
     fn look(&mut self) -> Moment {
-        self.looked = Instant::now();
-        self.shared.clock().at(self.looked)
+        self.looked = self.shared.clock().passed();
+        Moment::after(self.looked)
     }
 
+    #[inline]
     fn execute(&mut self, now: Moment, plan: Plan) -> Result<(), Fault> {
+        if let Plan::Listen(until) = plan {
+            return self.listen(now, until);
+        }
+        self.execute_rest(now, plan)
+    }
+
+    /// Does a task other than to listen.
+    #[cold]
+    fn execute_rest(&mut self, now: Moment, plan: Plan) -> Result<(), Fault> {
         match plan {
-            Plan::Listen(until) => return self.listen(now, until),
-            Plan::Stop | Plan::Rest(_) => {}
+            Plan::Listen(_) | Plan::Stop | Plan::Rest(_) => {}
             Plan::Tick => self.shared.with(Engine::tick)?,
             Plan::Dial => self.dial()?,
             Plan::HandIn => self.shared.with(|engine| engine.hand_in(now, &[]))?,
@@ -163,7 +180,8 @@ impl Driver {
 
     /// Hands in what the connection brings next. If something was due before, it catches up.
     fn listen(&mut self, now: Moment, until: Moment) -> Result<(), Fault> {
-        let mut wait = until.saturating_duration_since(now).min(LONGEST_WAIT);
+        let until = until.min(now.saturating_add(LONGEST_WAIT));
+        let mut wait = until.saturating_duration_since(now);
         if self.shared.writes_on() {
             wait = wait.min(WAIT_FOR_ROOM);
         }
@@ -177,6 +195,7 @@ impl Driver {
 
     /// Hands in all that the connection has, and then the moment before the last read. So a late session does not take a server for silent
     /// that has answered.
+    #[cold]
     fn catch_up(&mut self) -> Result<(), Fault> {
         let mut now = self.look();
         for _ in 0..MOST_PIECES {
@@ -208,30 +227,42 @@ impl Driver {
             return Ok(Received::End);
         };
         let read = incoming.read(&mut self.room, wait);
-        let (now, room) = (self.look(), &self.room);
-        self.shared.with_after_looks(|engine| {
-            let is_late = engine.is_late(now);
-            match read {
-                _ if !engine.is_open() => Ok(Received::End),
-                Ok(count @ 1..) => {
-                    engine.hand_in(now, &room[..count])?;
-                    Ok(Received::Bytes { is_late })
-                }
-                Err(fault) if connection::is_late(&fault) => Ok(Received::Nothing { is_late }),
-                Ok(_) => {
-                    engine.end()?;
-                    Ok(Received::End)
-                }
-                Err(fault) => {
-                    if let Some(fault) = LogInFault::of(&fault) {
-                        engine.log_in_failed(fault);
-                    }
-                    engine.end()?;
-                    Ok(Received::End)
-                }
+        let now = self.look();
+        let mut engine = self.shared.lock_after_looks();
+        let is_late = engine.is_late(now);
+        let count = match read {
+            Ok(count @ 1..) if engine.is_open() => count,
+            read => {
+                let received = received_no_bytes(&mut engine, read, is_late);
+                self.shared.release(engine);
+                return received;
             }
-        })
+        };
+        let taken = engine.hand_in(now, &self.room[..count]);
+        self.shared.release(engine);
+        taken.map(|()| Received::Bytes { is_late })
     }
+}
+
+/// What comes of a read that brings no bytes to an open connection.
+#[cold]
+fn received_no_bytes(
+    engine: &mut Engine,
+    read: io::Result<usize>,
+    is_late: bool,
+) -> Result<Received, Fault> {
+    match read {
+        _ if !engine.is_open() => return Ok(Received::End),
+        Err(fault) if connection::is_late(&fault) => return Ok(Received::Nothing { is_late }),
+        Err(fault) => {
+            if let Some(fault) = LogInFault::of(&fault) {
+                engine.log_in_failed(fault);
+            }
+        }
+        Ok(_) => {}
+    }
+    engine.end()?;
+    Ok(Received::End)
 }
 
 /// Ends the session when its thread ends, even by a panic of a dialler or a connection: nobody waits any longer.

@@ -35,7 +35,7 @@ use std::collections::BTreeMap;
 use std::mem;
 use std::net::SocketAddr;
 use std::sync::Arc;
-use std::time::{Duration, Instant};
+use std::time::Duration;
 
 /// How long the admission of a session is waited for at a time: a call that was asked meanwhile may have a limit.
 const LOOK_ROUND: Duration = Duration::from_millis(250);
@@ -172,7 +172,7 @@ impl Engine {
         let machine = options.machine()?;
         let chroot = options.hosts.root().clone();
         let mut engine = Engine {
-            deadline: Deadline::default(),
+            deadline: Deadline::of(machine.timeout()),
             machine,
             asked_timeout: options.timeout,
             limits: options.limits,
@@ -294,8 +294,9 @@ impl Engine {
 
     fn tell_hosts(&mut self, kept: usize, is_listed: bool) -> Result<(), Fault> {
         let (now, added) = (self.now(), self.hosts.len() - kept);
-        let actions = self.machine.set_addresses(now, kept, added, is_listed);
-        let taken = actions.and_then(|actions| self.dispatcher.dispatch(actions));
+        let taken = self.sort(now, |machine, now| {
+            machine.set_addresses(now, kept, added, is_listed)
+        });
         self.deadline.forget(self.machine.timeout());
         // A session that moves leaves no server for a missing answer.
         self.dispatcher.lacks_no_answer();
@@ -436,27 +437,28 @@ impl Engine {
         self.dispatcher.next_event()
     }
 
-    /// What is to be handed out without the lock, if there is something.
+    /// Whether something may have to be handed out without the lock.
     #[inline]
-    pub(crate) fn take_news(&mut self) -> Option<News> {
-        let wakes_all = self.wakes_all();
-        let has_calls = self.calls.has_answered();
-        let is_rest = self.tree_copies.is_empty() && !self.tally.has_seen();
-        if !wakes_all && !has_calls && is_rest {
-            return None;
-        }
-        Some(News {
+    pub(crate) fn may_have_news(&self) -> bool {
+        let is_followed = !self.trees.is_empty() || self.subjects.has_updates();
+        let is_told = self.contenders.is_news() || self.dispatcher.is_news() || self.is_over();
+        let is_answered = self.calls.has_answered() || self.tally.has_seen();
+        is_followed || is_told || is_answered || !self.tree_copies.is_empty()
+    }
+
+    /// What is to be handed out without the lock.
+    pub(crate) fn take_news(&mut self) -> News {
+        News {
+            wakes_all: self.wakes_all(),
             answered: self.take_answered(),
-            wakes_all,
             tree_copies: mem::take(&mut self.tree_copies),
             seen: self.tally.take_seen(),
-        })
+        }
     }
 
     /// Whether those that wait for events or updates have something new to look at.
     fn wakes_all(&mut self) -> bool {
-        let is_news =
-            (!self.trees.is_empty() && self.takes_tree_news()) | self.subjects.takes_updates();
+        let is_news = self.takes_tree_news() | self.subjects.takes_updates();
         let is_news = self.contenders.takes_news() | is_news;
         self.dispatcher.takes_news() | is_news | self.is_over()
     }
@@ -465,7 +467,7 @@ impl Engine {
     fn take_answered(&mut self) -> Vec<Arc<Slot>> {
         let answered = self.calls.take_answered();
         if !answered.is_empty() {
-            let now = Instant::now();
+            let now = self.clock.passed();
             for slot in &answered {
                 slot.with_ending(|ending| self.tally.note_call(slot.call(), ending, now));
             }
@@ -473,17 +475,22 @@ impl Engine {
         answered
     }
 
-    /// Whether the call has ended that a session without a thread has asked, and that was not taken.
-    pub(crate) fn is_alone_answered(&self) -> bool {
-        self.calls.is_alone_answered()
+    /// Whether the call has ended that a session without a thread has asked.
+    #[inline]
+    pub(crate) fn has_ended_alone(&self) -> bool {
+        self.calls.has_ended_alone()
     }
 
-    /// How the call ends that a session without a thread has asked, if it has ended by now.
+    /// Notes that call, which has ended by now.
     #[inline]
-    pub(crate) fn take_alone(&mut self, call: &AskedCall, now: Instant) -> Option<CallResult> {
-        let ending = self.calls.take_alone(call)?;
-        self.tally.note_call(call, &ending, now);
-        Some(ending)
+    pub(crate) fn note_alone(&mut self, call: &AskedCall<'_>, now: Duration) {
+        self.tally.note_call(call, self.calls.ending_alone(), now);
+    }
+
+    /// How it has ended. It is taken once.
+    #[inline]
+    pub(crate) fn take_alone(&mut self, call: &AskedCall<'_>) -> CallResult {
+        self.calls.take_alone(call)
     }
 
     /// The session has an observer.
@@ -503,8 +510,12 @@ impl Engine {
     }
 
     /// A moment before which nothing is due. It is after this one, unless something is due by then.
+    #[inline]
     fn due(&self, now: Moment) -> Moment {
         let due = self.deadline.at(now, &self.machine);
+        if self.credentials.is_empty() {
+            return due;
+        }
         due.min(self.credentials.deadline())
     }
 
@@ -551,12 +562,10 @@ impl Engine {
 /// Tasks and moments.
 impl Engine {
     /// The driver's next task at this moment, until another one at most.
+    #[inline]
     pub(crate) fn plan(&self, now: Moment, until: Moment) -> Plan {
-        if matches!(self.phase, Phase::Stopped | Phase::Panicked) {
-            return Plan::Stop;
-        }
         if self.is_over() {
-            return Plan::Rest(until);
+            return self.plan_of_end(until);
         }
         if self.wanted.is_some() {
             return Plan::Dial;
@@ -570,7 +579,16 @@ impl Engine {
         }
     }
 
+    #[cold]
+    fn plan_of_end(&self, until: Moment) -> Plan {
+        match self.phase {
+            Phase::Stopped | Phase::Panicked => Plan::Stop,
+            _ => Plan::Rest(until),
+        }
+    }
+
     /// Until when the connection is read, before something else is to be looked at.
+    #[inline]
     fn listens_until(&self, now: Moment, until: Moment) -> Moment {
         let until = until.min(self.tree_deadline());
         if self.machine.state() == State::Connected {

@@ -319,6 +319,17 @@ impl Handle {
         unsafe { dw_session_copy(self.pointer(), from, room.as_mut_ptr(), room.len()) }
     }
 
+    /// Appends the text of the output that was told last, of which this is the length.
+    #[inline]
+    pub(crate) fn append(&self, length: usize, bytes: &mut Vec<u8>) {
+        bytes.reserve(length);
+        let (from, room) = (bytes.len(), bytes.spare_capacity_mut());
+        // SAFETY: as `Handle` says. It only writes to the room, of which there is as much as it is told.
+        let count = unsafe { dw_session_copy(self.pointer(), 0, room.as_mut_ptr().cast(), length) };
+        // SAFETY: it has written that many, for which there is room.
+        unsafe { bytes.set_len(from + count.min(length)) };
+    }
+
     /// Copies a name of the listing that was told last, and tells how many bytes it has.
     pub(crate) fn name(&self, index: usize, room: &mut [u8]) -> usize {
         // SAFETY: as `Handle` says.

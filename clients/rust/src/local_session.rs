@@ -15,7 +15,7 @@ use crate::multi_read::{Read, ReadAnswer};
 use crate::node::{Mode, Node, Stat};
 use crate::options::{OpenError, SessionOptions};
 use crate::paths;
-use crate::request::Request;
+use crate::request::{LentRequest, Request};
 use crate::retry::{Retry, Tries};
 use crate::saved::SavedSession;
 use crate::semaphore::LeaseNumber;
@@ -23,7 +23,6 @@ use crate::session_methods::{calls, look_ups, watch, Caller};
 use crate::shared::Shared;
 use crate::snapshot::Snapshot;
 use crate::stats::Stats;
-use crate::ticket::AskedCall;
 use crate::tree::{LocalTree, MOST_NODES};
 use crate::tree_snapshot::TreeSnapshot;
 use crate::view::View;
@@ -128,25 +127,27 @@ impl LocalSession {
     pub fn call<T>(&mut self, mut request: Request<T>) -> Result<T, Error> {
         let tries = Tries::of(self.retry, self.renews, request.limit.or(self.limit));
         for pause in self.retry.pauses() {
-            match self.call_once(request.clone()) {
+            match self.call_once(&request.lend()) {
                 Err(error) if tries.goes_on(&request, &error, pause) => self.pass(pause)?,
                 answer => return answer,
             }
             request.limit = tries.left();
         }
-        self.call_once(request)
+        self.call_once(&request.lend())
     }
 
-    fn call_once<T>(&mut self, request: Request<T>) -> Result<T, Error> {
-        let asked = AskedCall::now(request.path, &request.call);
-        self.driver.ask_alone(&asked, request.call, request.limit)?;
-        loop {
-            let now = self.driver.looked();
-            if let Some(ending) = self.inner().take_alone(&asked, now) {
-                return (request.read)(ending);
-            }
-            self.driver.turn(NEVER)?;
+    /// The same of a request whose path and data need not be kept where it is asked once.
+    #[inline]
+    fn call_lent<T>(&mut self, request: LentRequest<'_, T>) -> Result<T, Error> {
+        if self.retry == Retry::never() {
+            return self.call_once(&request);
         }
+        self.call(request.into())
+    }
+
+    #[inline]
+    fn call_once<T>(&mut self, request: &LentRequest<'_, T>) -> Result<T, Error> {
+        (request.read)(self.driver.call_alone(&request.asking))
     }
 }
 

@@ -5,7 +5,7 @@ mod look_ups;
 use crate::action::Actions;
 use crate::contention::Contention;
 use crate::fault::Fault;
-use crate::ffi::{Call, Handle, Settings};
+use crate::ffi::{Call, Handle, Output, Settings};
 use crate::moment::Moment;
 use crate::node::{Mode, Side, Watch};
 use crate::raw::RawOperation;
@@ -69,6 +69,8 @@ impl State {
 pub struct Machine {
     pub(crate) handle: Handle,
     state: State,
+    /// What was told last: a place that each output is written to.
+    pub(crate) told: Output,
 }
 
 /// The most bytes that the payload of a frame has. Raise both together with the `jute.maxbuffer` of the servers.
@@ -213,11 +215,16 @@ impl Machine {
     }
 
     fn of(handle: Handle) -> Result<Machine, Fault> {
-        let state = State::try_from(handle.state())?;
-        Ok(Machine { handle, state })
+        let (state, told) = (State::try_from(handle.state())?, Output::default());
+        Ok(Machine {
+            handle,
+            state,
+            told,
+        })
     }
 
     /// Takes a step. The state is noted, also where the step has failed.
+    #[inline]
     fn step(
         &mut self,
         step: impl FnOnce(&mut Handle) -> Result<(), Fault>,
@@ -406,6 +413,7 @@ macro_rules! calls {
         /// # Errors
         ///
         /// [`Fault::NotPath`] and [`Fault::NoMemory`]: then nothing has happened. [`Fault::Halted`] and [`Fault::UnknownNumber`].
+        #[inline]
         pub fn $name(
             &mut self,
             now: Moment,

@@ -18,6 +18,7 @@ use std::time::{Duration, Instant};
 pub struct Moment(u64);
 
 /// Whole milliseconds, and the most that there are for what is longer.
+#[inline]
 fn millis(duration: Duration) -> u64 {
     let seconds = duration.as_secs().saturating_mul(1_000);
     seconds.saturating_add(duration.subsec_millis().into())
@@ -29,7 +30,14 @@ impl Moment {
         Moment(millis)
     }
 
+    /// The moment so long after the clock's beginning. A part of a millisecond is not counted.
+    #[inline]
+    pub(crate) fn after(passed: Duration) -> Moment {
+        Moment(millis(passed))
+    }
+
     /// How many milliseconds it is after the clock's beginning.
+    #[inline]
     pub const fn as_millis(self) -> u64 {
         self.0
     }
@@ -81,12 +89,18 @@ impl Clock {
 
     /// The moment that it is. A part of a millisecond is not counted.
     pub fn now(&self) -> Moment {
-        self.at(Instant::now())
+        Moment::after(self.passed())
+    }
+
+    /// How long ago it began.
+    #[inline]
+    pub(crate) fn passed(&self) -> Duration {
+        Instant::now().saturating_duration_since(self.beginning)
     }
 
     /// The moment that it is at an instant. A part of a millisecond is not counted.
     pub(crate) fn at(&self, instant: Instant) -> Moment {
-        Moment(millis(instant.saturating_duration_since(self.beginning)))
+        Moment::after(instant.saturating_duration_since(self.beginning))
     }
 
     /// The first moment that is not before an instant.

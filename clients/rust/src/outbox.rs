@@ -56,6 +56,25 @@ impl Held {
     fn is_done(&self) -> bool {
         self.waiting() == 0 && !self.is_over
     }
+
+    /// How the writes have ended where something is left to be done, unless this thread writes on.
+    #[cold]
+    fn written(&mut self, writer: Writer, done: io::Result<()>, is_last: bool) -> Option<Written> {
+        let is_full = done.is_err() || self.left > 0 || is_last;
+        let has_failed = done.is_err_and(|fault| !is_late(&fault));
+        let written = match writer {
+            _ if has_failed => Written::Failed,
+            _ if !is_full => return None,
+            Writer::Passing => Written::WantsHelper,
+            Writer::Alone | Writer::Helper => Written::Some,
+        };
+        match written {
+            Written::Failed => self.is_helped = false,
+            Written::WantsHelper => self.is_helped = true,
+            Written::All | Written::Some => {}
+        }
+        Some(written)
+    }
 }
 
 /// Which thread writes.
@@ -133,17 +152,18 @@ impl Outbox {
 
     /// Writes what waits, and closes what is over. It waits for room once, for so long at most.
     pub(crate) fn write(&self, writer: Writer, wait: Duration) -> Written {
-        for piece in 1..=MOST_PIECES {
+        let mut pieces = 0;
+        loop {
             let Some(mut line) = self.begin(writer) else {
                 return Written::All;
             };
             let done = line.write(wait);
-            let written = self.put_back(line, writer, done, piece == MOST_PIECES);
+            pieces += 1;
+            let written = self.put_back(line, writer, done, pieces == MOST_PIECES);
             if let Some(written) = written {
                 return written;
             }
         }
-        Written::Some
     }
 
     /// Takes what is to be written, where nobody else writes.
@@ -182,21 +202,11 @@ impl Outbox {
         let mut held = self.held();
         held.left = line.left();
         held.line = Some(line);
-        let is_full = done.is_err() || held.left > 0 || is_last;
-        let has_failed = done.is_err_and(|fault| !is_late(&fault));
-        let written = match writer {
-            _ if has_failed => Written::Failed,
-            _ if !is_full && !held.is_done() => return None,
-            _ if !is_full => Written::All,
-            Writer::Passing => Written::WantsHelper,
-            Writer::Alone | Writer::Helper => Written::Some,
-        };
-        match written {
-            Written::All | Written::Failed => held.is_helped = false,
-            Written::WantsHelper => held.is_helped = true,
-            Written::Some => {}
+        if done.is_ok() && held.is_done() && !is_last {
+            held.is_helped = false;
+            return Some(Written::All);
         }
-        Some(written)
+        held.written(writer, done, is_last)
     }
 
     /// No helper writes any more.

@@ -187,9 +187,7 @@ impl Bytes<'_> {
 
     /// Copies them to the end of a vector.
     pub fn append_to(&self, bytes: &mut Vec<u8>) {
-        let from = bytes.len();
-        bytes.resize(from + self.length, 0);
-        self.copy_to(0, &mut bytes[from..]);
+        self.handle.append(self.length, bytes);
     }
 
     /// A copy of them.

@@ -1,29 +1,58 @@
 //! The pending calls of a session, and those that are answered until they are told so.
 
-use crate::answer::Outcome;
+use crate::answer::{Answer, Outcome};
 use crate::chroot::Chroot;
 use crate::error::{ErrorKind, Search};
 use crate::fault::NoReply;
 use crate::raw::RawCall;
-use crate::ticket::{AskedCall, CallResult, Slot};
+use crate::ticket::{AskedCall, CallResult, Ending, Slot};
 use std::collections::HashMap;
 use std::hash::{BuildHasherDefault, Hasher};
 use std::mem;
 use std::sync::Arc;
 
-/// Where the answer to a call goes.
-enum Asker {
-    /// To a slot.
-    Slot(Arc<Slot>),
-    /// To the one thread of a session without another, which has one call at a time: that of this ticket.
-    Alone(u64),
-}
-
 /// A call that waits.
 struct PendingCall {
-    asker: Asker,
+    /// Where its answer goes.
+    slot: Arc<Slot>,
     /// The call that reads the answer, if the core does not.
-    raw: Option<Box<RawCall>>,
+    raw: Option<Arc<RawCall>>,
+}
+
+/// The call of a session without a thread, which asks one at a time: it takes no place in a table, and its answer has one here.
+struct CallAlone {
+    /// Its ticket, as long as it waits.
+    ticket: Option<u64>,
+    raw: Option<Arc<RawCall>>,
+    /// How it ends, once it waits no more.
+    outcome: Outcome,
+}
+
+impl Default for CallAlone {
+    fn default() -> CallAlone {
+        CallAlone {
+            ticket: None,
+            raw: None,
+            outcome: Ok(Answer::default()),
+        }
+    }
+}
+
+impl CallAlone {
+    fn waits(&self, ticket: u64) -> bool {
+        self.ticket == Some(ticket)
+    }
+}
+
+/// The answer of a call that the core does not read. Whether it parses: if not, the call may have happened.
+fn read(call: &RawCall, outcome: Outcome, root: &Chroot) -> (Outcome, bool) {
+    let Ok(found) = &outcome else {
+        return (outcome, true);
+    };
+    let read = call.read(found.content.body(), root);
+    let parses = read.is_some();
+    let lost = || Err(NoReply::ConnectionLoss.into());
+    (read.unwrap_or_else(lost), parses)
 }
 
 /// A hash for tickets: no one outside chooses them.
@@ -97,10 +126,7 @@ pub(crate) struct PendingCalls {
     waiting: Waiting,
     search: Option<Search>,
     answered: Vec<Arc<Slot>>,
-    /// The answer to the call of the one that asks one at a time.
-    alone: Option<Outcome>,
-    /// The ticket of that call.
-    alone_ticket: u64,
+    alone: CallAlone,
 }
 
 impl PendingCalls {
@@ -123,89 +149,103 @@ impl PendingCalls {
     /// The ticket of a call that is asked now.
     pub(crate) fn begin(&mut self, slot: Arc<Slot>) -> u64 {
         let ticket = self.next_ticket();
-        self.wait(ticket, Asker::Slot(slot));
+        self.waiting.insert(ticket, PendingCall { slot, raw: None });
         ticket
     }
 
-    /// The same, of the one that asks one at a time.
+    /// The same, of the one that asks one at a time. An answer to the call before it is nobody's from now on.
     #[inline]
     pub(crate) fn begin_alone(&mut self) -> u64 {
         let ticket = self.next_ticket();
-        self.alone = None;
-        self.alone_ticket = ticket;
-        self.wait(ticket, Asker::Alone(ticket));
+        self.alone.ticket = Some(ticket);
+        self.alone.raw = None;
         ticket
     }
 
-    fn wait(&mut self, ticket: u64, asker: Asker) {
-        self.waiting
-            .insert(ticket, PendingCall { asker, raw: None });
-    }
-
     /// This call will read the answer to the call of this ticket.
-    pub(crate) fn is_read_by(&mut self, ticket: u64, call: Box<RawCall>) {
-        if let Some(waiting) = self.waiting.get_mut(ticket) {
+    pub(crate) fn is_read_by(&mut self, ticket: u64, call: Arc<RawCall>) {
+        if self.alone.waits(ticket) {
+            self.alone.raw = Some(call);
+        } else if let Some(waiting) = self.waiting.get_mut(ticket) {
             waiting.raw = Some(call);
         }
     }
 
     /// Whether the call of this ticket has no answer yet.
     pub(crate) fn waits(&self, ticket: u64) -> bool {
-        self.waiting.has(ticket)
+        self.alone.waits(ticket) || self.waiting.has(ticket)
+    }
+
+    /// Where the answer to the call of this ticket goes, if the one has asked it that asks one at a time, and the core has read it. The
+    /// call has ended: the answer is put there at once.
+    #[inline]
+    pub(crate) fn end_alone(&mut self, ticket: u64) -> Option<&mut Outcome> {
+        if !self.alone.waits(ticket) || self.alone.raw.is_some() {
+            return None;
+        }
+        self.alone.ticket = None;
+        Some(&mut self.alone.outcome)
     }
 
     /// A call is answered. If the core has not read the answer, the call reads it. Whether it parses: if not, the call may have happened.
-    #[inline]
     pub(crate) fn read(&mut self, ticket: u64, outcome: Outcome, root: &Chroot) -> bool {
-        let Some(PendingCall { asker, raw }) = self.waiting.remove(ticket) else {
-            return true;
+        let raw = if self.alone.waits(ticket) {
+            self.alone.raw.take()
+        } else {
+            self.waiting.get_mut(ticket).and_then(|it| it.raw.take())
         };
-        let (Some(call), Ok(found)) = (raw, &outcome) else {
-            self.answer(asker, outcome);
-            return true;
+        let (outcome, parses) = match raw {
+            Some(call) => read(&call, outcome, root),
+            None => (outcome, true),
         };
-        let read = call.read(found.content.body(), root);
-        let parses = read.is_some();
-        let lost = || Err(NoReply::ConnectionLoss.into());
-        self.answer(asker, read.unwrap_or_else(lost));
+        self.end(ticket, outcome);
         parses
     }
 
     /// A call ends so.
     pub(crate) fn end(&mut self, ticket: u64, outcome: Outcome) {
-        if let Some(waiting) = self.waiting.remove(ticket) {
-            self.answer(waiting.asker, outcome);
+        if self.alone.waits(ticket) {
+            self.alone.ticket = None;
+            self.alone.outcome = outcome;
+        } else if let Some(waiting) = self.waiting.remove(ticket) {
+            self.put(waiting.slot, outcome);
         }
     }
 
-    fn answer(&mut self, asker: Asker, outcome: Outcome) {
-        match asker {
-            Asker::Slot(slot) => {
-                slot.put(outcome, self.search.as_ref());
-                self.answered.push(slot);
-            }
-            Asker::Alone(ticket) if ticket == self.alone_ticket => self.alone = Some(outcome),
-            Asker::Alone(_) => {} // its caller has left it
-        }
+    fn put(&mut self, slot: Arc<Slot>, outcome: Outcome) {
+        slot.put(outcome, self.search.as_ref());
+        self.answered.push(slot);
     }
 
     /// All calls have this answer, also those that were not sent yet.
     pub(crate) fn end_all(&mut self, kind: &ErrorKind) {
+        if let Some(ticket) = self.alone.ticket {
+            self.end(ticket, Err(kind.clone()));
+        }
         for waiting in mem::take(&mut self.waiting).into_calls() {
-            self.answer(waiting.asker, Err(kind.clone()));
+            self.put(waiting.slot, Err(kind.clone()));
         }
     }
 
-    /// Whether the call of the one that asks one at a time has ended, and that was not taken.
-    pub(crate) fn is_alone_answered(&self) -> bool {
-        self.alone.is_some()
+    /// Whether the call of the one that asks one at a time has ended.
+    #[inline]
+    pub(crate) fn has_ended_alone(&self) -> bool {
+        self.alone.ticket.is_none()
     }
 
-    /// How the call of the one that asks one at a time ends, if it has.
+    /// What is noted of how that call has ended.
     #[inline]
-    pub(crate) fn take_alone(&mut self, call: &AskedCall) -> Option<CallResult> {
-        let outcome = self.alone.take()?;
-        Some(call.ending(outcome, self.search.as_ref()))
+    pub(crate) fn ending_alone(&self) -> Ending<'_> {
+        self.alone.outcome.as_ref().map(|found| found.zxid)
+    }
+
+    /// How that call has ended. It is taken once.
+    #[inline]
+    pub(crate) fn take_alone(&mut self, call: &AskedCall<'_>) -> CallResult {
+        match &mut self.alone.outcome {
+            Ok(answer) => Ok(answer.take()),
+            Err(kind) => Err(call.error(kind.clone(), self.search.as_ref())),
+        }
     }
 
     /// Whether answers are to be told.
@@ -224,6 +264,7 @@ mod tests {
     use super::PendingCalls;
     use crate::answer::Answer;
     use crate::chroot::Chroot;
+    use crate::moment::Clock;
     use crate::request::Request;
     use crate::ticket::{AskedCall, Slot};
     use std::sync::Arc;
@@ -239,7 +280,9 @@ mod tests {
     fn each_call_has_the_answer_of_its_ticket() {
         let (mut calls, root) = (PendingCalls::default(), Chroot::default());
         let request = Request::get("/a");
-        let slots = [(); 3].map(|()| Slot::new(String::from("/a"), &request.call));
+        let clock = Clock::start();
+        let slots =
+            [(); 3].map(|()| Slot::new(String::from("/a"), request.lend().asking.call, clock));
         let tickets = slots.clone().map(|slot| calls.begin(slot));
         for (zxid, ticket) in [(3, tickets[2]), (1, tickets[0]), (2, tickets[1])] {
             assert!(calls.waits(ticket) && calls.read(ticket, Ok(answer(zxid)), &root));
@@ -247,19 +290,20 @@ mod tests {
         }
         let told = calls.take_answered();
         assert!(told.len() == 3 && Arc::ptr_eq(&told[0], &slots[2]));
-        let zxids = slots.map(|slot| slot.with_ending(|found| found.as_ref().unwrap().zxid));
+        let zxids = slots.map(|slot| slot.with_ending(|found| found.unwrap()));
         assert_eq!(zxids, [Some(1), Some(2), Some(3)]);
     }
 
     #[test]
     fn an_answer_to_a_call_that_was_left_is_none_of_the_next_one() {
         let (mut calls, root) = (PendingCalls::default(), Chroot::default());
-        let asked = AskedCall::now(String::from("/a"), &Request::get("/a").call);
+        let (path, clock) = ("/a".into(), Clock::start());
+        let asked = AskedCall::now(path, Request::get("/a").lend().asking.call, clock);
         let (left, next) = (calls.begin_alone(), calls.begin_alone());
         calls.read(left, Ok(answer(1)), &root);
-        assert!(!calls.is_alone_answered());
+        assert!(calls.end_alone(left).is_none() && !calls.has_ended_alone());
         calls.read(next, Ok(answer(2)), &root);
-        assert_eq!(calls.take_alone(&asked).unwrap().unwrap().zxid, 2);
-        assert!(calls.take_alone(&asked).is_none());
+        assert!(calls.end_alone(next).is_none() && calls.has_ended_alone());
+        assert_eq!(calls.take_alone(&asked).unwrap().zxid, 2);
     }
 }

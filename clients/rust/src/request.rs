@@ -2,6 +2,7 @@
 
 use crate::acl::{Acl, Id};
 use crate::action::Actions;
+use crate::answer::Answer;
 use crate::credentials::Credential;
 use crate::error::Error;
 use crate::fault::{Code, Fault};
@@ -12,16 +13,17 @@ use crate::node::{Mode, Node, Stat, Watch};
 use crate::raw::{Lifetime, RawCall};
 use crate::ticket::CallResult;
 use std::fmt;
+use std::sync::Arc;
 use std::time::{Duration, Instant};
 
-/// A call of the core, without its path.
-#[derive(Clone)]
+/// A call of the core, without its path and data.
+#[derive(Clone, Copy)]
 pub(crate) enum CoreCall {
     Exists(Watch),
     Data(Watch),
     Children(Watch),
-    Set { data: Vec<u8>, version: i32 },
-    Create { data: Vec<u8>, mode: Mode },
+    Set { version: i32 },
+    Create { mode: Mode },
     Delete { version: i32 },
     Close,
 }
@@ -30,45 +32,63 @@ impl CoreCall {
     /// Asks the machine, about the node of this path at the servers. It waits to this moment at most.
     #[inline]
     pub(crate) fn ask<'a>(
-        &self,
+        self,
         machine: &'a mut Machine,
         now: Moment,
         ticket: u64,
         until: Moment,
         path: &str,
+        data: &[u8],
     ) -> Result<Actions<'a>, Fault> {
         let until = Some(until);
         match self {
-            CoreCall::Exists(watch) => machine.exists(now, ticket, until, path, *watch),
-            CoreCall::Data(watch) => machine.get_data(now, ticket, until, path, *watch),
-            CoreCall::Children(watch) => machine.get_children(now, ticket, until, path, *watch),
-            CoreCall::Set { data, version } => {
-                machine.set_data(now, ticket, until, path, Some(data), *version)
+            CoreCall::Exists(watch) => machine.exists(now, ticket, until, path, watch),
+            CoreCall::Data(watch) => machine.get_data(now, ticket, until, path, watch),
+            CoreCall::Children(watch) => machine.get_children(now, ticket, until, path, watch),
+            CoreCall::Set { version } => {
+                machine.set_data(now, ticket, until, path, Some(data), version)
             }
-            CoreCall::Create { data, mode } => {
-                machine.create(now, ticket, until, path, Some(data), *mode)
-            }
-            CoreCall::Delete { version } => machine.delete(now, ticket, until, path, *version),
+            CoreCall::Create { mode } => machine.create(now, ticket, until, path, Some(data), mode),
+            CoreCall::Delete { version } => machine.delete(now, ticket, until, path, version),
             CoreCall::Close => machine.close_session(now, ticket, until),
         }
     }
 }
 
-/// A call, without its path.
+/// A call, without its path. The data of a call of the core are not in it.
 #[derive(Clone)]
 pub(crate) enum Call {
     Core(CoreCall),
-    Raw(Box<RawCall>),
+    /// It is shared by who reads its answer.
+    Raw(Arc<RawCall>),
     Auth(Credential),
+}
+
+impl From<LentCall<'_>> for Call {
+    fn from(call: LentCall<'_>) -> Call {
+        match call {
+            LentCall::Core(call) => Call::Core(call),
+            LentCall::Raw(call) => Call::Raw(Arc::clone(call)),
+            LentCall::Auth(credential) => Call::Auth(credential.clone()),
+        }
+    }
 }
 
 impl From<RawCall> for Call {
     fn from(call: RawCall) -> Call {
-        Call::Raw(Box::new(call))
+        Call::Raw(Arc::new(call))
     }
 }
 
 impl Call {
+    fn lend(&self) -> LentCall<'_> {
+        match self {
+            Call::Core(call) => LentCall::Core(*call),
+            Call::Raw(call) => LentCall::Raw(call),
+            Call::Auth(credential) => LentCall::Auth(credential),
+        }
+    }
+
     /// Whether the servers are as they were after it.
     fn is_read(&self) -> bool {
         match self {
@@ -78,15 +98,40 @@ impl Call {
             Call::Raw(call) => call.is_read(),
         }
     }
+}
 
+/// A call that is lent.
+#[derive(Clone, Copy)]
+pub(crate) enum LentCall<'a> {
+    Core(CoreCall),
+    Raw(&'a Arc<RawCall>),
+    Auth(&'a Credential),
+}
+
+impl LentCall<'_> {
     /// Whether it is about a node.
-    pub(crate) fn has_node(&self) -> bool {
+    pub(crate) fn has_node(self) -> bool {
         match self {
-            Call::Core(call) => !matches!(call, CoreCall::Close),
-            Call::Raw(call) => call.has_node(),
-            Call::Auth(_) => false,
+            LentCall::Core(call) => !matches!(call, CoreCall::Close),
+            LentCall::Raw(call) => call.has_node(),
+            LentCall::Auth(_) => false,
         }
     }
+
+    pub(crate) fn is_close(self) -> bool {
+        matches!(self, LentCall::Core(CoreCall::Close))
+    }
+}
+
+/// What is asked, as an engine is lent it.
+#[derive(Clone, Copy)]
+pub(crate) struct Asking<'a> {
+    pub(crate) path: &'a str,
+    /// Those of a call of the core.
+    pub(crate) data: &'a [u8],
+    pub(crate) call: LentCall<'a>,
+    /// How long it waits at most, where it says so itself.
+    pub(crate) limit: Option<Duration>,
 }
 
 /// A request, whose answer is a `T`.
@@ -110,6 +155,8 @@ impl Call {
 #[must_use = "it is not sent before it is asked"]
 pub struct Request<T> {
     pub(crate) path: String,
+    /// Those of a call of the core: none of another one.
+    pub(crate) data: Vec<u8>,
     pub(crate) call: Call,
     /// How long it waits at most, where it says so itself.
     pub(crate) limit: Option<Duration>,
@@ -124,6 +171,7 @@ impl<T> Request<T> {
     ) -> Request<T> {
         Request {
             path: String::from(path),
+            data: Vec::new(),
             call,
             limit: None,
             read,
@@ -148,6 +196,20 @@ impl<T> Request<T> {
         self
     }
 
+    /// The same request, which is kept: it may be asked again.
+    pub(crate) fn lend(&self) -> LentRequest<'_, T> {
+        let asking = Asking {
+            path: &self.path,
+            data: &self.data,
+            call: self.call.lend(),
+            limit: self.limit,
+        };
+        LentRequest {
+            asking,
+            read: self.read,
+        }
+    }
+
     /// The same, which waits until this instant at most, if there is one.
     pub(crate) fn until(self, until: Option<Instant>) -> Request<T> {
         match until {
@@ -167,18 +229,123 @@ impl<T> Request<T> {
     }
 }
 
-impl Request<Option<Stat>> {
-    /// What is known of a node, and none where there is none.
-    pub fn exists(path: &str) -> Request<Option<Stat>> {
-        Request::new(
+/// A request whose path and data are its caller's still. A session without a thread asks it so, and copies neither.
+pub(crate) struct LentRequest<'a, T> {
+    pub(crate) asking: Asking<'a>,
+    pub(crate) read: fn(CallResult) -> Result<T, Error>,
+}
+
+impl<'a, T> LentRequest<'a, T> {
+    fn new(
+        path: &'a str,
+        data: &'a [u8],
+        call: CoreCall,
+        read: fn(CallResult) -> Result<T, Error>,
+    ) -> LentRequest<'a, T> {
+        let asking = Asking {
             path,
-            Call::Core(CoreCall::Exists(Watch::No)),
+            data,
+            call: LentCall::Core(call),
+            limit: None,
+        };
+        LentRequest { asking, read }
+    }
+}
+
+impl<T> From<LentRequest<'_, T>> for Request<T> {
+    fn from(lent: LentRequest<'_, T>) -> Request<T> {
+        let Asking {
+            path,
+            data,
+            call,
+            limit,
+        } = lent.asking;
+        Request {
+            path: String::from(path),
+            data: data.to_vec(),
+            call: call.into(),
+            limit,
+            read: lent.read,
+        }
+    }
+}
+
+impl<'a> LentRequest<'a, Option<Stat>> {
+    pub(crate) fn exists(path: &'a str) -> Self {
+        LentRequest::new(
+            path,
+            &[],
+            CoreCall::Exists(Watch::No),
             |ending| match ending {
                 Ok(found) => Ok(Some(found.stat)),
                 Err(error) if error.code() == Some(Code::NO_NODE) => Ok(None),
                 Err(error) => Err(error),
             },
         )
+    }
+}
+
+impl<'a> LentRequest<'a, Node> {
+    pub(crate) fn get(path: &'a str) -> Self {
+        LentRequest::new(
+            path,
+            &[],
+            CoreCall::Data(Watch::No),
+            |ending| match ending {
+                Ok(Answer { content, stat, .. }) => Ok(Node {
+                    data: content.data(),
+                    stat,
+                }),
+                Err(error) => Err(error),
+            },
+        )
+    }
+}
+
+impl<'a> LentRequest<'a, (Vec<String>, Stat)> {
+    pub(crate) fn children(path: &'a str) -> Self {
+        LentRequest::new(path, &[], CoreCall::Children(Watch::No), |ending| {
+            ending.map(|found| (found.content.names(), found.stat))
+        })
+    }
+}
+
+impl<'a> LentRequest<'a, Stat> {
+    pub(crate) fn set(path: &'a str, data: &'a [u8], version: i32) -> Self {
+        LentRequest::new(
+            path,
+            data,
+            CoreCall::Set { version },
+            |ending| match ending {
+                Ok(Answer { stat, .. }) => Ok(stat),
+                Err(error) => Err(error),
+            },
+        )
+    }
+}
+
+impl<'a> LentRequest<'a, String> {
+    pub(crate) fn create(path: &'a str, data: &'a [u8], mode: Mode) -> Self {
+        LentRequest::new(path, data, CoreCall::Create { mode }, |ending| {
+            ending
+                .map(|found| found.content.path())
+                .map_err(Error::of_create)
+        })
+    }
+}
+
+impl<'a> LentRequest<'a, ()> {
+    pub(crate) fn delete(path: &'a str, version: i32) -> Self {
+        LentRequest::new(path, &[], CoreCall::Delete { version }, |ending| {
+            ending.map(drop)
+        })
+    }
+}
+
+impl Request<Option<Stat>> {
+    /// What is known of a node, and none where there is none.
+    pub fn exists(path: &str) -> Request<Option<Stat>> {
+        LentRequest::exists(path).into()
     }
 
     /// The same, and a watch is left, also where there is no node.
@@ -191,12 +358,7 @@ impl Request<Option<Stat>> {
 impl Request<Node> {
     /// The data of a node. Where there is none the answer is [`Code::NO_NODE`].
     pub fn get(path: &str) -> Request<Node> {
-        Request::new(path, Call::Core(CoreCall::Data(Watch::No)), |ending| {
-            ending.map(|found| Node {
-                data: found.content.data(),
-                stat: found.stat,
-            })
-        })
+        LentRequest::get(path).into()
     }
 
     /// The same, and a watch is left where there is a node.
@@ -210,9 +372,7 @@ impl Request<(Vec<String>, Stat)> {
     /// The names of the children of a node, in an order that means nothing, and what is known of it. Where there is none the answer is
     /// [`Code::NO_NODE`].
     pub fn children(path: &str) -> Request<(Vec<String>, Stat)> {
-        Request::new(path, Call::Core(CoreCall::Children(Watch::No)), |ending| {
-            ending.map(|found| (found.content.names(), found.stat))
-        })
+        LentRequest::children(path).into()
     }
 
     /// The same, and a watch is left where there is a node.
@@ -234,12 +394,7 @@ impl Request<(Vec<String>, i64)> {
 impl Request<Stat> {
     /// Sets the data of a node that has this version; [`ANY_VERSION`](crate::ANY_VERSION) is that of each node.
     pub fn set(path: &str, data: &[u8], version: i32) -> Request<Stat> {
-        let data = data.to_vec();
-        Request::new(
-            path,
-            Call::Core(CoreCall::Set { data, version }),
-            |ending| ending.map(|found| found.stat),
-        )
+        LentRequest::set(path, data, version).into()
     }
 
     /// Sets the ACL of a node whose ACL has this version ([`Stat::aversion`]); [`ANY_VERSION`](crate::ANY_VERSION) is that of each node.
@@ -262,16 +417,7 @@ impl Request<(Vec<Acl>, Stat)> {
 impl Request<String> {
     /// Makes a node, and tells its path, which ends in ten digits more where it is sequential.
     pub fn create(path: &str, data: &[u8], mode: Mode) -> Request<String> {
-        let data = data.to_vec();
-        Request::new(
-            path,
-            Call::Core(CoreCall::Create { data, mode }),
-            |ending| {
-                ending
-                    .map(|found| found.content.path())
-                    .map_err(Error::of_create)
-            },
-        )
+        LentRequest::create(path, data, mode).into()
     }
 
     /// The same, of a node with this ACL. It goes by `create2`, which ZooKeeper has since version 3.5. The path of a sequential one may end
@@ -382,9 +528,7 @@ impl Request<Vec<Id>> {
 impl Request<()> {
     /// Deletes a node that has this version and no children; [`ANY_VERSION`](crate::ANY_VERSION) is that of each node.
     pub fn delete(path: &str, version: i32) -> Request<()> {
-        Request::new(path, Call::Core(CoreCall::Delete { version }), |ending| {
-            ending.map(drop)
-        })
+        LentRequest::delete(path, version).into()
     }
 
     /// Has the server that the session is connected to catch up with the leader, as far as it was when that was asked: a read that is
@@ -409,6 +553,7 @@ impl<T> Clone for Request<T> {
     fn clone(&self) -> Request<T> {
         Request {
             path: self.path.clone(),
+            data: self.data.clone(),
             call: self.call.clone(),
             limit: self.limit,
             read: self.read,

@@ -15,7 +15,7 @@ use crate::multi_read::{Read, ReadAnswer};
 use crate::node::{Mode, Node, Stat};
 use crate::options::{OpenError, SessionOptions};
 use crate::paths;
-use crate::request::Request;
+use crate::request::{LentRequest, Request};
 use crate::retry::{is_expired, Retry, Tries};
 use crate::saved::SavedSession;
 use crate::session_methods::{calls, look_ups, watch, Caller};
@@ -192,6 +192,10 @@ impl Session {
             request.limit = tries.left();
         }
         self.ask(request).wait()
+    }
+
+    fn call_lent<T>(&self, request: LentRequest<'_, T>) -> Result<T, Error> {
+        self.call(request.into())
     }
 
     /// Whether another session goes on after this error.

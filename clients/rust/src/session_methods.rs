@@ -45,7 +45,7 @@ macro_rules! calls {
         ///
         /// As [`call`](Self::call).
         pub fn exists($($receiver)+, path: &str) -> Result<Option<Stat>, Error> {
-            $this.call(Request::exists(path))
+            $this.call_lent(LentRequest::exists(path))
         }
 
         /// The data of a node. Where there is none it fails with [`Code::NO_NODE`](crate::Code::NO_NODE).
@@ -54,7 +54,7 @@ macro_rules! calls {
         ///
         /// As [`call`](Self::call).
         pub fn get($($receiver)+, path: &str) -> Result<Node, Error> {
-            $this.call(Request::get(path))
+            $this.call_lent(LentRequest::get(path))
         }
 
         /// The names of the children of a node, in an order that means nothing, and what is known of it. Where there is no node it
@@ -64,7 +64,7 @@ macro_rules! calls {
         ///
         /// As [`call`](Self::call).
         pub fn children($($receiver)+, path: &str) -> Result<(Vec<String>, Stat), Error> {
-            $this.call(Request::children(path))
+            $this.call_lent(LentRequest::children(path))
         }
 
         /// The data of a node, and none where there is none. It leaves a watch on the path in both cases, so that the next change is
@@ -94,7 +94,7 @@ macro_rules! calls {
         ///
         /// As [`call`](Self::call): of the server [`Code::NO_NODE`](crate::Code::NO_NODE) and [`Code::BAD_VERSION`](crate::Code::BAD_VERSION).
         pub fn set($($receiver)+, path: &str, data: &[u8], version: i32) -> Result<Stat, Error> {
-            $this.call(Request::set(path, data, version))
+            $this.call_lent(LentRequest::set(path, data, version))
         }
 
         /// Makes a node, and tells its path, which ends in ten digits more where it is sequential.
@@ -104,7 +104,7 @@ macro_rules! calls {
         /// As [`call`](Self::call): of the server [`Code::NODE_EXISTS`](crate::Code::NODE_EXISTS), and where the parent is not there
         /// [`Code::NO_NODE`](crate::Code::NO_NODE).
         pub fn create($($receiver)+, path: &str, data: &[u8], mode: Mode) -> Result<String, Error> {
-            $this.call(Request::create(path, data, mode))
+            $this.call_lent(LentRequest::create(path, data, mode))
         }
 
         /// Makes a node with this ACL, as [`Request::create_with_acls`] says. As [`create`](Self::create) otherwise.
@@ -278,7 +278,7 @@ macro_rules! calls {
         /// As [`call`](Self::call): of the server [`Code::NO_NODE`](crate::Code::NO_NODE), [`Code::BAD_VERSION`](crate::Code::BAD_VERSION)
         /// and [`Code::NOT_EMPTY`](crate::Code::NOT_EMPTY).
         pub fn delete($($receiver)+, path: &str, version: i32) -> Result<(), Error> {
-            $this.call(Request::delete(path, version))
+            $this.call_lent(LentRequest::delete(path, version))
         }
     };
 }

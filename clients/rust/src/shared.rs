@@ -6,7 +6,7 @@ use crate::fault::Fault;
 use crate::moment::{Clock, Moment};
 use crate::notify::Notify;
 use crate::outbox::{Outbox, Writer, Written};
-use crate::request::Request;
+use crate::request::{Asking, Request};
 use crate::stats::{Observation, Observer};
 use crate::ticket::{AskedCall, CallLimit, CallResult, ExpireCalls, Slot, Ticket};
 use std::collections::HashMap;
@@ -74,58 +74,68 @@ impl Shared {
         self.clock
     }
 
-    /// Locks the engine. Whoever changes it goes on by [`with_locked`](Shared::with_locked).
+    /// Locks the engine. Whoever changes it goes on by [`release`](Shared::release).
+    #[inline]
     pub(crate) fn lock(&self) -> MutexGuard<'_, Engine> {
         self.engine.lock().unwrap_or_else(PoisonError::into_inner)
     }
 
-    /// Does something with the engine, and then hands out the answers.
-    pub(crate) fn with<R>(&self, act: impl FnOnce(&mut Engine) -> R) -> R {
-        self.with_locked(self.lock(), act)
+    /// The same for bytes, of which a step may take long: after the look-ups that wait by now, so that none waits for two such steps.
+    #[inline]
+    pub(crate) fn lock_after_looks(&self) -> MutexGuard<'_, Engine> {
+        drop(self.looks.write());
+        self.lock()
     }
 
-    /// The same with the engine that is locked already.
-    pub(crate) fn with_locked<R>(
-        &self,
-        mut engine: MutexGuard<'_, Engine>,
-        act: impl FnOnce(&mut Engine) -> R,
-    ) -> R {
+    /// Does something with the engine, and then hands out the answers.
+    pub(crate) fn with<R>(&self, act: impl FnOnce(&mut Engine) -> R) -> R {
+        let mut engine = self.lock();
         let result = act(&mut engine);
-        engine.update_trees();
-        self.hand_out(engine);
+        self.release(engine);
         result
     }
 
-    /// The same with bytes, of which a step may take long: after the look-ups that wait by now, so that none waits for two such steps.
-    pub(crate) fn with_after_looks<R>(&self, act: impl FnOnce(&mut Engine) -> R) -> R {
-        drop(self.looks.write());
-        self.with(act)
-    }
-
-    /// How the call ends that a session without a thread has asked, if it has ended by now.
+    /// How the call has ended, by now, that a session without a thread has asked.
     #[inline]
-    pub(crate) fn take_alone(&self, call: &AskedCall, now: Instant) -> Option<CallResult> {
-        let mut engine = self.lock();
-        let ending = engine.take_alone(call, now)?;
+    pub(crate) fn take_alone<'a>(
+        &'a self,
+        mut engine: MutexGuard<'a, Engine>,
+        call: &AskedCall<'_>,
+        now: Duration,
+    ) -> CallResult {
+        engine.note_alone(call, now);
         if self.observer.is_some() {
-            self.hand_out(engine);
+            self.release(engine);
+            engine = self.lock();
         }
-        Some(ending)
+        engine.take_alone(call)
     }
 
     /// Releases the engine, so that a woken thread can have it, then writes frames and hands out answers.
-    fn hand_out(&self, mut engine: MutexGuard<'_, Engine>) {
+    #[inline]
+    pub(crate) fn release(&self, mut engine: MutexGuard<'_, Engine>) {
+        engine.update_trees();
         let outbox = engine.take_to_write();
-        let news = engine.take_news();
+        if engine.may_have_news() {
+            return self.hand_out(engine, outbox);
+        }
         drop(engine);
-        let observed = news.as_ref().map(|news| self.observe(&news.seen));
         if let Some(outbox) = outbox {
             self.write(&outbox, self.writer, Duration::ZERO);
         }
-        if let Some(news) = news {
-            self.tell(news);
+    }
+
+    /// The same where there may be something to be told.
+    #[inline(never)]
+    fn hand_out(&self, mut engine: MutexGuard<'_, Engine>, outbox: Option<Arc<Outbox>>) {
+        let news = engine.take_news();
+        drop(engine);
+        let observed = self.observe(&news.seen);
+        if let Some(outbox) = outbox {
+            self.write(&outbox, self.writer, Duration::ZERO);
         }
-        if let Some(Err(panic)) = observed {
+        self.tell(news);
+        if let Err(panic) = observed {
             if !thread::panicking() {
                 resume_unwind(panic);
             }
@@ -200,7 +210,15 @@ impl Shared {
         };
         let written = outbox.write(writer, wait);
         guard.is_done = true;
-        let is_full = match written {
+        let is_full = written != Written::All && self.is_filled(outbox, written);
+        self.is_full.store(is_full, Ordering::Relaxed);
+        is_full
+    }
+
+    /// A write has not written all. Whether something waits for room still.
+    #[cold]
+    fn is_filled(&self, outbox: &Arc<Outbox>, written: Written) -> bool {
+        match written {
             Written::All => false,
             Written::Some => true,
             Written::WantsHelper => self.begin_to_help(outbox),
@@ -208,9 +226,7 @@ impl Shared {
                 self.with(|engine| engine.is_broken(outbox));
                 false
             }
-        };
-        self.is_full.store(is_full, Ordering::Relaxed);
-        is_full
+        }
     }
 
     /// A thread of its own writes what there is no room for, until nothing waits. If the system makes none, the connection is over.
@@ -231,9 +247,11 @@ impl Shared {
     /// Writes on for a while, in a session without helpers. Whether something waits for room still.
     #[inline]
     pub(crate) fn writes_on(&self) -> bool {
-        if self.writer != Writer::Alone || !self.is_full.load(Ordering::Relaxed) {
-            return false;
-        }
+        self.writer == Writer::Alone && self.is_full.load(Ordering::Relaxed) && self.goes_on()
+    }
+
+    #[cold]
+    fn goes_on(&self) -> bool {
         let unwritten = self.look(Engine::unwritten);
         unwritten.is_some_and(|outbox| self.write(&outbox, Writer::Alone, WAIT_FOR_ROOM))
     }
@@ -347,10 +365,14 @@ impl ExpireCalls for Shared {
 }
 
 /// Asks a request of a session: the ticket for its answer.
-pub(crate) fn ask<T>(shared: &Arc<Shared>, request: Request<T>) -> Ticket<T> {
-    let slot = Slot::new(request.path, &request.call);
-    let now = shared.clock().at(slot.call().at());
-    let wait = shared.with(|engine| engine.ask(now, request.call, request.limit, &slot));
+pub(crate) fn ask<T>(shared: &Arc<Shared>, mut request: Request<T>) -> Ticket<T> {
+    let path = mem::take(&mut request.path);
+    let asking = request.lend().asking;
+    let slot = Slot::new(path, asking.call, shared.clock());
+    let path = slot.call().path();
+    let asking = Asking { path, ..asking };
+    let now = Moment::after(slot.call().at());
+    let wait = shared.with(|engine| engine.ask(now, &asking, &slot));
     if wait.is_to_wake {
         shared.wake();
     }
@@ -403,13 +425,13 @@ mod tests {
                 }
             });
             for round in 0..ROUNDS {
-                shared.with_after_looks(|_| {
-                    before.set(before.get() + usize::from(looked.load(Ordering::SeqCst) == round));
-                    look.send(()).unwrap();
-                    while shared.looks.try_write().is_ok() {
-                        thread::yield_now(); // until it waits
-                    }
-                });
+                let engine = shared.lock_after_looks();
+                before.set(before.get() + usize::from(looked.load(Ordering::SeqCst) == round));
+                look.send(()).unwrap();
+                while shared.looks.try_write().is_ok() {
+                    thread::yield_now(); // until it waits
+                }
+                shared.release(engine);
             }
         });
         assert_eq!(before.get(), ROUNDS);

@@ -4,12 +4,12 @@ use crate::error::ErrorKind;
 use crate::fault::{Code, NoReply};
 use crate::output::Cause;
 use crate::raw::RawCall;
-use crate::request::{Call, CoreCall};
-use crate::ticket::{AskedCall, CallResult};
+use crate::request::{CoreCall, LentCall};
+use crate::ticket::{AskedCall, Ending};
 use std::fmt::{self, Write as _};
 use std::mem;
 use std::sync::Arc;
-use std::time::{Duration, Instant};
+use std::time::Duration;
 
 /// Names of the variants of an enum, as metrics have them, in their order.
 macro_rules! named {
@@ -107,17 +107,17 @@ named! {
 }
 
 impl CallKind {
-    pub(crate) fn of(call: &Call) -> CallKind {
+    pub(crate) fn of(call: LentCall<'_>) -> CallKind {
         match call {
-            Call::Core(CoreCall::Exists(_)) => CallKind::Exists,
-            Call::Core(CoreCall::Data(_)) => CallKind::Get,
-            Call::Core(CoreCall::Children(_)) => CallKind::Children,
-            Call::Core(CoreCall::Set { .. }) => CallKind::Set,
-            Call::Core(CoreCall::Create { .. }) => CallKind::Create,
-            Call::Core(CoreCall::Delete { .. }) => CallKind::Delete,
-            Call::Core(CoreCall::Close) => CallKind::Close,
-            Call::Raw(call) => CallKind::of_raw(call),
-            Call::Auth(_) => CallKind::Other,
+            LentCall::Core(CoreCall::Exists(_)) => CallKind::Exists,
+            LentCall::Core(CoreCall::Data(_)) => CallKind::Get,
+            LentCall::Core(CoreCall::Children(_)) => CallKind::Children,
+            LentCall::Core(CoreCall::Set { .. }) => CallKind::Set,
+            LentCall::Core(CoreCall::Create { .. }) => CallKind::Create,
+            LentCall::Core(CoreCall::Delete { .. }) => CallKind::Delete,
+            LentCall::Core(CoreCall::Close) => CallKind::Close,
+            LentCall::Raw(call) => CallKind::of_raw(call),
+            LentCall::Auth(_) => CallKind::Other,
         }
     }
 
@@ -133,19 +133,19 @@ impl CallKind {
 }
 
 impl CallOutcome {
-    pub(crate) fn of(kind: Option<&ErrorKind>) -> CallOutcome {
+    /// What has come of a call that fails so.
+    pub(crate) fn of(kind: &ErrorKind) -> CallOutcome {
         match kind {
-            None => CallOutcome::Ok,
-            Some(ErrorKind::Server(_) | ErrorKind::RolledBack { .. }) => CallOutcome::Refused,
-            Some(ErrorKind::TimedOut) => CallOutcome::Late,
-            Some(ErrorKind::NoReply(reason)) => match reason {
+            ErrorKind::Server(_) | ErrorKind::RolledBack { .. } => CallOutcome::Refused,
+            ErrorKind::TimedOut => CallOutcome::Late,
+            ErrorKind::NoReply(reason) => match reason {
                 NoReply::ConnectionLoss => CallOutcome::Lost,
                 NoReply::SessionExpired => CallOutcome::Expired,
                 NoReply::SessionClosed => CallOutcome::Closed,
                 NoReply::NotConnected | NoReply::TooManyPending => CallOutcome::NotConnected,
                 _ => CallOutcome::NotAsked,
             },
-            Some(_) => CallOutcome::NotAsked,
+            _ => CallOutcome::NotAsked,
         }
     }
 }
@@ -228,6 +228,21 @@ const BOUNDS: [(Duration, &str); 13] = [
     (Duration::from_secs(10), "10"),
 ];
 
+/// The place of the least bound that such a time does not pass: most do not pass the first one.
+#[inline]
+fn place_of(took: Duration) -> usize {
+    if took <= BOUNDS[0].0 {
+        return 0;
+    }
+    later_place_of(took)
+}
+
+#[cold]
+fn later_place_of(took: Duration) -> usize {
+    let place = BOUNDS.iter().position(|(bound, _)| took <= *bound);
+    place.unwrap_or(BOUNDS.len())
+}
+
 /// How long calls took.
 #[derive(Clone, Copy, Debug, Default, PartialEq, Eq)]
 pub struct Histogram {
@@ -237,9 +252,9 @@ pub struct Histogram {
 }
 
 impl Histogram {
+    #[inline]
     fn note(&mut self, took: Duration) {
-        let place = BOUNDS.iter().position(|(bound, _)| took <= *bound);
-        self.within[place.unwrap_or(BOUNDS.len())] += 1;
+        self.within[place_of(took)] += 1;
         self.sum += took;
     }
 
@@ -504,7 +519,7 @@ impl Tally {
 
     /// A call has ended so, by now.
     #[inline]
-    pub(crate) fn note_call(&mut self, call: &AskedCall, ending: &CallResult, now: Instant) {
+    pub(crate) fn note_call(&mut self, call: &AskedCall<'_>, ending: Ending<'_>, now: Duration) {
         let (kind, outcome, took) = call.came(ending, now);
         self.stats.note_answer(kind, outcome, took);
         if self.is_observed {
@@ -513,6 +528,7 @@ impl Tally {
     }
 
     /// The observer is to be told.
+    #[cold]
     fn tell(&mut self, seen: Observation) {
         self.seen.push(seen);
     }

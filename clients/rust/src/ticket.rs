@@ -4,8 +4,9 @@ use crate::answer::{Answer, Outcome};
 use crate::error::{Error, ErrorKind, Search};
 use crate::moment::{Clock, Moment};
 use crate::notify::Notify;
-use crate::request::Call;
+use crate::request::LentCall;
 use crate::stats::{CallKind, CallOutcome, Observation};
+use std::borrow::Cow;
 use std::fmt;
 use std::future::Future;
 use std::pin::Pin;
@@ -37,57 +38,75 @@ impl Stage {
 /// How a call ends.
 pub(crate) type CallResult = Result<Answer, Error>;
 
+/// What is noted of that: the zxid of the answer, or why there is none.
+pub(crate) type Ending<'a> = Result<i64, &'a ErrorKind>;
+
 /// A call that is asked: what it is about, and when that was.
 #[derive(Debug)]
-pub(crate) struct AskedCall {
-    path: String,
+pub(crate) struct AskedCall<'a> {
+    path: Cow<'a, str>,
     has_node: bool,
     kind: CallKind,
-    at: Instant,
+    clock: Clock,
+    /// How long the clock had run then.
+    at: Duration,
 }
 
-impl AskedCall {
-    /// This call, which is asked now at this path.
+impl<'a> AskedCall<'a> {
+    /// This call, which is asked now at this path, by the clock of its session.
     #[inline]
-    pub(crate) fn now(path: String, call: &Call) -> AskedCall {
+    pub(crate) fn now(path: Cow<'a, str>, call: LentCall<'_>, clock: Clock) -> AskedCall<'a> {
         AskedCall {
             path,
             has_node: call.has_node(),
             kind: CallKind::of(call),
-            at: Instant::now(),
+            clock,
+            at: clock.passed(),
         }
     }
 
     /// How the call ends with this outcome, after this search for a server where there was one.
     #[inline]
     pub(crate) fn ending(&self, outcome: Outcome, search: Option<&Search>) -> CallResult {
-        outcome.map_err(|kind| {
-            let error = Error::about(self.node(), kind);
-            match search {
-                Some(search) => error.after(search, self.at.elapsed()),
-                None => error,
-            }
-        })
+        match outcome {
+            Ok(answer) => Ok(answer),
+            Err(kind) => Err(self.error(kind, search)),
+        }
     }
 
-    /// What the call was about, what has come of it by this ending, and the time since it was asked.
+    /// The error of the call that fails so, after that search.
+    #[cold]
+    pub(crate) fn error(&self, kind: ErrorKind, search: Option<&Search>) -> Error {
+        let error = Error::about(self.node(), kind);
+        match search {
+            Some(search) => error.after(search, self.clock.passed().saturating_sub(self.at)),
+            None => error,
+        }
+    }
+
+    /// What the call was about, what has come of it by this ending, and the time since it was asked. The clock has run for so long.
     #[inline]
     pub(crate) fn came(
         &self,
-        ending: &CallResult,
-        now: Instant,
+        ending: Ending<'_>,
+        now: Duration,
     ) -> (CallKind, CallOutcome, Duration) {
-        let outcome = CallOutcome::of(ending.as_ref().err().map(Error::kind));
-        (self.kind, outcome, now.saturating_duration_since(self.at))
+        let outcome = match ending {
+            Ok(_) => CallOutcome::Ok,
+            Err(kind) => CallOutcome::of(kind),
+        };
+        (self.kind, outcome, now.saturating_sub(self.at))
     }
 
     /// What is observed of the call by that ending.
-    pub(crate) fn observed(&self, ending: &CallResult, now: Instant) -> Observation {
+    #[inline(never)]
+    pub(crate) fn observed(&self, ending: Ending<'_>, now: Duration) -> Observation {
         let (kind, outcome, took) = self.came(ending, now);
         let path = self.node().map(String::from);
         let (code, zxid) = match ending {
-            Ok(found) => (None, found.zxid),
-            Err(error) => (error.code(), 0),
+            Ok(zxid) => (None, zxid),
+            Err(ErrorKind::Server(code)) => (Some(*code), 0),
+            Err(_) => (None, 0),
         };
         Observation::Answered {
             kind,
@@ -105,11 +124,11 @@ impl AskedCall {
 
     /// The path of the node that the call is about. None where it is about no node.
     fn node(&self) -> Option<&str> {
-        self.has_node.then_some(self.path.as_str())
+        self.has_node.then_some(self.path())
     }
 
-    /// When that was.
-    pub(crate) fn at(&self) -> Instant {
+    /// When that was, as the time for which the clock had run.
+    pub(crate) fn at(&self) -> Duration {
         self.at
     }
 }
@@ -117,22 +136,22 @@ impl AskedCall {
 /// Where the answer to a call is put.
 #[derive(Debug)]
 pub(crate) struct Slot {
-    call: AskedCall,
+    call: AskedCall<'static>,
     stage: Mutex<Stage>,
     answered: Notify,
 }
 
 impl Slot {
-    /// Of this call, which is asked now at this path.
-    pub(crate) fn new(path: String, call: &Call) -> Arc<Slot> {
+    /// Of this call, which is asked now at this path, by the clock of its session.
+    pub(crate) fn new(path: String, call: LentCall<'_>, clock: Clock) -> Arc<Slot> {
         Arc::new(Slot {
-            call: AskedCall::now(path, call),
+            call: AskedCall::now(path.into(), call, clock),
             stage: Mutex::default(),
             answered: Notify::default(),
         })
     }
 
-    pub(crate) fn call(&self) -> &AskedCall {
+    pub(crate) fn call(&self) -> &AskedCall<'static> {
         &self.call
     }
 
@@ -147,8 +166,12 @@ impl Slot {
     }
 
     /// Looks at the answer that is put there and is not told yet.
-    pub(crate) fn with_ending<R>(&self, look: impl FnOnce(&CallResult) -> R) -> Option<R> {
-        self.stage().ending.as_ref().map(look)
+    pub(crate) fn with_ending<R>(&self, look: impl FnOnce(Ending<'_>) -> R) -> Option<R> {
+        let stage = self.stage();
+        let ending = stage.ending.as_ref()?;
+        Some(look(
+            ending.as_ref().map(|found| found.zxid).map_err(Error::kind),
+        ))
     }
 
     /// The answer may be taken: wakes who waits for it.

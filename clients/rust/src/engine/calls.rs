@@ -1,22 +1,17 @@
 //! New calls: their limits, and the refusals before the machine gets them.
 
+use super::deadline::UNCOUNTED;
 use super::Engine;
 use crate::error::ErrorKind;
 use crate::moment::Moment;
 use crate::raw::RawCall;
-use crate::request::{Call, CoreCall};
+use crate::request::{Asking, LentCall};
 use crate::ticket::Slot;
 use std::sync::Arc;
 use std::time::Duration;
 
-/// The least limit of a call that has none of its own: that of an attempt to connect.
-const SHORTEST_PATIENCE: Duration = Duration::from_secs(1);
-
 /// The longest wait of a close for a server that accepts the session. Without it the session ends by its timeout.
 const LONGEST_CLOSE: Duration = Duration::from_secs(1);
-
-/// What a moment does not count of an instant, and a limit of a duration: less than a millisecond each.
-const UNCOUNTED: Duration = Duration::from_nanos(1_999_999);
 
 /// The most unwritten bytes of a connection at which a new call is taken.
 const MOST_UNWRITTEN: usize = 16 * 1_048_576;
@@ -32,72 +27,60 @@ pub(crate) struct Wait {
 
 impl Engine {
     /// Asks a call, at the moment that its slot was made. Its answer comes there.
-    pub(crate) fn ask(
-        &mut self,
-        now: Moment,
-        call: Call,
-        limit: Option<Duration>,
-        slot: &Arc<Slot>,
-    ) -> Wait {
+    pub(crate) fn ask(&mut self, now: Moment, asking: &Asking<'_>, slot: &Arc<Slot>) -> Wait {
         let ticket = self.calls.begin(Arc::clone(slot));
-        self.ask_by(now, ticket, call, limit, slot.call().path())
+        let is_to_wake = self.outbox.is_none();
+        let until = self.ask_by(now, ticket, asking);
+        Wait { until, is_to_wake }
     }
 
-    /// The same, at this path, of a session that asks one call at a time. Its answer waits to be taken.
-    pub(crate) fn ask_alone(
-        &mut self,
-        now: Moment,
-        call: Call,
-        limit: Option<Duration>,
-        path: &str,
-    ) {
+    /// The same, of a session that asks one call at a time. Its answer waits to be taken.
+    pub(crate) fn ask_alone(&mut self, now: Moment, asking: &Asking<'_>) {
         let ticket = self.calls.begin_alone();
-        self.ask_by(now, ticket, call, limit, path);
+        self.ask_by(now, ticket, asking);
     }
 
-    fn ask_by(
-        &mut self,
-        now: Moment,
-        ticket: u64,
-        call: Call,
-        limit: Option<Duration>,
-        path: &str,
-    ) -> Wait {
-        let until = self.limit_of(&call, limit, now);
-        let wait = Wait {
-            until,
-            is_to_wake: self.outbox.is_none(),
-        };
-        let of_backlog = || self.refusal_of_backlog(&call);
-        let put = match self.refusal_of_all().or_else(of_backlog) {
+    /// Asks a call by this ticket. To which moment it waits.
+    fn ask_by(&mut self, now: Moment, ticket: u64, asking: &Asking<'_>) -> Moment {
+        let until = self.limit_of(asking, now);
+        let put = match self.refusal(asking.call) {
             Some(refusal) => Err(refusal),
-            None => self.put(self.before_due(now), ticket, until, path, call),
+            None => self.put(self.before_due(now), ticket, until, asking),
         };
         if let Err(kind) = put {
             self.calls.end(ticket, Err(kind));
         }
-        wait
+        until
+    }
+
+    /// Why this call is refused. None, without a look at the reasons, where all is as it mostly is.
+    #[inline]
+    fn refusal(&self, call: LentCall<'_>) -> Option<ErrorKind> {
+        if !self.is_over() && self.most_unwritten <= MOST_UNWRITTEN {
+            return None;
+        }
+        let of_backlog = || self.refusal_of_backlog(call);
+        self.refusal_of_all().or_else(of_backlog)
     }
 
     /// Why no call is asked while a server reads slowly. To end the session always may be.
-    fn refusal_of_backlog(&self, call: &Call) -> Option<ErrorKind> {
-        if self.most_unwritten <= MOST_UNWRITTEN {
-            return None;
-        }
+    #[cold]
+    fn refusal_of_backlog(&self, call: LentCall<'_>) -> Option<ErrorKind> {
         let waiting = self.outbox.as_ref().map_or(0, |outbox| outbox.waiting());
-        let is_refused = waiting > MOST_UNWRITTEN && !matches!(call, Call::Core(CoreCall::Close));
+        let is_refused = waiting > MOST_UNWRITTEN && !call.is_close();
         is_refused.then_some(ErrorKind::QueueFull)
     }
 
     /// The limit of a call: its own, else the session's, else the timeout. A close waits for a second at most while no server has accepted
     /// the session.
-    fn limit_of(&self, call: &Call, limit: Option<Duration>, now: Moment) -> Moment {
-        let patience = || self.machine.timeout().max(SHORTEST_PATIENCE);
-        let mut limit = limit.or(self.limit).unwrap_or_else(patience);
-        if matches!(call, Call::Core(CoreCall::Close)) && !self.is_connected() {
-            limit = limit.min(LONGEST_CLOSE);
+    fn limit_of(&self, asking: &Asking<'_>, now: Moment) -> Moment {
+        let after = |limit: Duration| now.saturating_add(limit.saturating_add(UNCOUNTED));
+        let limit = asking.limit.or(self.limit);
+        let until = limit.map_or_else(|| self.deadline.of_call(now), after);
+        if asking.call.is_close() && !self.is_connected() {
+            return until.min(after(LONGEST_CLOSE));
         }
-        now.saturating_add(limit.saturating_add(UNCOUNTED))
+        until
     }
 
     fn put(
@@ -105,45 +88,36 @@ impl Engine {
         now: Moment,
         ticket: u64,
         until: Moment,
-        path: &str,
-        call: Call,
+        asking: &Asking<'_>,
     ) -> Result<(), ErrorKind> {
-        match call {
-            Call::Core(core) => self.put_core(now, ticket, until, path, &core),
-            Call::Raw(raw) => self.put_raw(now, ticket, until, path, raw),
-            Call::Auth(credentials) => self.put_auth(ticket, until, credentials),
-        }
-    }
-
-    fn put_core(
-        &mut self,
-        now: Moment,
-        ticket: u64,
-        until: Moment,
-        path: &str,
-        call: &CoreCall,
-    ) -> Result<(), ErrorKind> {
+        let Asking { path, data, .. } = *asking;
+        let call = match asking.call {
+            LentCall::Core(call) => call,
+            LentCall::Raw(raw) => return self.put_raw(now, ticket, until, path, raw),
+            LentCall::Auth(credential) => return self.put_auth(ticket, until, credential.clone()),
+        };
         let path = self.chroot.outer(path)?;
-        if matches!(call, CoreCall::Close) {
+        if asking.call.is_close() {
             self.closing = Some(ticket);
         }
         self.plain_step(now, until, |machine, now| {
-            call.ask(machine, now, ticket, until, &path)
+            call.ask(machine, now, ticket, until, &path, data)
         })?;
         Ok(())
     }
 
+    #[inline(never)]
     fn put_raw(
         &mut self,
         now: Moment,
         ticket: u64,
         until: Moment,
         path: &str,
-        call: Box<RawCall>,
+        call: &Arc<RawCall>,
     ) -> Result<(), ErrorKind> {
         let body = call.spell(path, &self.chroot)?;
         let operation = call.operation();
-        self.calls.is_read_by(ticket, call);
+        self.calls.is_read_by(ticket, Arc::clone(call));
         self.plain_step(now, until, |machine, now| {
             machine.raw(now, ticket, Some(until), operation, &body)
         })?;

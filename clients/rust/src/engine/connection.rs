@@ -80,9 +80,11 @@ impl Engine {
 
     fn hand_in_all(&mut self, now: Moment, bytes: &[u8]) -> Result<(), Fault> {
         let now = self.before_due(now);
-        let actions = self.machine.bytes(now, bytes);
-        let taken = actions.and_then(|actions| self.dispatcher.dispatch(actions));
+        let taken = self.sort(now, |machine, now| machine.bytes(now, bytes));
         self.note_plain_step(now, NEVER);
+        if taken.is_ok() && self.is_plain() {
+            return self.settle_plain();
+        }
         // Nothing is due at this moment, so the machine does not leave for a missing answer.
         self.dispatcher.lacks_no_answer();
         if taken.is_err() {

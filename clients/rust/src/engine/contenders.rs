@@ -81,6 +81,11 @@ pub(crate) struct Contenders {
 }
 
 impl Contenders {
+    /// Whether something was told since `takes_news` was asked.
+    pub(crate) fn is_news(&self) -> bool {
+        self.is_news
+    }
+
     /// Whether something was told since this was asked.
     pub(crate) fn takes_news(&mut self) -> bool {
         mem::take(&mut self.is_news)

@@ -12,6 +12,7 @@ use crate::stats::ConnectionEnd;
 
 impl Engine {
     /// Sends a credential to the server, now and on each later connection. The call ends with the first answer.
+    #[cold]
     pub(super) fn put_auth(
         &mut self,
         ticket: u64,

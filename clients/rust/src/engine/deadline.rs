@@ -8,6 +8,12 @@ use std::time::Duration;
 /// The longest time after a step within which nothing is due that the step has brought.
 const LONGEST_REST: Duration = Duration::from_millis(500);
 
+/// The least limit of a call that has none of its own: that of an attempt to connect.
+const SHORTEST_PATIENCE: Duration = Duration::from_secs(1);
+
+/// What a moment does not count of an instant, and a limit of a duration: less than a millisecond each.
+pub(super) const UNCOUNTED: Duration = Duration::from_nanos(1_999_999);
+
 /// The moment that never comes.
 pub(crate) const NEVER: Moment = Moment::from_millis(u64::MAX);
 
@@ -18,32 +24,53 @@ pub(super) struct Deadline {
     first: Cell<Moment>,
     /// Whether something is due at it.
     is_known: Cell<bool>,
-    /// For how long after a plain step nothing is due that this has brought.
-    rest: Duration,
+    /// For how long after a plain step nothing is due that this has brought, in milliseconds.
+    rest: u64,
+    /// How long a call waits that has no limit of its own, in milliseconds.
+    patience: u64,
 }
 
 impl Deadline {
+    /// Of a session with this timeout.
+    pub(super) fn of(timeout: Duration) -> Deadline {
+        let patience = timeout.max(SHORTEST_PATIENCE).saturating_add(UNCOUNTED);
+        Deadline {
+            rest: Moment::after(LONGEST_REST.min(timeout / 10)).as_millis(),
+            patience: Moment::after(patience).as_millis(),
+            ..Deadline::default()
+        }
+    }
+
+    /// The limit of a call that is asked now, and has none of its own: it waits for the timeout.
+    pub(super) fn of_call(&self, now: Moment) -> Moment {
+        Moment::from_millis(now.as_millis().saturating_add(self.patience))
+    }
+
     /// A moment before which nothing is due. It is after this one, unless something is due by then.
+    #[inline]
     pub(super) fn at(&self, now: Moment, machine: &Machine) -> Moment {
         if self.first.get() <= now && !self.is_known.get() {
-            self.first.set(machine.deadline().unwrap_or(NEVER));
-            self.is_known.set(true);
+            self.learn(machine);
         }
         self.first.get()
     }
 
+    #[cold]
+    fn learn(&self, machine: &Machine) {
+        self.first.set(machine.deadline().unwrap_or(NEVER));
+        self.is_known.set(true);
+    }
+
     /// Nothing is known of it, of a session with this timeout.
+    #[cold]
     pub(super) fn forget(&mut self, timeout: Duration) {
-        *self = Deadline {
-            rest: LONGEST_REST.min(timeout / 10),
-            ..Deadline::default()
-        };
+        *self = Deadline::of(timeout);
     }
 
     /// The machine has made a step that has brought answers and frames alone: what these make due is due after a third of the timeout, and
     /// what is asked again after a second, or later. At this moment it is the limit of a call.
     pub(super) fn note_plain_step(&mut self, now: Moment, limit: Moment) {
-        let rest = now.saturating_add(self.rest);
+        let rest = Moment::from_millis(now.as_millis().saturating_add(self.rest));
         let first = self.first.get().min(rest).min(limit);
         self.first.set(first);
         self.is_known.set(false);

@@ -32,24 +32,37 @@ impl Engine {
     where
         F: for<'a> FnOnce(&'a mut Machine, Moment) -> Result<Actions<'a>, Fault>,
     {
-        let actions = step(&mut self.machine, now);
-        let taken = actions.and_then(|actions| self.dispatcher.dispatch(actions));
+        let taken = self.sort(now, step);
         self.deadline.forget(self.machine.timeout());
         self.settle(now, taken)
     }
 
     /// The same of a call that waits to this moment at most, or of bytes.
+    #[inline]
     pub(super) fn plain_step<F>(&mut self, now: Moment, until: Moment, step: F) -> Result<(), Fault>
     where
         F: for<'a> FnOnce(&'a mut Machine, Moment) -> Result<Actions<'a>, Fault>,
     {
-        let actions = step(&mut self.machine, now);
-        let taken = actions.and_then(|actions| self.dispatcher.dispatch(actions));
+        let taken = self.sort(now, step);
         self.note_plain_step(now, until);
+        if taken.is_ok() && self.is_plain() {
+            return self.settle_plain();
+        }
         self.settle(now, taken)
     }
 
+    /// Takes a step, and sorts what the machine says.
+    #[inline]
+    pub(super) fn sort<F>(&mut self, now: Moment, step: F) -> Result<(), Fault>
+    where
+        F: for<'a> FnOnce(&'a mut Machine, Moment) -> Result<Actions<'a>, Fault>,
+    {
+        let actions = step(&mut self.machine, now)?;
+        self.dispatcher.dispatch(actions, &mut self.calls)
+    }
+
     /// The machine has taken a call that waits to this moment at most, or bytes.
+    #[inline]
     pub(super) fn note_plain_step(&mut self, now: Moment, until: Moment) {
         if self.dispatcher.update.is_some() {
             return self.deadline.forget(self.machine.timeout());
@@ -57,18 +70,23 @@ impl Engine {
         self.deadline.note_plain_step(now, until);
     }
 
-    /// Does what the machine has said at a step, in its order. It closes the connection if the machine says so, or has halted.
-    pub(super) fn settle(&mut self, now: Moment, taken: Result<(), Fault>) -> Result<(), Fault> {
-        let is_plain = self.dispatcher.update.is_none() && self.recorder.is_none();
-        if is_plain && taken.is_ok() && !self.is_over() && self.contenders.is_empty() {
-            self.send();
-            return self.hand_out_answers();
-        }
-        self.settle_all(now, taken)
+    /// Whether a step that has not failed has brought answers and frames alone, and nobody else looks at what it does.
+    #[inline]
+    pub(super) fn is_plain(&self) -> bool {
+        let is_told = self.dispatcher.update.is_none() && self.recorder.is_none();
+        is_told && self.contenders.is_empty() && !self.is_over()
     }
 
-    /// The same after a step that has changed the session, or failed, or is recorded.
-    fn settle_all(&mut self, now: Moment, taken: Result<(), Fault>) -> Result<(), Fault> {
+    /// Does what the machine has said at such a step.
+    #[inline]
+    pub(super) fn settle_plain(&mut self) -> Result<(), Fault> {
+        self.send();
+        self.hand_out_answers()
+    }
+
+    /// Does what the machine has said at any step, in its order. It closes the connection if the machine says so, or has halted.
+    #[cold]
+    pub(super) fn settle(&mut self, now: Moment, taken: Result<(), Fault>) -> Result<(), Fault> {
         if let Some(recorder) = &mut self.recorder {
             recorder.at(now);
         }
@@ -191,8 +209,9 @@ impl Engine {
     }
 
     /// Hands out answers. Where one does not parse, the connection ends.
+    #[inline]
     fn hand_out_answers(&mut self) -> Result<(), Fault> {
-        if self.end_answered() {
+        if !self.dispatcher.answers.is_empty() && self.end_answered() {
             self.ending = Some(ConnectionEnd::Unreadable);
             return self.end();
         }
@@ -200,6 +219,7 @@ impl Engine {
     }
 
     /// Hands out answers. Whether one does not parse, so that the connection has to end: its call may have happened.
+    #[inline(never)]
     fn end_answered(&mut self) -> bool {
         let mut is_end = false;
         while let Some((ticket, outcome)) = self.dispatcher.answers.pop_front() {
@@ -209,9 +229,17 @@ impl Engine {
     }
 
     /// Sends the frames of the machine, if there is a connection.
+    #[inline]
     fn send(&mut self) {
+        if !self.dispatcher.frames.is_empty() {
+            self.send_frames();
+        }
+    }
+
+    #[inline(never)]
+    fn send_frames(&mut self) {
         let frames = &mut self.dispatcher.frames;
-        if let Some(outbox) = self.outbox.as_ref().filter(|_| !frames.is_empty()) {
+        if let Some(outbox) = &self.outbox {
             if let Some(recorder) = &mut self.recorder {
                 recorder.sent(frames);
             }

@@ -55,6 +55,11 @@ impl Subjects {
         }
     }
 
+    /// Whether there were updates since the last call of `takes_updates`.
+    pub(crate) fn has_updates(&self) -> bool {
+        self.has_updates
+    }
+
     /// Whether there were updates since the last call of this.
     pub(crate) fn takes_updates(&mut self) -> bool {
         mem::take(&mut self.has_updates)

@@ -9,6 +9,7 @@ use crate::dispatch::{SubjectUpdate, TreeUpdate};
 use crate::jute::Writer;
 use crate::machine::Limits;
 use crate::machine::State;
+use crate::moment::Moment;
 use crate::node::ANY_VERSION;
 use crate::request::Request;
 use std::io;
@@ -80,10 +81,11 @@ fn connect(engine: &mut Engine) {
     open(engine);
 }
 
-fn ask<T>(engine: &mut Engine, request: Request<T>) -> Arc<Slot> {
-    let slot = Slot::new(request.path, &request.call);
-    let now = engine.clock.at(slot.call().at());
-    engine.ask(now, request.call, request.limit, &slot);
+fn ask<T>(engine: &mut Engine, request: &Request<T>) -> Arc<Slot> {
+    let asking = request.lend().asking;
+    let slot = Slot::new(String::from(asking.path), asking.call, engine.clock);
+    let now = Moment::after(slot.call().at());
+    engine.ask(now, &asking, &slot);
     slot
 }
 
@@ -109,19 +111,19 @@ fn a_library_of_another_version_ends_a_session_in_words() {
     assert_eq!(settled, Err(fault.clone()));
     assert!(engine.is_over());
     assert_eq!(engine.halt(), Err(fault.clone()));
-    let slot = ask(&mut engine, Request::get("/a"));
+    let slot = ask(&mut engine, &Request::get("/a"));
     assert_eq!(fault_of(&mut engine, &slot).kind(), &fault.into());
 }
 
 #[test]
 fn a_session_that_has_halted_goes_on_where_it_is_renewed() {
     let mut engine = connected();
-    let slot = ask(&mut engine, Request::get("/a"));
+    let slot = ask(&mut engine, &Request::get("/a"));
     let settled = engine.settle(NEVER, Err(Fault::Halted));
     assert_eq!(settled, Err(Fault::Halted));
     assert_eq!(plan(&engine), Plan::Rest(NEVER));
     assert!(fault_of(&mut engine, &slot).may_have_happened());
-    let slot = ask(&mut engine, Request::get("/a"));
+    let slot = ask(&mut engine, &Request::get("/a"));
     assert_eq!(fault_of(&mut engine, &slot).kind(), &Fault::Halted.into());
     engine.renew().unwrap();
     let saved = engine.machine().saved().unwrap();
@@ -169,7 +171,7 @@ fn what_there_was_no_memory_for_is_handed_in_again() {
 #[test]
 fn why_a_connection_is_left_is_told() {
     let mut engine = connected();
-    let slot = ask(&mut engine, Request::set_acls("/", &[], ANY_VERSION));
+    let slot = ask(&mut engine, &Request::set_acls("/", &[], ANY_VERSION));
     let begun = engine.clock.now();
     let after = |millis| begun.saturating_add(Duration::from_millis(millis));
     let mut notice = Writer::default();
@@ -184,7 +186,7 @@ fn why_a_connection_is_left_is_told() {
     assert!(!engine.is_open());
     let lost = ErrorKind::NoReply(NoReply::ConnectionLoss);
     assert_eq!(fault_of(&mut engine, &slot).kind(), &lost);
-    let slot = ask(&mut engine, Request::get("/a").within(Duration::ZERO));
+    let slot = ask(&mut engine, &Request::get("/a").within(Duration::ZERO));
     sleep(Duration::from_millis(2));
     engine.tick().unwrap();
     let told = fault_of(&mut engine, &slot).to_string();

@@ -110,8 +110,16 @@ impl Engine {
     }
 
     /// When a tree is to be copied, though nothing comes from the server.
+    #[inline]
     pub(super) fn tree_deadline(&self) -> Moment {
-        if self.trees.is_empty() || !self.may_look() {
+        if self.trees.is_empty() {
+            return NEVER;
+        }
+        self.deadline_of_trees()
+    }
+
+    fn deadline_of_trees(&self) -> Moment {
+        if !self.may_look() {
             return NEVER;
         }
         let deadlines = self.trees.values().filter_map(FollowedTree::deadline);
