@@ -20,6 +20,8 @@ use Rattle.zk_client.specs.FaultText.{outcome_words}
 use Rattle.script_words.specs.Values.{AreNames}
 use Rattle.script_words.specs.Lines.{line}
 use Rattle.script_words.specs.Words.{bytes_word, text_word}
+use Rattle.shell_words.specs.Objects.{data_members, field_members, text_members}
+use Rattle.shell_words.specs.Texts.{is_hidden, is_turning}
 use Rattle.shell_ask.specs.declared.plan.Form.{Form}
 use Rattle.shell_ask.specs.declared.plan.Form.TheVariants.{Plain, Hex, Raw, Quiet, Json}
 use Rattle.shell_ask.specs.declared.end.CallEnd.{CallEnd}
@@ -28,19 +30,9 @@ use Rattle.shell_ask.specs.Asking.{Coming, Answered, Late}
 
 -- ---- what is printed
 
--- A character that turns the direction of what is shown after it, or ends its line there: U+061C, U+200E, U+200F, U+2028 to U+202E, and
--- U+2066 to U+2069.
-abbrev pub is_turning : ℕ → Bool
-is_turning c =
-    nat_eq c 1564 || (nat_le 8206 c && nat_le c 8207) || (nat_le 8232 c && nat_le c 8238) || (nat_le 8294 c && nat_le c 8297)
-
 -- U+0000 to U+001F, U+007F to U+009F, and what turns the direction
 abbrev pub is_control : ℕ → Bool
 is_control c = (nat_le c 31 || (nat_le 127 c && nat_le c 159)) || is_turning c
-
--- a control character other than tab and newline, and what turns the direction
-abbrev pub is_hidden : ℕ → Bool
-is_hidden c = (nat_le c 8 || (nat_le 11 c && nat_le c 31) || (nat_le 127 c && nat_le c 159)) || is_turning c
 
 -- what stands before hex where a text could
 abbrev pub hex_mark : List ℕ
@@ -113,18 +105,6 @@ PrintsWords form chroot _ text = text ≡ []
 -- the line of an object of JSON with these members
 abbrev pub object_line : List json.Token → List ℕ
 object_line members = print (json.begin_object ∷ (members ++ json.end_object ∷ [])) ++ 10 ∷ []
-
-abbrev pub text_members : (name text : List ℕ) → List json.Token
-text_members name text = json.key name ∷ (json.string text ∷ [])
-
--- a text in UTF-8, else hex under another key, or null
-abbrev pub data_members : Option (List ℕ) → List json.Token
-data_members None = json.key (codes "data") ∷ (json.null ∷ [])
-data_members (Some bytes) =
-    if is_utf8 bytes then text_members (codes "data") bytes else text_members (codes "hex") (bytes_word (Some bytes))
-
-abbrev pub field_members : List (List ℕ × ℤ) → List json.Token
-field_members fields = flat_map (λ field. json.key field.0 ∷ (json.number (signed_decimal field.1) ∷ [])) fields
 
 -- data, and the fields of their node's Stat
 abbrev pub read_line : Option (List ℕ) → Stat → List ℕ

@@ -4,31 +4,17 @@ ghost use Rattle.std.specs.Prelude.{◌≡◌, ◌++◌, ◌||◌, nat_eq, chars
 ghost use Rattle.std.specs.Prelude.{string_bytes};
 ghost use Rattle.std.specs.List.{list_any, starts_with};
 ghost use Rattle.std.specs.Option.{option_map};
-ghost use Rattle.std.specs.Str.{is_utf8};
-ghost use Rattle.shell_ask.specs.Printing.{data_text, hex_line, hex_mark, is_hidden, is_text, plain_data};
+ghost use Rattle.shell_words.specs.Texts.{is_hidden};
+ghost use Rattle.shell_ask.specs.Printing.{data_text, hex_line, hex_mark, is_text, plain_data};
 
-use crate::names::is_turning;
 use crate::plan::Form;
 use script_words::values::push_data_word;
 use script_words::words::bytes_to_word;
+use shell_words::texts::{as_utf8, has_hidden};
 use std::alloc::{AllocError, Allocator};
 
 /// What stands before hex where a text could.
 const HEX_MARK: &str = "hex:";
-
-/// Whether a character is a control character other than tab and newline, or turns the direction.
-fn is_hidden(c: char) -> bool
-    ensures { result ≡ is_hidden c }
-{
-    matches!(c, '\0'..='\u{8}' | '\u{b}'..='\u{1f}' | '\u{7f}'..='\u{9f}') || is_turning(c)
-}
-
-/// Whether a text has such a character.
-fn has_hidden(text: &str) -> bool
-    ensures { result ≡ list_any is_hidden (chars text.now) }
-{
-    text.chars().any(is_hidden)
-}
 
 /// Whether a text begins as hex does.
 fn is_marked(text: &str) -> bool
@@ -42,16 +28,6 @@ fn is_hexed(text: &str) -> bool
     ensures { result ≡ (list_any is_hidden (chars text.now) || starts_with nat_eq text.now hex_mark) }
 {
     has_hidden(text) || is_marked(text)
-}
-
-/// The bytes as text, where they are UTF-8.
-pub(crate) fn as_utf8(bytes: &[u8]) -> Option<&str>
-    ensures { MatchOption result (is_utf8 bytes.now ≡ false) (λ text. (text.now ≡ bytes.now) × (is_utf8 bytes.now ≡ true)) }
-{
-    match str::from_utf8(bytes) {
-        Ok(text) => Some(text),
-        Err(_) => None,
-    }
 }
 
 /// The bytes as text, where they are UTF-8 and not to be told in hex.

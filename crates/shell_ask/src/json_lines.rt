@@ -1,84 +1,23 @@
 //! Answers as lines of JSON, an object a line.
 
-ghost use Rattle.std.specs.Prelude.{◌≡◌, ◌++◌, ◌∷◌, [], codes, IfOk, OnOk, map, string_bytes};
+ghost use Rattle.std.specs.Prelude.{◌≡◌, ◌++◌, codes, IfOk, OnOk, map, string_bytes};
 ghost use Rattle.std.specs.BTreeSet.{IsOrdered};
 ghost use Rattle.std.specs.FinSet as set;
 ghost use Rattle.std.specs.List.{flat_map};
 ghost use Rattle.std.specs.Option.{option_map};
 ghost use Rattle.std.specs.String.{string_cmp};
-ghost use Rattle.json.specs.Print.{print};
 ghost use Rattle.zk_client.specs.Views.{call_result_view};
-ghost use Rattle.shell_ask.specs.Printing.{data_members, field_members, fields_line, read_line, text_line, text_members, PrintsEach};
-ghost use Rattle.shell_ask.specs.Printing.{PrintsObjects};
+ghost use Rattle.shell_ask.specs.Printing.{fields_line, read_line, text_line, PrintsEach, PrintsObjects};
 
-use crate::data::as_utf8;
 use crate::fields::fields_of;
 use crate::names::below;
 use json::Writer;
 use script_replay::name_sets::set_of;
 use script_words::words::bytes_to_word;
+use shell_words::objects::{line_of, put_data, put_fields, put_text};
 use std::alloc::{AllocError, Allocator};
 use std::collections::BTreeSet;
 use zk_client::{CallResult, JoinedTexts, Stat};
-
-/// What a writer has written, and the end of its line.
-fn line_of<A: Allocator + Copy>(writer: Writer<A>) -> Result<Vec<u8, A>, AllocError>
-    ensures { IfOk result (λ line. line.items ≡ writer.before ++ (print writer.tokens ++ 10 ∷ [])) }
-{
-    let mut line = writer.into_inner();
-    line.push(b'\n')?;
-    Ok(line)
-}
-
-/// Writes a key and a text.
-fn put_text<A: Allocator + Copy>(
-    writer: &mut Writer<A>,
-    key: &str,
-    text: &str,
-) -> Result<(), AllocError>
-    ensures { OnOk result
-        ((writer.new.before ≡ writer.old.before) × (writer.new.tokens ≡ writer.old.tokens ++ text_members key.now text.now)) }
-{
-    writer.key(key)?;
-    writer.string(text)
-}
-
-/// Writes data: a text, or hex under another key, or null.
-fn put_data<A: Allocator + Copy>(
-    writer: &mut Writer<A>,
-    alloc: A,
-    bytes: &Option<Vec<u8, A>>,
-) -> Result<(), AllocError>
-    ensures { OnOk result ((writer.new.before ≡ writer.old.before)
-        × (writer.new.tokens ≡ writer.old.tokens ++ data_members (option_map (λ v. v.items) bytes.now))) }
-{
-    let Some(bytes) = bytes else {
-        writer.key("data")?;
-        return writer.null();
-    };
-    match as_utf8(bytes.as_slice()) {
-        Some(text) => put_text(writer, "data", text),
-        None => {
-            let hex = bytes_to_word(alloc, bytes.as_slice())?;
-            put_text(writer, "hex", hex.as_str())
-        }
-    }
-}
-
-/// Writes fields with their names.
-fn put_fields<A: Allocator + Copy>(
-    writer: &mut Writer<A>,
-    fields: &[(&'static str, i64)],
-) -> Result<(), AllocError>
-    ensures { OnOk result ((writer.new.before ≡ writer.old.before)
-        × (writer.new.tokens ≡ writer.old.tokens ++ field_members (map (λ field. (field.0.now, field.1)) fields.now))) }
-{
-    for (name, number) in fields {
-        writer.key(name)?;
-        writer.i64(*number)?;
-    }
-    Ok(())
-}
 
 /// The line of data and a Stat.
 fn read_line<A: Allocator + Copy>(
@@ -92,7 +31,6 @@ fn read_line<A: Allocator + Copy>(
     writer.begin_object()?;
     put_data(&mut writer, alloc, bytes)?;
     put_fields(&mut writer, &fields_of(stat))?;
-    writer.end_object()?;
     line_of(writer)
 }
 
@@ -103,7 +41,6 @@ fn fields_line<A: Allocator + Copy>(alloc: A, stat: &Stat) -> Result<Vec<u8, A>,
     let mut writer = Writer::new(Vec::new(alloc));
     writer.begin_object()?;
     put_fields(&mut writer, &fields_of(stat))?;
-    writer.end_object()?;
     line_of(writer)
 }
 
@@ -118,7 +55,6 @@ pub(crate) fn with_text<A: Allocator + Copy>(
     let mut writer = Writer::new(lines);
     writer.begin_object()?;
     put_text(&mut writer, key, text)?;
-    writer.end_object()?;
     line_of(writer)
 }
 

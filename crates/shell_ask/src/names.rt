@@ -6,20 +6,14 @@ ghost use Rattle.std.specs.FinSet as set;
 ghost use Rattle.std.specs.List.{flat_map, list_any};
 ghost use Rattle.std.specs.String.{string_cmp};
 ghost use Rattle.zk_nodes.specs.Path.{Text};
-ghost use Rattle.shell_ask.specs.Printing.{is_control, is_turning, name_line, IsBelow, PrintsNames};
+ghost use Rattle.shell_ask.specs.Printing.{is_control, name_line, IsBelow, PrintsNames};
 
 use script_replay::name_sets::set_of;
 use script_words::words::text_to_word;
+use shell_words::texts::is_turning;
 use std::alloc::{AllocError, Allocator};
 use std::collections::BTreeSet;
 use zk_client::JoinedTexts;
-
-/// Whether a character turns the direction of what is shown after it, or ends its line there.
-pub(crate) fn is_turning(c: char) -> bool
-    ensures { result ≡ is_turning c }
-{
-    matches!(c, '\u{61c}' | '\u{200e}'..='\u{200f}' | '\u{2028}'..='\u{202e}' | '\u{2066}'..='\u{2069}')
-}
 
 /// Whether a character is a control character, or turns the direction.
 fn is_control(c: char) -> bool

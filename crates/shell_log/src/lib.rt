@@ -2,8 +2,7 @@
 #![tactic(auto)]
 
 mod checked;
-mod fields;
-mod json_line;
+mod deed;
 mod line;
 mod order;
 mod plan;

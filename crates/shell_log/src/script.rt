@@ -1,8 +1,8 @@
 //! The history of logs, as a script that `history` and `rehearse` take.
 
 use crate::checked::{CheckedTree, Shown};
+use crate::line::{Value, push_line};
 use crate::order::{LogsFault, NumberedLog, in_order};
-use script_words::values::{push_data_word, push_name, push_word};
 use std::alloc::{AllocError, Allocator};
 use zk_history::{Change, History};
 use zk_log::PlacedEntry;
@@ -21,26 +21,23 @@ fn push_change<A: Allocator + Copy>(
     alloc: A,
     change: &Change<A>,
 ) -> Result<(), AllocError> {
-    match change {
-        Change::Create(path, bytes, owner) => {
-            text.push_str("create")?;
-            push_name(text, alloc, path.as_str().as_bytes())?;
-            text.push_str(" ")?;
-            push_data_word(text, alloc, bytes)?;
-            push_word(text, alloc, owner)?;
-        }
-        Change::Set(path, bytes) => {
-            text.push_str("set")?;
-            push_name(text, alloc, path.as_str().as_bytes())?;
-            text.push_str(" ")?;
-            push_data_word(text, alloc, bytes)?;
-        }
-        Change::Delete(path) => {
-            text.push_str("delete")?;
-            push_name(text, alloc, path.as_str().as_bytes())?;
-        }
-    }
-    text.push_str("\n")
+    let (word, path, content, owner) = match change {
+        Change::Create(path, bytes, owner) => (
+            "create",
+            path,
+            Value::Data(bytes.as_deref()),
+            Value::Number(*owner),
+        ),
+        Change::Set(path, bytes) => ("set", path, Value::Data(bytes.as_deref()), Value::Missing),
+        Change::Delete(path) => ("delete", path, Value::Missing, Value::Missing),
+    };
+    let pieces = [
+        ("", Value::Head(word)),
+        ("path", Value::Name(path.as_str())),
+        ("data", content),
+        ("owner", owner),
+    ];
+    push_line(text, alloc, &pieces)
 }
 
 /// Adds the lines of a transaction.
@@ -51,10 +48,12 @@ fn push_transaction<A: Allocator + Copy>(
     time: i64,
     changes: &[Change<A>],
 ) -> Result<(), AllocError> {
-    text.push_str("tx")?;
-    push_word(text, alloc, &zxid)?;
-    push_word(text, alloc, &time)?;
-    text.push_str("\n")?;
+    let pieces = [
+        ("", Value::Head("tx")),
+        ("zxid", Value::Number(zxid)),
+        ("time", Value::Number(time)),
+    ];
+    push_line(text, alloc, &pieces)?;
     for change in changes {
         push_change(text, alloc, change)?;
     }

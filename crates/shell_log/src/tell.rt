@@ -1,9 +1,8 @@
 //! What is told of logs.
 
 use crate::checked::{CheckedTree, Shown};
-use crate::fields::{Deed, Stamp, filled, named, plain};
-use crate::json_line::{gap_object, object_of, record_object, remark_object};
-use crate::line::{gap_of, line_of, record_of, remark_of};
+use crate::deed::{Deed, Stamp, filled, pieces_of, plain};
+use crate::line::{NOTHING, Piece, Value, line_of};
 use crate::order::{LogsFault, NumberedLog, in_order};
 use crate::plan::LogPlan;
 use std::alloc::{AllocError, Allocator};
@@ -22,10 +21,12 @@ pub struct LogText<A: Allocator> {
 
 /// What was told so far.
 #[derive(Drop)]
-struct Told<A: Allocator + Copy> {
+struct Told<'p, A: Allocator + Copy> {
+    alloc: A,
+    plan: &'p LogPlan<'p, A>,
     out: Vec<u8, A>,
-    /// The last zxid, or 0.
-    last: i64,
+    /// The last entry. At first its zxid is 0.
+    stamp: Stamp,
     /// Whether all that happened to the path is in the logs.
     is_known: bool,
     /// Whether something is told of the path.
@@ -61,144 +62,129 @@ fn is_given(path: &str) -> bool {
     path == "/" || path.starts_with("/zookeeper")
 }
 
-impl<A: Allocator + Copy> Told<A> {
-    /// Adds a line.
-    fn add(&mut self, line: &[u8]) -> Result<(), AllocError> {
-        self.out.extend_from_slice(line)
+/// A version, as the number of a change.
+fn version(number: i32) -> Piece<'static> {
+    ("version", Value::Number(i64::from(number)))
+}
+
+impl<'p, A: Allocator + Copy> Told<'p, A> {
+    /// Nothing is told.
+    fn new(alloc: A, plan: &'p LogPlan<'p, A>) -> Result<Told<'p, A>, AllocError> {
+        let checked = CheckedTree::new(alloc)?;
+        Ok(Told {
+            alloc,
+            plan,
+            out: Vec::new(alloc),
+            stamp: Stamp {
+                zxid: 0,
+                time: 0,
+                session: 0,
+            },
+            is_known: false,
+            is_told: false,
+            owner: 0,
+            checked: Some(checked),
+            fault: None,
+        })
     }
 
-    /// Adds a change.
-    fn add_deed(
-        &mut self,
-        alloc: A,
-        json: bool,
-        stamp: &Stamp,
-        deed: &Deed<'_, '_>,
-    ) -> Result<(), AllocError> {
-        if json {
-            let line = object_of(alloc, stamp, deed)?;
-            self.add(line.as_slice())
-        } else {
-            let line = line_of(alloc, stamp, deed)?;
-            self.add(line.as_bytes())
-        }
+    /// Adds a line.
+    fn add(&mut self, pieces: &[Piece<'_>]) -> Result<(), AllocError> {
+        let line = line_of(self.alloc, self.plan.json, pieces)?;
+        self.out.extend_from_slice(line.as_slice())
     }
 
     /// Adds a remark on a path.
-    fn add_remark(
-        &mut self,
-        alloc: A,
-        json: bool,
-        word: &str,
-        path: &str,
-    ) -> Result<(), AllocError> {
-        if json {
-            let line = remark_object(alloc, word, path)?;
-            self.add(line.as_slice())
-        } else {
-            let line = remark_of(alloc, word, path)?;
-            self.add(line.as_bytes())
-        }
+    fn add_remark(&mut self, word: &'static str, path: &str) -> Result<(), AllocError> {
+        let pieces = [("", Value::Head(word)), (word, Value::Name(path))];
+        self.add(&pieces)
     }
 
     /// Adds zxids that are not in the logs.
-    fn add_gap(&mut self, alloc: A, json: bool, from: i64, to: i64) -> Result<(), AllocError> {
-        if json {
-            let line = gap_object(alloc, from, to)?;
-            self.add(line.as_slice())
-        } else {
-            let line = gap_of(alloc, from, to)?;
-            self.add(line.as_bytes())
-        }
+    fn add_gap(&mut self, from: i64, to: i64) -> Result<(), AllocError> {
+        let pieces = [
+            ("", Value::Head("gap")),
+            ("gap", Value::Number(from)),
+            ("to", Value::Number(to)),
+        ];
+        self.add(&pieces)
     }
 
     /// Adds a remark on the record at a place of a file.
     fn add_record(
         &mut self,
-        alloc: A,
-        json: bool,
-        word: &str,
-        name: &str,
+        word: &'static str,
+        number: usize,
         place: usize,
     ) -> Result<(), AllocError> {
-        if json {
-            let line = record_object(alloc, word, name, place)?;
-            self.add(line.as_slice())
-        } else {
-            let line = record_of(alloc, word, name, place)?;
-            self.add(line.as_bytes())
-        }
+        let name = self.plan.files.get(number).copied().unwrap_or("");
+        let pieces = [
+            ("", Value::Head(word)),
+            (word, Value::Name(name)),
+            ("byte", Value::Place(place)),
+        ];
+        self.add(&pieces)
     }
 
     /// Tells of a change, if it is asked for.
-    fn tell(
-        &mut self,
-        alloc: A,
-        plan: &LogPlan<'_, A>,
-        stamp: &Stamp,
-        deed: &Deed<'_, '_>,
-    ) -> Result<(), AllocError> {
-        let Some(path) = plan.path else {
-            return match plan.at {
-                Some(at) if at != stamp.zxid => Ok(()),
-                _ => self.add_deed(alloc, plan.json, stamp, deed),
+    fn tell(&mut self, deed: &Deed<'_>) -> Result<(), AllocError> {
+        let pieces = pieces_of(&self.stamp, deed);
+        let Some(path) = self.plan.path else {
+            return match self.plan.at {
+                Some(at) if at != self.stamp.zxid => Ok(()),
+                _ => self.add(&pieces),
             };
         };
         if deed.path != Some(path) || deed.word == "check" {
             return Ok(());
         }
-        if plan.at.is_some() {
+        if self.plan.at.is_some() {
             self.out.clear();
         }
         self.is_told = true;
-        match deed.number {
-            Some(owner) if deed.word == "create" => self.owner = owner.number,
+        match deed.number.1 {
+            Value::Number(owner) if deed.word == "create" => self.owner = owner,
             _ if deed.word == "delete" => self.owner = 0,
             _ => {}
         }
-        self.add_deed(alloc, plan.json, stamp, deed)
+        self.add(&pieces)
     }
 
     /// Tells what is not in the logs before a zxid.
-    fn begin(&mut self, alloc: A, plan: &LogPlan<'_, A>, zxid: i64) -> Result<(), AllocError> {
-        if self.last == 0 {
+    fn begin(&mut self, zxid: i64) -> Result<(), AllocError> {
+        let plan = self.plan;
+        if self.stamp.zxid == 0 {
             self.is_known = is_first(zxid);
             return match plan.path {
                 Some(path) if plan.at.is_none() && !(self.is_known && !is_given(path)) => {
-                    self.add_remark(alloc, plan.json, "unknown", path)
+                    self.add_remark("unknown", path)
                 }
                 _ => Ok(()),
             };
         }
-        let Some(from) = missing(self.last, zxid) else {
+        let Some(from) = missing(self.stamp.zxid, zxid) else {
             return Ok(());
         };
-        self.forget(plan);
+        self.forget();
         match plan.at {
             Some(_) => Ok(()),
-            None => self.add_gap(alloc, plan.json, from, zxid.saturating_sub(1)),
+            None => self.add_gap(from, zxid.saturating_sub(1)),
         }
     }
 
     /// What happened before is not all in the logs.
-    fn forget(&mut self, plan: &LogPlan<'_, A>) {
+    fn forget(&mut self) {
         self.is_known = false;
         self.is_told = false;
         self.owner = 0;
         self.checked = None;
-        if plan.at.is_some() {
+        if self.plan.at.is_some() {
             self.out.clear();
         }
     }
 
     /// Compares the digest of a record of a file: from the first transaction on, as far as all that happened is in the logs.
-    fn check(
-        &mut self,
-        alloc: A,
-        plan: &LogPlan<'_, A>,
-        number: usize,
-        one: &PlacedEntry<'_, A>,
-    ) -> Result<(), EntryFault> {
+    fn check(&mut self, number: usize, one: &PlacedEntry<'_, A>) -> Result<(), EntryFault> {
         let Some(checked) = &mut self.checked else {
             return Ok(());
         };
@@ -211,192 +197,153 @@ impl<A: Allocator + Copy> Told<A> {
             Shown::Nothing => return Ok(()),
             Shown::Unchecked => "unchecked",
             Shown::Departs => {
-                self.forget(plan);
+                self.forget();
                 self.fault = Some(LogsFault::Digest(number, one.place, one.entry.zxid));
                 "digest"
             }
         };
         self.checked = None;
-        if plan.at.is_some() {
+        if self.plan.at.is_some() {
             return Ok(());
         }
-        let name = plan.files.get(number).copied().unwrap_or("");
-        self.add_record(alloc, plan.json, word, name, one.place)
-            .map_err(From::from)
+        self.add_record(word, number, one.place).map_err(From::from)
     }
 
     /// Tells of what an operation did. A multi does what its parts do.
-    fn tell_txn(
-        &mut self,
-        alloc: A,
-        plan: &LogPlan<'_, A>,
-        stamp: &Stamp,
-        txn: &Txn<'_, A>,
-    ) -> Result<(), AllocError> {
+    fn tell_txn(&mut self, txn: &Txn<'_, A>) -> Result<(), AllocError> {
         match txn {
             Txn::Create(t) | Txn::Create2(t) => {
-                let owner = if t.ephemeral { stamp.session } else { 0 };
-                let number = named("owner", owner);
+                let owner = if t.ephemeral { self.stamp.session } else { 0 };
+                let number = ("owner", Value::Number(owner));
                 let deed = filled("create", t.path.as_str(), t.bytes.as_slice(), number);
-                self.tell(alloc, plan, stamp, &deed)
+                self.tell(&deed)
             }
             Txn::CreateContainer(t) => {
-                let deed = filled("container", t.path.as_str(), t.bytes.as_slice(), None);
-                self.tell(alloc, plan, stamp, &deed)
+                let deed = filled("container", t.path.as_str(), t.bytes.as_slice(), NOTHING);
+                self.tell(&deed)
             }
             Txn::CreateTtl(t) => {
-                let number = named("ttl", t.ttl);
+                let number = ("ttl", Value::Number(t.ttl));
                 let deed = filled("ttl", t.path.as_str(), t.bytes.as_slice(), number);
-                self.tell(alloc, plan, stamp, &deed)
+                self.tell(&deed)
             }
             Txn::Set(t) | Txn::Reconfig(t) => {
-                let number = named("version", i64::from(t.version));
-                let deed = filled("set", t.path.text, t.bytes.bytes, number);
-                self.tell(alloc, plan, stamp, &deed)
+                let deed = filled("set", t.path.text, t.bytes.bytes, version(t.version));
+                self.tell(&deed)
             }
-            txn => self.tell_plain(alloc, plan, stamp, txn),
+            txn => self.tell_plain(txn),
         }
     }
 
     /// Tells of what an operation without data did.
-    fn tell_plain(
-        &mut self,
-        alloc: A,
-        plan: &LogPlan<'_, A>,
-        stamp: &Stamp,
-        txn: &Txn<'_, A>,
-    ) -> Result<(), AllocError> {
+    fn tell_plain(&mut self, txn: &Txn<'_, A>) -> Result<(), AllocError> {
         let deed = match txn {
-            Txn::Delete(path) | Txn::DeleteContainer(path) => plain("delete", path.text, None),
-            Txn::SetAcl(t) => plain("acl", t.path.text, named("version", i64::from(t.version))),
-            Txn::Check(t) => plain("check", t.path.text, named("version", i64::from(t.version))),
-            Txn::CreateSession(timeout) => plain(
-                "open",
-                None,
-                named("timeout", i64::from(*timeout)),
-            ),
-            Txn::CloseSession(_) | Txn::CloseSessionAlone => plain("close", None, None),
-            Txn::Error(code) => plain("error", None, named("code", i64::from(*code))),
+            Txn::Delete(path) | Txn::DeleteContainer(path) => plain("delete", path.text, NOTHING),
+            Txn::SetAcl(t) => plain("acl", t.path.text, version(t.version)),
+            Txn::Check(t) => plain("check", t.path.text, version(t.version)),
+            Txn::CreateSession(timeout) => {
+                let number = ("timeout", Value::Number(i64::from(*timeout)));
+                plain("open", None, number)
+            }
+            Txn::CloseSession(_) | Txn::CloseSessionAlone => plain("close", None, NOTHING),
+            Txn::Error(code) => plain("error", None, ("code", Value::Number(i64::from(*code)))),
             _ => return Ok(()),
         };
-        self.tell(alloc, plan, stamp, &deed)
+        self.tell(&deed)
     }
 
     /// Tells of the nodes that go with a session: those that its close tells, or the node of the path if the logs say that it is hers.
-    fn tell_closed(
-        &mut self,
-        alloc: A,
-        plan: &LogPlan<'_, A>,
-        stamp: &Stamp,
-        txn: &Txn<'_, A>,
-    ) -> Result<(), AllocError> {
-        match (txn, plan.path) {
+    fn tell_closed(&mut self, txn: &Txn<'_, A>) -> Result<(), AllocError> {
+        match (txn, self.plan.path) {
             (Txn::CloseSession(paths), _) => {
                 for path in paths.or_empty() {
-                    self.tell(alloc, plan, stamp, &plain("delete", path.as_str(), None))?;
+                    self.tell(&plain("delete", path.as_str(), NOTHING))?;
                 }
                 Ok(())
             }
             (Txn::CloseSessionAlone, Some(path))
-                if self.owner != 0 && self.owner == stamp.session => {
-                self.tell(alloc, plan, stamp, &plain("delete", Some(path), None))
+                if self.owner != 0 && self.owner == self.stamp.session => {
+                self.tell(&plain("delete", Some(path), NOTHING))
             }
             _ => Ok(()),
         }
     }
 
     /// Tells of the parts of a multi: of what failed alone, if a part did.
-    fn tell_parts(
-        &mut self,
-        alloc: A,
-        plan: &LogPlan<'_, A>,
-        stamp: &Stamp,
-        parts: &[PartTxn<A>],
-    ) -> Result<(), EntryFault> {
+    fn tell_parts(&mut self, parts: &[PartTxn<A>]) -> Result<(), EntryFault> {
         let mut failed = false;
         for part in parts {
             failed = failed || part.0 == -1;
         }
         for part in parts {
             if !failed || part.0 == -1 {
-                self.tell_part(alloc, plan, stamp, part)?;
+                self.tell_part(part)?;
             }
         }
         Ok(())
     }
 
     /// Reads a part of a multi, and tells of it.
-    fn tell_part(
-        &mut self,
-        alloc: A,
-        plan: &LogPlan<'_, A>,
-        stamp: &Stamp,
-        part: &PartTxn<A>,
-    ) -> Result<(), EntryFault> {
+    fn tell_part(&mut self, part: &PartTxn<A>) -> Result<(), EntryFault> {
         let bytes = part.1.as_slice().unwrap_or(&[]);
-        let txn = Txn::of_part(alloc, part.0, bytes)?;
-        self.tell_txn(alloc, plan, stamp, &txn).map_err(From::from)
+        let txn = Txn::of_part(self.alloc, part.0, bytes)?;
+        self.tell_txn(&txn).map_err(From::from)
     }
 
     /// Tells of an entry.
-    fn tell_entry(
-        &mut self,
-        alloc: A,
-        plan: &LogPlan<'_, A>,
-        entry: &LogEntry<'_, A>,
-    ) -> Result<(), EntryFault> {
-        self.last = entry.zxid;
-        let stamp = Stamp {
+    fn tell_entry(&mut self, entry: &LogEntry<'_, A>) -> Result<(), EntryFault> {
+        self.stamp = Stamp {
             zxid: entry.zxid,
             time: entry.time,
             session: entry.session,
         };
         match &entry.txn {
-            Txn::Multi(parts) => self.tell_parts(alloc, plan, &stamp, parts.or_empty()),
+            Txn::Multi(parts) => self.tell_parts(parts.or_empty()),
             txn => {
-                self.tell_txn(alloc, plan, &stamp, txn)?;
-                self.tell_closed(alloc, plan, &stamp, txn)
-                    .map_err(From::from)
+                self.tell_txn(txn)?;
+                self.tell_closed(txn).map_err(From::from)
             }
         }
     }
 
     /// Tells of the entry of a record of a file.
-    fn tell_record(
-        &mut self,
-        alloc: A,
-        plan: &LogPlan<'_, A>,
-        number: usize,
-        one: &PlacedEntry<'_, A>,
-    ) -> Result<(), EntryFault> {
-        self.begin(alloc, plan, one.entry.zxid)?;
-        self.check(alloc, plan, number, one)?;
-        self.tell_entry(alloc, plan, &one.entry)
+    fn tell_record(&mut self, number: usize, one: &PlacedEntry<'_, A>) -> Result<(), EntryFault> {
+        self.begin(one.entry.zxid)?;
+        self.check(number, one)?;
+        self.tell_entry(&one.entry)
     }
 
     /// Tells of a log.
-    fn tell_log(
-        &mut self,
-        alloc: A,
-        plan: &LogPlan<'_, A>,
-        numbered: &NumberedLog<'_, A>,
-    ) -> Result<(), LogsFault> {
+    fn tell_log(&mut self, numbered: &NumberedLog<'_, A>) -> Result<(), LogsFault> {
         for one in numbered.log.entries.iter() {
-            if one.entry.zxid <= self.last {
+            if one.entry.zxid <= self.stamp.zxid {
                 return Err(LogsFault::Overlaps(numbered.number));
             }
-            if plan.at.is_some_and(|at| at < one.entry.zxid) {
+            if self.plan.at.is_some_and(|at| at < one.entry.zxid) {
                 return Ok(());
             }
-            if let Err(fault) = self.tell_record(alloc, plan, numbered.number, one) {
+            if let Err(fault) = self.tell_record(numbered.number, one) {
                 return Err(LogsFault::Part(numbered.number, one.place, fault));
             }
         }
         match numbered.log.torn {
-            Some(place) if plan.at.is_none() => {
-                let name = plan.files.get(numbered.number).copied().unwrap_or("");
-                self.add_record(alloc, plan.json, "torn", name, place)
-                    .map_err(From::from)
+            Some(place) if self.plan.at.is_none() => self
+                .add_record("torn", numbered.number, place)
+                .map_err(From::from),
+            _ => Ok(()),
+        }
+    }
+
+    /// Tells why nothing is told of the path at a zxid.
+    fn end(&mut self) -> Result<(), AllocError> {
+        match (self.plan.path, self.plan.at) {
+            (Some(path), Some(_)) if !self.is_told => {
+                let word = if self.is_known && !is_given(path) {
+                    "absent"
+                } else {
+                    "unknown"
+                };
+                self.add_remark(word, path)
             }
             _ => Ok(()),
         }
@@ -414,28 +361,11 @@ pub fn history_of<A: Allocator + Copy>(
     files: &[&[u8]],
 ) -> Result<LogText<A>, LogsFault> {
     let logs = in_order(alloc, files)?;
-    let mut told = Told {
-        out: Vec::new(alloc),
-        last: 0,
-        is_known: false,
-        is_told: false,
-        owner: 0,
-        checked: Some(CheckedTree::new(alloc)?),
-        fault: None,
-    };
+    let mut told = Told::new(alloc, plan)?;
     for numbered in &logs {
-        told.tell_log(alloc, plan, numbered)?;
+        told.tell_log(numbered)?;
     }
-    if let (Some(path), Some(_)) = (plan.path, plan.at) {
-        if !told.is_told {
-            let word = if told.is_known && !is_given(path) {
-                "absent"
-            } else {
-                "unknown"
-            };
-            told.add_remark(alloc, plan.json, word, path)?;
-        }
-    }
+    told.end()?;
     Ok(LogText {
         text: told.out,
         fault: told.fault,

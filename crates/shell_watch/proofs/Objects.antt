@@ -10,7 +10,8 @@ use Rattle.zk_cache.specs.Kept.{Answer, Absent, Known, Full, Names}
 use Rattle.zk_cache.specs.declared.held.Kept.{Kept}
 use Rattle.zk_turns.specs.View.{View}
 use Rattle.zk_follow.specs.Following.{is_kept, says_none}
-use Rattle.shell_watch.specs.Lines.{answer_kind, kind_of, kind_where, names_kind, node_kind, number_members, object_line, text_members}
+use Rattle.shell_words.specs.Objects.{number_members, text_members}
+use Rattle.shell_watch.specs.Lines.{answer_kind, kind_of, kind_where, names_kind, node_kind, object_line}
 
 cons_some : (x : ℕ) (xs : List ℕ) → (x ∷ xs) ≢ []
 cons_some x xs is = cc

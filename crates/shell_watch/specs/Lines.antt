@@ -1,9 +1,9 @@
 -- What a watch prints, word by word.
-use Rattle.std.specs.Prelude.{◌≡◌, ◌==◌, ◌/◌, ◌%◌, ◌&&◌, ◌||◌, not, nat_le, nat_lt, chars, map, ℕ, ℤ, pos, negsuc, Bool, true, false}
+use Rattle.std.specs.Prelude.{◌≡◌, ◌==◌, ◌/◌, ◌%◌, ◌&&◌, not, nat_lt, chars, map, ℕ, ℤ, pos, negsuc, Bool, true, false}
 use Rattle.std.specs.Prelude.{if◌then◌else◌, List, [], ◌∷◌, ◌++◌, codes, Option, Some, None}
 use Rattle.std.specs.Fmt.{decimal, signed_decimal}
 use Rattle.std.specs.FinSet as set
-use Rattle.std.specs.List.{find, flat_map, list_any}
+use Rattle.std.specs.List.{find, list_any}
 use Rattle.std.specs.Str.{is_utf8}
 use Rattle.json.specs.Print.{print}
 use Rattle.json.specs.Token as json
@@ -30,6 +30,8 @@ use Rattle.zk_driver.specs.declared.turn.Turn.{Turn}
 use Rattle.zk_driver.specs.declared.turn.Turn.TheVariants as turn
 use Rattle.script_words.specs.Values.{spaced, stat_words, AreNames}
 use Rattle.script_words.specs.Words.{bytes_word, text_word}
+use Rattle.shell_words.specs.Objects.{data_members, field_members, number_members, text_members}
+use Rattle.shell_words.specs.Texts.{is_hidden}
 use Rattle.script_replay.specs.ClientLines.{PeekLine}
 use Rattle.script_replay.specs.Played.{DoesClient}
 use Rattle.script_replay.specs.Shown.{drop_words, mark_word, state_word}
@@ -67,16 +69,7 @@ Looks side path view words = LooksWhere (is_kept says_none (view.cache.nodes pat
 
 -- ---- data as text
 
--- A character that turns the direction of what is shown after it, or ends its line there: U+061C, U+200E, U+200F, U+2028 to U+202E, and
--- U+2066 to U+2069.
-abbrev pub is_turning : ℕ → Bool
-is_turning c = c == 1564 || (nat_le 8206 c && nat_le c 8207) || (nat_le 8232 c && nat_le c 8238) || (nat_le 8294 c && nat_le c 8297)
-
--- a control character other than tab and newline, U+0000 to U+001F and U+007F to U+009F, and what turns the direction
-abbrev pub is_hidden : ℕ → Bool
-is_hidden c = (nat_le c 8 || (nat_le 11 c && nat_le c 31) || (nat_le 127 c && nat_le c 159)) || is_turning c
-
--- UTF-8 with no such character
+-- UTF-8 with no character that is hidden
 abbrev pub is_text : List ℕ → Bool
 is_text bytes = is_utf8 bytes && not (list_any is_hidden (chars bytes))
 
@@ -114,12 +107,6 @@ subject_line style ms side path view words =
 
 -- ---- a line of JSON
 
-abbrev pub text_members : (name text : List ℕ) → List json.Token
-text_members name text = json.key name ∷ (json.string text ∷ [])
-
-abbrev pub number_members : (name : List ℕ) → ℤ → List json.Token
-number_members name number = json.key name ∷ (json.number (signed_decimal number) ∷ [])
-
 -- the object with these members
 abbrev pub object_tokens : List json.Token → List json.Token
 object_tokens members = json.begin_object ∷ (members ++ json.end_object ∷ [])
@@ -137,21 +124,12 @@ abbrev pub side_name : Side → List ℕ
 side_name Data = codes "data"
 side_name Child = codes "names"
 
--- data as a text where they are UTF-8, else in hex under another key, or null
-abbrev pub data_members : Option (List ℕ) → List json.Token
-data_members None = json.key (codes "data") ∷ (json.null ∷ [])
-data_members (Some bytes) =
-    if is_utf8 bytes then text_members (codes "data") bytes else text_members (codes "hex") (bytes_word (Some bytes))
-
 -- the seven fields by ZooKeeper's names
 abbrev pub fields : DataStat → List (List ℕ × ℤ)
 fields s =
     (codes "czxid", s.czxid)
     ∷ ((codes "mzxid", s.mzxid) ∷ ((codes "ctime", s.ctime) ∷ ((codes "mtime", s.mtime) ∷ ((codes "version", s.version)
     ∷ ((codes "ephemeralOwner", s.ephemeral_owner) ∷ ((codes "dataLength", s.data_length) ∷ []))))))
-
-abbrev pub field_members : List (List ℕ × ℤ) → List json.Token
-field_members fields = flat_map (λ field. json.key field.0 ∷ (json.number (signed_decimal field.1) ∷ [])) fields
 
 abbrev pub stat_members : DataStat → List json.Token
 stat_members stat = field_members (fields stat)

@@ -12,7 +12,8 @@ use Rattle.zk_trees.specs.Tending.{IsBounded, LetsGo, TakesOn, TreeTold}
 use Rattle.zk_agent.specs.Telling.{action_view, TellsTree, Told}
 use Rattle.zk_driver.specs.declared.turn.Turn.{Turn}
 use Rattle.zk_driver.specs.declared.turn.Turn.TheVariants as turn
-use Rattle.shell_watch.specs.Lines.{line_of, none_words, number_members, object_line, stamp_of}
+use Rattle.shell_words.specs.Objects.{number_members}
+use Rattle.shell_watch.specs.Lines.{line_of, none_words, object_line, stamp_of}
 use Rattle.shell_watch.specs.declared.growth.Growth.{Growth}
 use Rattle.shell_watch.specs.declared.plan.Style.{Style}
 use Rattle.shell_watch.specs.declared.plan.Style.TheVariants as style_is

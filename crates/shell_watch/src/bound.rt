@@ -2,13 +2,15 @@
 
 ghost use Rattle.std.specs.Prelude.{◌≡◌, ◌++◌, codes, pos, IfOk, string_bytes};
 ghost use Rattle.std.specs.Fmt.{decimal};
-ghost use Rattle.shell_watch.specs.Lines.{line_of, number_members, object_line, stamp_of};
+ghost use Rattle.shell_words.specs.Objects.{number_members};
+ghost use Rattle.shell_watch.specs.Lines.{line_of, object_line, stamp_of};
 ghost use Rattle.shell_watch.specs.Trees.{bound_line, bound_text};
 
-use crate::object::{begun, ended, put_count};
+use crate::object::{begun, ended};
 use crate::plan::Style;
 use crate::stamp::line_at;
 use script_words::values::push_value;
+use shell_words::objects::put_count;
 use std::alloc::{AllocError, Allocator};
 
 /// That a tree has more nodes than this, as an object of JSON.

@@ -8,15 +8,15 @@ ghost use Rattle.zk_nodes.specs.Names.{name_cmp};
 ghost use Rattle.zk_cache.specs.Contents.{answer_of, names_in};
 ghost use Rattle.zk_client.specs.Clients.{view_of};
 ghost use Rattle.zk_follow.specs.Following.{is_kept, says_none};
-ghost use Rattle.shell_watch.specs.Lines.{answer_kind, answer_members, array_members, data_members, field_members, fields, kind_of};
-ghost use Rattle.shell_watch.specs.Lines.{mark_members, names_kind, node_kind, node_members, number_members, side_name, stat_members};
-ghost use Rattle.shell_watch.specs.Lines.{subject_members, text_members, AreMembers, AreNamesMembers, IsSubjectObject};
+ghost use Rattle.shell_words.specs.Objects.{data_members, number_members, text_members};
+ghost use Rattle.shell_watch.specs.Lines.{answer_kind, answer_members, array_members, fields, kind_of};
+ghost use Rattle.shell_watch.specs.Lines.{mark_members, names_kind, node_kind, node_members, side_name, stat_members};
+ghost use Rattle.shell_watch.specs.Lines.{subject_members, AreMembers, AreNamesMembers, IsSubjectObject};
 
 use crate::looks::mark_word;
-use crate::object::{begun, ended, put_number, put_text};
-use crate::texts::as_utf8;
+use crate::object::{begun, ended};
 use json::Writer;
-use script_words::words::bytes_to_word;
+use shell_words::objects::{put_data, put_fields, put_number, put_text};
 use std::alloc::{AllocError, Allocator};
 use zk_client::{Children, Client, DataAnswer, DataStat, Mark, Side, SortedNames};
 use zk_trees::{NodeSide, is_missing};
@@ -28,28 +28,6 @@ fn side_name(side: Side) -> &'static str
     match side {
         Side::Data => "data",
         Side::Child => "names",
-    }
-}
-
-/// Writes data: a text, or hex under another key, or null.
-fn put_data<A: Allocator + Copy>(
-    writer: &mut Writer<A>,
-    alloc: A,
-    bytes: &Option<Vec<u8, A>>,
-) -> Result<(), AllocError>
-    ensures { OnOk result ((writer.new.before ≡ writer.old.before)
-        × (writer.new.tokens ≡ writer.old.tokens ++ data_members (option_map (λ v. v.items) bytes.now))) }
-{
-    let Some(bytes) = bytes else {
-        writer.key("data")?;
-        return writer.null();
-    };
-    match as_utf8(bytes.as_slice()) {
-        Some(text) => put_text(writer, "data", text),
-        None => {
-            let hex = bytes_to_word(alloc, bytes.as_slice())?;
-            put_text(writer, "hex", hex.as_str())
-        }
     }
 }
 
@@ -66,21 +44,6 @@ fn fields_of(stat: &DataStat) -> [(&'static str, i64); 7]
         ("ephemeralOwner", stat.ephemeral_owner),
         ("dataLength", stat.data_length as i64),
     ]
-}
-
-/// Writes fields with their names.
-fn put_fields<A: Allocator + Copy>(
-    writer: &mut Writer<A>,
-    fields: &[(&'static str, i64)],
-) -> Result<(), AllocError>
-    ensures { OnOk result ((writer.new.before ≡ writer.old.before)
-        × (writer.new.tokens ≡ writer.old.tokens ++ field_members (map (λ field. (field.0.now, field.1)) fields.now))) }
-{
-    for (name, number) in fields {
-        writer.key(name)?;
-        writer.i64(*number)?;
-    }
-    Ok(())
 }
 
 /// Writes the seven fields.

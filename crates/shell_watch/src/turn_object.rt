@@ -9,12 +9,13 @@ ghost use Rattle.shell_watch.specs.Lines.{action_kind, action_members, address_m
 ghost use Rattle.shell_watch.specs.Lines.{reason_members, reason_words, refused_kind, session_members, state_members, turn_kind};
 ghost use Rattle.shell_watch.specs.Lines.{turn_members, why_members};
 
-use crate::object::{begun, ended, put_count, put_number, put_text};
+use crate::object::{begun, ended};
 use crate::shown::Watched;
 use crate::words::{code_words, path_of, reason_words, shows_refusal};
 use json::Writer;
 use script_replay::outputs::state_to_word;
 use script_words::values::push_value;
+use shell_words::objects::{put_count, put_number, put_text};
 use std::alloc::{AllocError, Allocator};
 use zk_client::{Client, Fault, State};
 use zk_driver::{Action, Reason, Refusal, Turn};

@@ -3,7 +3,7 @@ use Rattle.std.proofs.Common.{◌≢◌, ◌∙◌, ◌++◌, [], List, ap, code
 use Rattle.std.proofs.lemmas.Result.{IfOk-weaker}
 use Rattle.std.specs.Prelude.{pos, string_bytes}
 use Rattle.json.specs.Token as json
-use Rattle.shell_watch.specs.Lines.{number_members}
+use Rattle.shell_words.specs.Objects.{number_members}
 use Rattle.shell_watch.proofs.Objects.{line_is}
 use Rattle.shell_watch.proofs.bound.bound_object.Goals as goal
 

@@ -1,6 +1,7 @@
 -- The members of the data and of the stat are written, one after the other: by `two_puts`.
 use Rattle.std.specs.Prelude.{option_map}
-use Rattle.shell_watch.specs.Lines.{data_members, stat_members}
+use Rattle.shell_words.specs.Objects.{data_members}
+use Rattle.shell_watch.specs.Lines.{stat_members}
 use Rattle.shell_watch.proofs.Objects.{two_puts}
 use Rattle.shell_watch.proofs.kept_object.put_full.Goals as goal
 

@@ -1,7 +1,8 @@
 -- What is kept, and the last seen zxid after it, are written: by `kept_then`, of what `put_kept` and `put_number` ensure.
 use Rattle.std.proofs.Common.{rules, ◌≡◌, codes, to_z, of_z, w64}
 use Rattle.zk_client.specs.Clients.{view_of}
-use Rattle.shell_watch.specs.Lines.{number_members, AreMembers}
+use Rattle.shell_words.specs.Objects.{number_members}
+use Rattle.shell_watch.specs.Lines.{AreMembers}
 use Rattle.shell_watch.proofs.Objects.{kept_then}
 use Rattle.shell_watch.proofs.kept_object.put_known.Goals as goal
 

@@ -2,7 +2,8 @@
 use Rattle.std.proofs.Common.{refl, ◌++◌, codes}
 use Rattle.script_words.proofs.NamesLemmas.{both}
 use Rattle.script_replay.proofs.SetLemmas.{same_listed}
-use Rattle.shell_watch.specs.Lines.{array_members, mark_members, number_members}
+use Rattle.shell_words.specs.Objects.{number_members}
+use Rattle.shell_watch.specs.Lines.{array_members, mark_members}
 use Rattle.shell_watch.proofs.kept_object.put_listing.Goals as goal
 
 pub returns : goal.returns

@@ -1,7 +1,8 @@
 -- The path and side, and what is kept with the last seen zxid after them, are written: by `then_kept`.
 use Rattle.std.proofs.Common.{◌++◌, codes}
 use Rattle.zk_client.specs.Clients.{view_of}
-use Rattle.shell_watch.specs.Lines.{number_members, side_name, text_members, AreMembers}
+use Rattle.shell_words.specs.Objects.{number_members, text_members}
+use Rattle.shell_watch.specs.Lines.{side_name, AreMembers}
 use Rattle.shell_watch.proofs.Objects.{then_kept}
 use Rattle.shell_watch.proofs.kept_object.put_subject.Goals as goal
 

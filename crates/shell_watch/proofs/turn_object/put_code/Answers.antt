@@ -1,6 +1,7 @@
 -- A code and its words are put as two members, one after the other: `two_puts`. A code of 32 bits stays the same number in 64.
 use Rattle.std.proofs.Common.{rules, ◌≡◌, codes, to_z, of_z, w32, w64}
-use Rattle.shell_watch.specs.Lines.{code_words, number_members, reason_members}
+use Rattle.shell_words.specs.Objects.{number_members}
+use Rattle.shell_watch.specs.Lines.{code_words, reason_members}
 use Rattle.shell_watch.proofs.Objects.{two_puts}
 use Rattle.shell_watch.proofs.turn_object.put_code.Goals as goal
 

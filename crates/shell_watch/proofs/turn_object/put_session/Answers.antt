@@ -2,7 +2,7 @@
 use Rattle.std.proofs.Common.{rules, ◌≡◌, ◌∙◌, codes, to_z, of_z, w64}
 use Rattle.std.specs.Prelude.{pos}
 use Rattle.zk_client.specs.Clients.{view_of}
-use Rattle.shell_watch.specs.Lines.{number_members}
+use Rattle.shell_words.specs.Objects.{number_members}
 use Rattle.shell_watch.proofs.Objects.{two_puts}
 use Rattle.shell_watch.proofs.turn_object.put_session.Goals as goal
 

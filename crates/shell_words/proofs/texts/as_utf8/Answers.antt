@@ -1,7 +1,7 @@
--- By the case of `from_utf8`: a text is the bytes, and the test is true (`is_utf8-from_IsUtf8`); an error says it is not, so it is false.
+-- `as_utf8`, by the case of what `str::from_utf8` gives: the test `is_utf8` is true exactly where `IsUtf8` holds of the bytes.
 use Rattle.std.proofs.Common.{◌≡◌, Bool, true, false, refl}
 use Rattle.std.proofs.lemmas.Str.{IsUtf8-from_is_utf8, is_utf8-from_IsUtf8}
-use Rattle.shell_ask.proofs.data.as_utf8.Goals as goal
+use Rattle.shell_words.proofs.texts.as_utf8.Goals as goal
 
 not_true : (b : Bool) → (b ≡ true → ⊥) → b ≡ false
 not_true true h = absurd (h refl)

@@ -1,7 +1,7 @@
 -- Loop over the fields: the tokens so far and the members of those left are all tokens. With none left all are written.
 use Rattle.std.proofs.Common.{◌≡◌, ◌++◌, drop, map}
-use Rattle.shell_ask.specs.Printing.{field_members}
-use Rattle.shell_ask.proofs.json_lines.put_fields.Given as goal
+use Rattle.shell_words.specs.Objects.{field_members}
+use Rattle.shell_words.proofs.objects.put_fields.Given as goal
 
 -- what is written, and the members of the fields that are left, are all that was to be written
 abbrev pub invariant-loop-name : goal.invariant-loop-name

@@ -1,0 +1,1 @@
+-- What is proved by hand is of functions, in folders of their names: there is no lemma.

@@ -1,0 +1,5 @@
+//! What several commands print of one thing: which text may be shown as it is, and the members of an object of JSON.
+#![tactic(auto)]
+
+pub mod objects;
+pub mod texts;
