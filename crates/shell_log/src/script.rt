@@ -15,6 +15,14 @@ node /zookeeper/quota \\e 0
 node /zookeeper/config \\e 0
 ";
 
+/// The data of a node.
+fn data_of<A: Allocator>(bytes: &Option<Vec<u8, A>>) -> Value<'_> {
+    match bytes {
+        Some(bytes) => Value::Data(Some(bytes.as_slice())),
+        None => Value::Data(None),
+    }
+}
+
 /// Adds the line of a change.
 fn push_change<A: Allocator + Copy>(
     text: &mut String<A>,
@@ -25,10 +33,10 @@ fn push_change<A: Allocator + Copy>(
         Change::Create(path, bytes, owner) => (
             "create",
             path,
-            Value::Data(bytes.as_deref()),
+            data_of(bytes),
             Value::Number(*owner),
         ),
-        Change::Set(path, bytes) => ("set", path, Value::Data(bytes.as_deref()), Value::Missing),
+        Change::Set(path, bytes) => ("set", path, data_of(bytes), Value::Missing),
         Change::Delete(path) => ("delete", path, Value::Missing, Value::Missing),
     };
     let pieces = [
