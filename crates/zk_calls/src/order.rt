@@ -1,6 +1,6 @@
 //! What a line knows of its calls without a look at each: whether their numbers rise in the order of asking.
 
-ghost use Rattle.std.specs.Prelude.{◌≡◌, ◌++◌, ◌∷◌, [], true, nat_lt};
+ghost use Rattle.std.specs.Prelude.{◌≡◌, ◌++◌, ◌∷◌, [], true, nat_lt, Some};
 ghost use Rattle.std.specs.List.{position};
 ghost use Rattle.zk_calls.specs.Lines.{is_ended};
 ghost use Rattle.zk_calls.specs.Orders.{in_order, is_below};
@@ -52,6 +52,16 @@ fn place_among<A: Allocator>(entries: &VecDeque<Entry<A>, A>, ticket: u64) -> Op
     None
 }
 
+/// Whether the first of these calls was handed over and has this ticket: replies come in the order of calls.
+fn is_first<A: Allocator>(entries: &VecDeque<Entry<A>, A>, ticket: u64) -> bool
+    ensures { result ≡ true → position (is_ended (Ending.LostOf ticket)) entries.now.items ≡ Some 0 }
+{
+    if entries.is_empty() {
+        return false;
+    }
+    entries[0].is_ended(Ending::LostOf(ticket))
+}
+
 /// The place of the first call of this ticket that was handed over.
 pub(crate) fn place_of<A: Allocator>(
     entries: &VecDeque<Entry<A>, A>,
@@ -61,6 +71,9 @@ pub(crate) fn place_of<A: Allocator>(
     requires { rises ≡ true → in_order is_below entries.now.items ≡ true }
     ensures { result ≡ position (is_ended (Ending.LostOf ticket)) entries.now.items }
 {
+    if is_first(entries, ticket) {
+        return Some(0);
+    }
     if rises {
         return place_in_order(entries, ticket);
     }

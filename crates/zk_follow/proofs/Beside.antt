@@ -3,13 +3,17 @@ use Rattle.std.proofs.Common.{◌≡◌, ◌<◌, ◌+◌, ◌∙◌, ◌||◌, 
 use Rattle.std.proofs.Common.{refl, sym, ap, subst, arith}
 use Rattle.std.specs.Prelude.{◌==◌, bytes_eq, All}
 use Rattle.std.proofs.lemmas.List.{get_or_default}
-use Rattle.std.proofs.lemmas.List.Folds.{list_any_more, Any-from_list_any}
+use Rattle.std.specs.List.{list_any}
+use Rattle.std.proofs.lemmas.List.Folds.{list_any_at, list_any_more, Any-from_list_any}
 use Rattle.std.proofs.lemmas.Bool.Decides.{Decides-eqb}
 use Rattle.zk_nodes.specs.Path.{Text}
+use Rattle.zk_turns.specs.Turns.{Output, Answer}
 use Rattle.zk_follow.specs.declared.subject.Subject.{Subject}
 use Rattle.zk_follow.specs.Following.{is_among}
 use Rattle.zk_follow.specs.inner.Owning.{is_of}
-use Rattle.zk_follow.specs.inner.Places.{HasEach}
+use Rattle.zk_follow.specs.inner.Places.{is_named, HasEach}
+use Rattle.zk_follow.specs.inner.Resting.{is_beside, is_reply}
+use Rattle.zk_follow.proofs.Placing.{among_none}
 use Rattle.zk_follow.proofs.Staying.{and_parts}
 
 -- One place more of a bucket is gone over: it is added if its subject passes the test.
@@ -76,3 +80,28 @@ siblings {A} subjects count ticket own slice all size is has each k d fits e =
     ap (λ (s : Subject A). s.ticket) any.3 ∙ sym ((Decides-eqb ticket any.1.ticket).0 parts.0) in
     let here = has any.0 any.1 (omega (arith, any.2, size)) ((Decides-eqb (get_or subjects any.0 any.1).ticket ticket).1 same) in
     each any.0 any.1 (ap (is_among any.0) is ∙ here) k d fits (ap (λ (s : Subject A). bytes_eq s.path path) any.3 ∙ parts.1)
+
+-- a reply that is beside a subject is the answer of one of the same ticket
+beside_one : {A : Type 0} (subjects : List (Subject A)) (path : Text) (output : Output) → is_beside subjects path output ≡ true
+    → (k : ℕ) × (d : Subject A) × (k < length subjects)
+    × (is_named (get_or subjects k d).ticket (get_or subjects k d).path output ≡ true)
+beside_one {A} subjects path (Answer its outcome) e =
+    let parts = and_parts (is_reply outcome) (is_of subjects its path) e in
+    let any = Any-from_list_any (λ (s : Subject A). its == s.ticket && bytes_eq s.path path) subjects parts.1 in
+    let both = and_parts (its == any.1.ticket) (bytes_eq any.1.path path) any.4 in
+    let same : (get_or subjects any.0 any.1).ticket ≡ its =
+    ap (λ (s : Subject A). s.ticket) any.3 ∙ sym ((Decides-eqb its any.1.ticket).0 both.0) in
+    (any.0, any.1, any.2, (Decides-eqb (get_or subjects any.0 any.1).ticket its).1 same)
+beside_one subjects path _ e = absurd cc
+
+-- where outputs name none of them, no reply is beside one
+pub none_beside : {A : Type 0} (subjects : List (Subject A)) (count : ℕ) (outputs : List Output) (places : List ℕ) → count ≡ length subjects
+    → length places ≡ 0 → HasEach (λ s. list_any (is_named s.ticket s.path) outputs) count subjects places
+    → (path : Text) → list_any (is_beside subjects path) outputs ≡ true → ⊥
+none_beside {A} subjects count outputs places size none has path e =
+    let any = Any-from_list_any (is_beside subjects path) outputs e in
+    let one = beside_one subjects path any.1 any.4 in
+    let s : Subject A = get_or subjects one.0 one.1 in
+    let named = list_any_at (is_named s.ticket s.path) outputs any.0 any.1 any.2 (ap (is_named s.ticket s.path) any.3 ∙ one.3) in
+    let among : true ≡ false = sym (has one.0 one.1 (omega (arith, one.2, size)) named) ∙ among_none one.0 places none in
+    cc

@@ -30,6 +30,10 @@ or_cases true b e f = absurd cc
 or_cases false b e f = e
 
 -- one more is among them, and those that were
+pub among_none : (place : ℕ) (places : List ℕ) → length places ≡ 0 → is_among place places ≡ false
+among_none place [] e = refl
+among_none place (first ∷ places) e = absurd cc
+
 pub among_last : (place : ℕ) (places : List ℕ) → is_among place (places ++ place ∷ []) ≡ true
 among_last place places =
     list_any-append (λ its. place == its) places (place ∷ [])

@@ -1,5 +1,5 @@
 -- Whom an output says something of is found by the index; and who hears all of them, one after the other, takes what was said.
-use Rattle.std.proofs.Common.{◌≡◌, ◌≤◌, ◌<◌, ◌+◌, ◌∙◌, ◌++◌, ◌∷◌, ℕ, Bool, true, false, cond, List, [], length, get_or, map, take}
+use Rattle.std.proofs.Common.{◌≡◌, ◌≤◌, ◌<◌, ◌+◌, ◌∙◌, ◌++◌, ◌∷◌, ℕ, suc, Bool, true, false, cond, List, [], length, get_or, map, take}
 use Rattle.std.proofs.Common.{refl, sym, ap, arith}
 use Rattle.std.specs.Prelude.{nat_lt}
 use Rattle.std.proofs.lemmas.List.{get_or-map, get_or_past, length-map, map-append, take_more}
@@ -15,6 +15,7 @@ use Rattle.zk_follow.specs.inner.Places.{is_heard_by, AreSameBut, HasEach}
 use Rattle.zk_follow.specs.inner.Resting.{AreUnmoved}
 use Rattle.zk_follow.proofs.Finding.{found_still, unless}
 use Rattle.zk_follow.proofs.Hearing.{all_heard, all_same_path, all_same_ticket}
+use Rattle.zk_follow.proofs.Placing.{among_none}
 
 -- ---- one output
 
@@ -83,6 +84,22 @@ heard_more {A} now first subjects new outputs index item within is before one =
         ∙ ap (λ rest. heard_all now s (said (take (index + 1) outputs)) ∷ rest) (both all)
 
 -- ---- all of them
+
+-- who is unmoved has taken all as it is
+all_taken : {A : Type 0} (now : ℕ) (outputs : List Output) (subjects : List (Subject A))
+    → ((k : ℕ) (d : Subject A) → k < length subjects → taken now outputs (get_or subjects k d) ≡ get_or subjects k d)
+    → subjects ≡ map (taken now outputs) subjects
+all_taken now outputs [] still = refl
+all_taken now outputs (s ∷ all) still =
+    ap (λ t. t ∷ all) (sym (still 0 s (omega arith)))
+    ∙ ap (λ rest. taken now outputs s ∷ rest)
+    (all_taken now outputs all (λ k d within. still (suc k) d (omega (arith, within))))
+
+-- none is at any of no places
+pub none_taken : {A : Type 0} (now : ℕ) (outputs : List Output) (subjects : List (Subject A)) (places : List ℕ) → length places ≡ 0
+    → AreUnmoved now outputs subjects places → subjects ≡ map (taken now outputs) subjects
+none_taken now outputs subjects places none rest = all_taken now outputs subjects
+    (λ k d within. let its = rest k d within (among_none k places none) in ap (woken now) its.0 ∙ its.1)
 
 pub taken_by : {A : Type 0} (now : ℕ) (outputs : List Output) (old between new : List (Subject A))
     → between ≡ map (λ subject. heard_all now subject outputs) old → new ≡ map (woken now) between → new ≡ map (taken now outputs) old

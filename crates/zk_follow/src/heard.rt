@@ -98,6 +98,9 @@ pub(crate) fn take_all<A: Allocator + Copy>(
     ensures heard { OnOk result (subjects.new ≡ map (taken now (said outputs.now)) subjects.old) }
     ensures left { OnOk result (AreSameBut places.now subjects.old subjects.new) }
 {
+    if places.is_empty() {
+        return Ok(());
+    }
     hear_all(alloc, subjects, index, now, outputs)?;
     wake_each(subjects, places, now);
     Ok(())

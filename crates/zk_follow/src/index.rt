@@ -422,6 +422,10 @@ impl<A: Allocator + Copy> Index<A> {
             return all_below(alloc, self.count);
         }
         let mut all = self.with_those_named(alloc, subjects, places, outputs)?;
+        // A reply is beside those of its ticket alone.
+        if all.is_empty() {
+            return Ok(all);
+        }
         self.add_all_beside(alloc, subjects, outputs, &mut all)?;
         put_in_order(&mut all);
         Ok(all)

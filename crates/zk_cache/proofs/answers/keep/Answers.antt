@@ -1,6 +1,6 @@
 -- The path has its own answer changed alone, to what `renew` ensures: `hash_map_updates_text`. A new path begins with an answer that does
 -- not stay: `from-nothing`.
-use Rattle.std.proofs.Common.{◌≡◌, arith, ap, refl, ◌∙◌, Option, Some, None, unwrap_or, bytes_eq, string_bytes, if◌then◌else◌}
+use Rattle.std.proofs.Common.{◌≡◌, arith, ap, refl, ◌∙◌, Option, Some, None, unwrap_or, string_bytes}
 use Rattle.std.proofs.lemmas.Map.Text.{hash_map_updates_text}
 use Rattle.indexmap.specs.IndexMap.{get_by_text}
 use Rattle.indexmap.specs.Entry.{map_with_value}

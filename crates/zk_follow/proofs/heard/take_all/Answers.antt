@@ -1,8 +1,9 @@
 -- Who has heard all, and is awake, has taken what was said: `taken_by`. Of others nothing is said, and none was refused: `unwoken`.
-use Rattle.std.proofs.Common.{◌<◌, length, subst, sym}
+use Rattle.std.proofs.Common.{◌≡◌, ◌<◌, ◌∙◌, length, refl, subst, sym}
 use Rattle.std.specs.Prelude.{All}
+use Rattle.std.proofs.lemmas.Bool.Decides.{Decides-eqb}
 use Rattle.zk_client.specs.Views.{said}
-use Rattle.zk_follow.proofs.Taking.{taken_but, taken_by, unwoken}
+use Rattle.zk_follow.proofs.Taking.{none_taken, taken_but, taken_by, unwoken}
 use Rattle.zk_follow.proofs.heard.take_all.Goals as goal
 
 pub wake_each-requires-clause-below : goal.wake_each-requires-clause-below
@@ -25,3 +26,11 @@ returns-clause-left g c =
     (taken_by c.args.now (said c.args.outputs.now) c.args.subjects.now c.hear_all.new.subjects c.wake_each.new.subjects
     c.in_ok-hear_all.ensures c.wake_each.ensures)
     c.requires.rest
+
+pub returns-then-is_empty-clause-heard : goal.returns-then-is_empty-clause-heard
+returns-then-is_empty-clause-heard g c =
+    none_taken c.args.now (said c.args.outputs.now) c.args.subjects.now c.args.places.now
+    ((Decides-eqb (length c.args.places.now) 0).0 (sym c.is_empty.ensures ∙ c.if-is_empty.true)) c.requires.rest
+
+pub returns-then-is_empty-clause-left : goal.returns-then-is_empty-clause-left
+returns-then-is_empty-clause-left g c = λ k d none. refl
