@@ -2,3 +2,4 @@
 pub mod Agents
 pub mod Calls
 pub mod Credentials
+pub mod Replies

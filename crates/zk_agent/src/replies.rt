@@ -1,11 +1,11 @@
 //! What outputs say of a connection.
 
-ghost use Rattle.std.specs.Prelude.{◌≡◌, false, fold};
-ghost use Rattle.std.specs.List.{list_any};
+ghost use Rattle.std.specs.Prelude.{◌≡◌, []};
 ghost use Rattle.zk_records.specs.Codes.{code_number};
 ghost use Rattle.zk_client.specs.Views.{output_view, said};
-ghost use Rattle.zk_agent.specs.Waits.{sent_by, sent_in};
-ghost use Rattle.zk_agent.specs.Replies.{ends_row, heard_in, is_back, is_lost, is_over, is_reply, loses_session};
+ghost use Rattle.zk_agent.specs.Waits.{sent_by};
+ghost use Rattle.zk_agent.specs.Replies.{heard_in, is_back, is_lost, is_over, is_reply, loses_session};
+ghost use Rattle.zk_agent.specs.inner.Replies.{heard_by};
 
 use crate::sent::Sent;
 use std::alloc::Allocator;
@@ -82,41 +82,6 @@ fn is_back<A: Allocator>(output: &Output<A>) -> bool
     }
 }
 
-/// Whether the client says that a call had its reply.
-fn has_reply<A: Allocator>(outputs: &[Output<A>]) -> bool
-    ensures { result ≡ list_any is_reply (said outputs.now) }
-{
-    outputs.iter().any(|output| is_reply(output))
-}
-
-/// Whether the client says that the session is not the server's own.
-fn has_lost<A: Allocator>(outputs: &[Output<A>]) -> bool
-    ensures { result ≡ list_any is_lost (said outputs.now) }
-{
-    outputs.iter().any(|output| is_lost(output))
-}
-
-/// Whether the connection is over, by what the client says.
-fn has_end<A: Allocator>(outputs: &[Output<A>]) -> bool
-    ensures { result ≡ list_any is_over (said outputs.now) }
-{
-    outputs.iter().any(|output| is_over(output))
-}
-
-/// Whether a row of failures ends with what the client says.
-fn ends_row<A: Allocator>(outputs: &[Output<A>]) -> bool
-    ensures { result ≡ ends_row (said outputs.now) }
-{
-    has_reply(outputs) && !has_lost(outputs)
-}
-
-/// Whether a call may wait for its turn again, by what the client says.
-fn has_back<A: Allocator>(outputs: &[Output<A>]) -> bool
-    ensures { result ≡ list_any is_back (said outputs.now) }
-{
-    outputs.iter().any(|output| is_back(output))
-}
-
 /// What is sent with an output too.
 fn note_sent<A: Allocator>(sent: &mut Sent, output: &Output<A>)
     ensures { sent.new ≡ sent_by sent.old (output_view output.now) }
@@ -128,27 +93,39 @@ fn note_sent<A: Allocator>(sent: &mut Sent, output: &Output<A>)
     }
 }
 
-/// What is sent, by what the client says.
-#[tactic(auto, using(crate::proofs::Saying::fold_said))]
-fn sent_in<A: Allocator>(outputs: &[Output<A>]) -> Sent
-    ensures { result ≡ sent_in (said outputs.now) }
-{
-    let mut sent = Sent::new(false);
-    for output in outputs {
-        note_sent(&mut sent, output);
+impl Heard {
+    /// Nothing was said.
+    fn new() -> Heard
+        ensures { result ≡ heard_in [] }
+    {
+        Heard {
+            ends_row: false,
+            is_over: false,
+            is_lost: false,
+            goes_back: false,
+            sent: Sent::new(false),
+        }
     }
-    sent
+
+    /// One more output was said.
+    fn note<A: Allocator>(&mut self, output: &Output<A>)
+        ensures { self.new ≡ heard_by self.old (output_view output.now) }
+    {
+        self.is_lost |= is_lost(output);
+        self.ends_row = (self.ends_row | is_reply(output)) & !self.is_lost;
+        self.is_over |= is_over(output);
+        self.goes_back |= is_back(output);
+        note_sent(&mut self.sent, output);
+    }
 }
 
 /// What the client says of its connection and of calls.
 pub(crate) fn heard_in<A: Allocator>(outputs: &[Output<A>]) -> Heard
     ensures { result ≡ heard_in (said outputs.now) }
 {
-    Heard {
-        ends_row: ends_row(outputs),
-        is_over: has_end(outputs),
-        is_lost: has_lost(outputs),
-        goes_back: has_back(outputs),
-        sent: sent_in(outputs),
+    let mut heard = Heard::new();
+    for output in outputs {
+        heard.note(output);
     }
+    heard
 }
