@@ -5,6 +5,7 @@ pub mod Counting
 pub mod Deadlines
 mod Grown
 pub mod Handing
+mod Heads
 pub mod Idling
 pub mod Keeping
 pub mod Leaving

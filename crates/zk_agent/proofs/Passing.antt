@@ -1,9 +1,9 @@
 -- Bytes within a frame: all but its last one only make fewer of it left, so that they may be passed over at once.
 use Rattle.std.proofs.Common.{◌≡◌, ◌<◌, ◌+◌, ◌-◌, ◌%◌, ◌^◌, ◌==◌, ◌&&◌, ℕ, zero, suc, Bool, true, false, cond, List, length, get_or, take}
-use Rattle.std.proofs.Common.{Some, None, refl, sym, ap, subst, ◌∙◌, arith}
+use Rattle.std.proofs.Common.{drop, Some, None, refl, sym, ap, take-add, ◌∙◌, arith}
 use Rattle.std.specs.Prelude.{nat_lt}
 use Rattle.std.proofs.lemmas.Bool.Decides.{nat_tests}
-use Rattle.std.proofs.lemmas.List.Sums.{fold_more}
+use Rattle.std.proofs.lemmas.List.Sums.{fold-append, fold_more}
 use Rattle.zk_agent.specs.declared.frames.Frames.{Frames}
 use Rattle.zk_agent.specs.Waits.{Waited, answered_by, headed, heard_byte, heard_bytes, is_of_call, is_of_ping, is_whole, next_place}
 
@@ -24,7 +24,7 @@ module _ (calls pings : List ℕ) where
     pings = answered_by is_of_ping (cond whole (Some (next.head % 2 ^ 32)) None) pings;
   }
 
-  by_place : (at next : Frames) (byte : ℕ) → next_place byte at ≡ next → is_whole next ≡ false
+  pub by_place : (at next : Frames) (byte : ℕ) → next_place byte at ≡ next → is_whole next ≡ false
       → heard_byte (record { came = at; calls = calls; pings = pings }) byte ≡ record { came = next; calls = calls; pings = pings }
   by_place at next byte is not_whole = ap (λ (n : Frames). with_place n (is_whole n)) is ∙ ap (with_place next) not_whole
 
@@ -50,33 +50,34 @@ one_passed waited byte count inside more =
     ∙ ap (λ left. record waited { came = record waited.came { left = left } }) fewer
 
 -- all of these bytes
-module _ (first : Waited) (bytes : List ℕ) (at : ℕ) where
-  abbrev here : Waited
-  here = heard_bytes first (take at bytes)
-
-  passes : (count : ℕ) → (0 < count → (here.came.held ≡ 8) × (count < here.came.left)) → at + count < length bytes
-      → heard_bytes first (take (at + count) bytes) ≡ passed_over count here
-  passes zero inside there =
-      let same : at + 0 ≡ at = omega arith in ap (λ i. heard_bytes first (take i bytes)) same ∙ sym (none_passed 0 here refl)
+module _ (first : Waited) (bytes : List ℕ) where
+  passes : (count : ℕ) → (0 < count → (first.came.held ≡ 8) × (count < first.came.left)) → count < length bytes
+      → heard_bytes first (take count bytes) ≡ passed_over count first
+  passes zero inside there = sym (none_passed 0 first refl)
   passes (suc count) inside there =
       let all = inside (omega arith) in
-      let before : at + count < length bytes = omega (arith, there) in
-      let next : at + suc count ≡ at + count + 1 = omega arith in
-      let fewer : count < here.came.left = let b = all.1 in omega (arith, b) in
-      let more : count + 1 < here.came.left = let b = all.1 in omega (arith, b) in
+      let before : count < length bytes = omega (arith, there) in
+      let next : suc count ≡ count + 1 = omega arith in
+      let fewer : count < first.came.left = let b = all.1 in omega (arith, b) in
+      let more : count + 1 < first.came.left = let b = all.1 in omega (arith, b) in
       let so_far = passes count (λ some. (all.0, fewer)) before in
-      ap (λ i. heard_bytes first (take i bytes)) next ∙ fold_more heard_byte first bytes (at + count) 0 before
-      ∙ ap (λ w. heard_byte w (get_or bytes (at + count) 0)) so_far ∙ one_passed here (get_or bytes (at + count) 0) count all.0 more
-      ∙ ap (λ n. passed_over n here) (let e : count + 1 ≡ suc count = omega arith in e)
+      ap (λ i. heard_bytes first (take i bytes)) next ∙ fold_more heard_byte first bytes count 0 before
+      ∙ ap (λ w. heard_byte w (get_or bytes count 0)) so_far ∙ one_passed first (get_or bytes count 0) count all.0 more
+      ∙ ap (λ n. passed_over n first) (sym next)
 
   -- and the byte after them
-  pub one_more_heard : (count byte : ℕ) (waited passed after : Waited) → waited ≡ here
-      → (0 < count → (waited.came.held ≡ 8) × (count < waited.came.left)) → at + count < length bytes
-      → passed ≡ passed_over count waited → byte ≡ get_or bytes (at + count) 0 → after ≡ heard_byte passed byte
-      → after ≡ heard_bytes first (take (at + count + 1) bytes)
-  one_more_heard count byte waited passed after was inside there is its after_is =
-      let all = subst (λ (w : Waited). 0 < count → (w.came.held ≡ 8) × (count < w.came.left)) was inside in
-      let gone = passes count all there in
-      let before : passed ≡ heard_bytes first (take (at + count) bytes) = is ∙ ap (passed_over count) was ∙ sym gone in
+  pub one_more_heard : (count byte : ℕ) (passed after : Waited) → (0 < count → (first.came.held ≡ 8) × (count < first.came.left))
+      → count < length bytes → passed ≡ passed_over count first → byte ≡ get_or bytes count 0 → after ≡ heard_byte passed byte
+      → after ≡ heard_bytes first (take (count + 1) bytes)
+  one_more_heard count byte passed after inside there is its after_is =
+      let before : passed ≡ heard_bytes first (take count bytes) = is ∙ sym (passes count inside there) in
       after_is ∙ ap (λ w. heard_byte w byte) before
-      ∙ ap (heard_byte (heard_bytes first (take (at + count) bytes))) its ∙ sym (fold_more heard_byte first bytes (at + count) 0 there)
+      ∙ ap (heard_byte (heard_bytes first (take count bytes))) its ∙ sym (fold_more heard_byte first bytes count 0 there)
+
+-- some bytes more of all
+pub some_more_heard : (first here after : Waited) (bytes : List ℕ) (at count : ℕ) → here ≡ heard_bytes first (take at bytes)
+    → after ≡ heard_bytes here (take count (drop at bytes)) → after ≡ heard_bytes first (take (at + count) bytes)
+some_more_heard first here after bytes at count so_far some =
+    some ∙ ap (λ w. heard_bytes w (take count (drop at bytes))) so_far
+    ∙ sym (fold-append heard_byte first (take at bytes) (take count (drop at bytes)))
+    ∙ ap (heard_bytes first) (sym (take-add at count bytes))

@@ -3,3 +3,4 @@ pub mod Agents
 pub mod Calls
 pub mod Credentials
 pub mod Replies
+pub mod Waits

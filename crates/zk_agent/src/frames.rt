@@ -1,8 +1,10 @@
 //! Frames in a stream of bytes, each by its xid.
 
-ghost use Rattle.std.specs.Prelude.{◌≡◌, ◌<◌, ◌-◌, if◌then◌else◌};
+ghost use Rattle.std.specs.Prelude.{◌≡◌, ◌<◌, ◌≤◌, ◌-◌, if◌then◌else◌, length, take, IfSome};
+ghost use Rattle.std.specs.Int.{w64, from_be_bytes};
 ghost use Rattle.zk_agent.specs.Credentials.{is_answer};
 ghost use Rattle.zk_agent.specs.Waits.{at_first, ends_with, headed, is_of_call, is_of_ping, is_whole, next_place, place_after};
+ghost use Rattle.zk_agent.specs.inner.Waits.{begun, passed_end, xid_at_end};
 
 /// How many bytes the length and the xid of a frame have.
 const HEAD: u32 = 8;
@@ -83,16 +85,50 @@ impl Frames {
         false
     }
 
+    /// Goes on to the next frame, if one has come whole. The xid of that one.
+    fn read_end(&mut self) -> Option<u64>
+        ensures place { self.new ≡ passed_end self.old }
+        ensures xid { result ≡ xid_at_end self.old }
+    {
+        if self.pass_end() {
+            return Some(self.head % WORD);
+        }
+        None
+    }
+
     /// Takes the next byte. The xid of the frame that ends with it, if one does.
     pub(crate) fn read_byte(&mut self, byte: u8) -> Option<u64>
         ensures place { self.new ≡ place_after byte self.old }
         ensures xid { result ≡ ends_with byte self.old }
     {
         self.take_byte(byte);
-        if self.pass_end() {
-            return Some(self.head % WORD);
+        self.read_end()
+    }
+
+    /// The length and the xid of the next frame as one number, if it begins with these bytes and they have both.
+    pub(crate) fn head_in(&self, bytes: &[u8]) -> Option<u64>
+        ensures begins { IfSome result (λ head. self.now.held ≡ 0) }
+        ensures fits { IfSome result (λ head. 8 ≤ length bytes.now) }
+        ensures number { IfSome result (λ head. head ≡ from_be_bytes w64 (take 8 bytes.now)) }
+    {
+        if self.held != 0 {
+            return None;
         }
-        None
+        let Some((head, _rest)) = bytes.split_first_chunk::<8>() else {
+            return None;
+        };
+        Some(u64::from_be_bytes(*head))
+    }
+
+    /// Takes the length and the xid of a frame at once. The xid, if the frame ends with it.
+    pub(crate) fn read_head(&mut self, head: u64) -> Option<u64>
+        ensures place { self.new ≡ passed_end (begun head) }
+        ensures xid { result ≡ xid_at_end (begun head) }
+    {
+        self.held = HEAD;
+        self.head = head;
+        self.left = (head / WORD).saturating_sub(4);
+        self.read_end()
     }
 
     /// Whether the byte that was taken last ends the header of an answer to a credential.

@@ -1,8 +1,9 @@
 //! What waits for the server's answer on a connection, and since when.
 
-ghost use Rattle.std.specs.Prelude.{◌≡◌, ◌++◌, ◌∷◌, [], drop, replicate, OnOk};
+ghost use Rattle.std.specs.Prelude.{◌≡◌, ◌<◌, ◌≤◌, ◌++◌, ◌∷◌, [], drop, length, replicate, take, OnOk};
 ghost use Rattle.zk_agent.specs.Waits.{answered_by, end_of, ends_at, heard_byte, heard_bytes, is_of_call, is_of_ping, kept_if};
 ghost use Rattle.zk_agent.specs.Waits.{nothing_waits, patience, waited_after, waited_of, with_sent};
+ghost use Rattle.zk_agent.specs.inner.Waits.{heard_head};
 
 use crate::frames::{Frames, is_of_call, is_of_ping};
 use crate::moments::first_of;
@@ -82,16 +83,39 @@ impl<A: Allocator> Waits<A> {
         self.answer(xid);
     }
 
+    /// The length and the xid of a frame came.
+    fn read_head(&mut self, head: u64)
+        ensures { waited_of self.new ≡ heard_head head (waited_of self.old) }
+    {
+        let xid = self.came.read_head(head);
+        self.answer(xid);
+    }
+
+    /// Reads the first bytes that came: the length and the xid of a frame, if it begins with them and they have both; else those within a
+    /// frame that need not be looked at, and the byte after them. How many it reads.
+    fn read_some(&mut self, bytes: &[u8]) -> usize
+        requires { 0 < length bytes.now }
+        ensures some { 0 < result }
+        ensures fits { result ≤ length bytes.now }
+        ensures heard { waited_of self.new ≡ heard_bytes (waited_of self.old) (take result bytes.now) }
+    {
+        if let Some(head) = self.came.head_in(bytes) {
+            self.read_head(head);
+            return 8;
+        }
+        let passed = self.came.pass(bytes.len() as u64) as usize;
+        self.read_byte(bytes[passed]);
+        passed + 1
+    }
+
     /// Bytes came, with which calls and pings may have their answers. It looks at the first eight of each frame, and at its last one.
     pub(crate) fn read_bytes(&mut self, bytes: &[u8])
         ensures { waited_of self.new ≡ heard_bytes (waited_of self.old) bytes.now }
     {
         let mut at = 0usize;
         while at < bytes.len() {
-            let passed = self.came.pass((bytes.len() - at) as u64);
-            at += passed as usize;
-            self.read_byte(bytes[at]);
-            at += 1;
+            let count = self.read_some(&bytes[at..]);
+            at += count;
         }
     }
 
