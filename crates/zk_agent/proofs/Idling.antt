@@ -12,7 +12,7 @@ use Rattle.zk_client.specs.Clients.{view_of}
 use Rattle.zk_dialler.specs.declared.dialler.Dialler.{Dialler}
 use Rattle.zk_dialler.specs.declared.dialler.Phase.{Phase}
 use Rattle.zk_dialler.specs.declared.dialler.Phase.TheVariants.{Waiting, Dialling, Open}
-use Rattle.zk_dialler.specs.Dialling.{has_come, is_due, is_open, DialsWell}
+use Rattle.zk_dialler.specs.Dialling.{has_come, is_due, is_open}
 use Rattle.zk_dialler.specs.Orders.{is_empty_list}
 use Rattle.zk_follow.specs.declared.subject.Subject.{Subject}
 use Rattle.zk_follow.specs.Following.{news_in, told_of, Steps}

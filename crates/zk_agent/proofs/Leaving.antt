@@ -5,7 +5,7 @@ use Rattle.zk_turns.specs.Turns as turns
 use Rattle.zk_turns.specs.View.{View}
 use Rattle.zk_dialler.specs.Dialling.{has_come, Ends}
 use Rattle.zk_agent.specs.Agents.{ends_of, HearsSo, Tires, Trail}
-use Rattle.zk_agent.specs.inner.Agents.{Tired}
+use Rattle.zk_agent.specs.inner.Agents.{LeavesIfLate}
 use Rattle.zk_agent.specs.Calls.{IsAway, IsInTime}
 use Rattle.zk_agent.specs.Overlong.{with_too_long}
 use Rattle.zk_agent.specs.Telling.{HangsUp}
@@ -16,8 +16,8 @@ use Rattle.zk_agent.proofs.Moves.{nothing, one}
 use Rattle.zk_agent.proofs.Turning.{cut_away}
 
 -- none has waited for too long
-pub not_tired : {A : Type 0} (now : ℕ) (here : Trail A) → has_come now (ends_of here) ≡ false → Tired now here here
-not_tired now here in_time =
+pub not_late : {A : Type 0} (now : ℕ) (here : Trail A) → has_come now (ends_of here) ≡ false → LeavesIfLate now here here
+not_late now here in_time =
     record {
       acts = nothing now here;
       limits = λ all. all;
@@ -30,7 +30,7 @@ not_tired now here in_time =
 pub left_late : {A : Type 0} (now : ℕ) (old between after new : Trail A) → has_come now (ends_of old) ≡ true
     → Ends old.view.saved.session.timeout now old.dialler between.dialler
     → between ≡ record old { dialler = between.dialler; told = old.told ++ HangsUp ∷ [] } → HearsSo now turns.Cut between after
-    → new ≡ record after { waits = nothing_waits } → Tired now old new
+    → new ≡ record after { waits = nothing_waits } → LeavesIfLate now old new
 left_late {A} now old between after new late ends hangs hears last =
     let takes = hears.takes in
     let view : new.view ≡ after.view = ap (λ (t : Trail A). t.view) last in

@@ -349,7 +349,7 @@ impl<A: Allocator + Copy> Agent<A> {
         self.renew(actions)?;
         self.give_up(now, actions)?;
         self.send(now, actions)?;
-        self.tire(now, actions)?;
+        self.leave_if_late(now, actions)?;
         self.settle(now, credentials, judged, actions)?;
         Ok(())
     }

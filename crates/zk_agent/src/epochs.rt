@@ -46,7 +46,7 @@ impl<A: Allocator + Copy> Agent<A> {
         ensures broke { OnErr result (IsBroken self.old self.new) }
     {
         self.asker.doubt_all();
-        let _is_lost = self.hear_once(now, Input::Now(now), actions)?;
+        let _is_lost = self.step_client_once(now, Input::Now(now), actions)?;
         Ok(())
     }
 

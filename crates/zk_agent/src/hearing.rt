@@ -108,7 +108,7 @@ impl<A: Allocator + Copy> Agent<A> {
 
     /// Does what the client's outputs ask for: notes what ends a row of failures, lets a connection go that is over, and notes what waits
     /// for its answer.
-    pub(crate) fn heed(
+    pub(crate) fn act_on(
         &mut self,
         now: u64,
         heard: Heard,
@@ -131,7 +131,7 @@ impl<A: Allocator + Copy> Agent<A> {
 
     /// Hands the client an input, and does what it says. Whether a server says that the session is not its own: the connection is hung up
     /// then, and the client is to be told.
-    pub(crate) fn hear_once(
+    pub(crate) fn step_client_once(
         &mut self,
         now: u64,
         input: Input<A>,
@@ -146,7 +146,7 @@ impl<A: Allocator + Copy> Agent<A> {
     {
         note_answers(&mut self.waits, &input);
         let heard = self.asker.step(now, input, actions)?;
-        self.heed(now, heard, actions)?;
+        self.act_on(now, heard, actions)?;
         Ok(heard.is_lost)
     }
 
@@ -161,7 +161,7 @@ impl<A: Allocator + Copy> Agent<A> {
             (AreFollowed now (view_of self.new.asker.follower.client) self.new.asker.follower.subjects.items) }
         ensures broke { OnErr result (IsBroken self.old self.new) }
     {
-        let _is_lost = self.hear_once(now, Input::Cut, actions)?;
+        let _is_lost = self.step_client_once(now, Input::Cut, actions)?;
         Ok(())
     }
 
@@ -198,7 +198,7 @@ impl<A: Allocator + Copy> Agent<A> {
         ensures broke { OnErr result (IsBroken self.old self.new) }
     {
         let was = self.last_zxid();
-        let is_lost = self.hear_once(now, input, actions)?;
+        let is_lost = self.step_client_once(now, input, actions)?;
         self.leave_where_lost(now, is_lost, actions)?;
         self.doubt_where_risen(now, was, actions)
     }

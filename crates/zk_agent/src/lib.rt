@@ -43,7 +43,7 @@ mod renewal;
 mod replies;
 mod sending;
 mod sent;
-mod tiring;
+mod unresponsive;
 mod waits;
 
 pub use action::Action;

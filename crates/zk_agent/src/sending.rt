@@ -32,7 +32,7 @@ impl<A: Allocator + Copy> Agent<A> {
         let Some(heard) = self.asker.hand_over(now, actions)? else {
             return Ok(false);
         };
-        self.heed(now, heard, actions)?;
+        self.act_on(now, heard, actions)?;
         Ok(!heard.goes_back)
     }
 

@@ -59,7 +59,7 @@ pub record Sends {A : Type 0} (now : ℕ) (old new : Trail A) (goes_on : Bool) :
 
 -- A server that has not answered in time is left, and no other. No limit comes with that, no end of the session, and no call; and nothing
 -- waits for too long after it.
-pub record Tired {A : Type 0} (now : ℕ) (old new : Trail A) : Type 0 where
+pub record LeavesIfLate {A : Type 0} (now : ℕ) (old new : Trail A) : Type 0 where
   pub acts : Acts now [] old new
   pub limits : All (IsInTime now) old.line → All (IsInTime now) new.line
   pub ends : (state : State) → is_final state ≡ true → new.view.standing.state ≡ state → old.view.standing.state ≡ state

@@ -1,7 +1,7 @@
 -- At a moment at which nothing is due, and after which nothing is left to be done, the client hears it, and that is all (`comes_idle`,
 -- `trees_idle`, `papers_idle`). Else trees grow first, by moves of the agent's own, and then it takes its input and tells of credentials
 -- (`made`): both together are moves. What was said is noted of the trees at last. Each other clause is what `take` ensures.
-use Rattle.std.proofs.Common.{◌≡◌, ◌≢◌, [], inl, List, None, true, ap, refl, sym, subst, ◌∙◌}
+use Rattle.std.proofs.Common.{◌≡◌, ◌≢◌, [], inl, List, ap, sym, subst, ◌∙◌}
 use Rattle.std.specs.Prelude.{All}
 use Rattle.zk_session.specs.declared.states.State.TheVariants.{Connected, Expired, Closed}
 use Rattle.zk_turns.specs.View.{View}
@@ -12,7 +12,7 @@ use Rattle.zk_calls.specs.declared.line.Line.{Line}
 use Rattle.zk_calls.specs.Lines.{next_call}
 use Rattle.zk_agent.specs.Agents.{moves_of, trail_of, Comes}
 use Rattle.zk_agent.specs.Credentials.{all_written, judging_of, papers_of, with_credential, with_judging, Judging}
-use Rattle.zk_agent.specs.Calls.{IsInTime, IsServed}
+use Rattle.zk_agent.specs.Calls.{IsInTime}
 use Rattle.zk_agent.specs.Trees.{noted_by, Grows}
 use Rattle.zk_agent.specs.Waits.{ends_at, waited_of}
 use Rattle.zk_agent.specs.declared.action.Action.{Action}

@@ -1,4 +1,4 @@
--- The client hears the cut: the first half of what `hear_once` ensures.
+-- The client hears the cut: the first half of what `step_client_once` ensures.
 use Rattle.zk_agent.proofs.agent.Agent.hear_cut.Goals as goal
 
 pub returns-clause-hears : goal.returns-clause-hears

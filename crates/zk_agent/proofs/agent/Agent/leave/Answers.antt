@@ -10,8 +10,8 @@ use Rattle.zk_agent.proofs.Moves.{trail_eq}
 use Rattle.zk_agent.proofs.Leaving.{left_late}
 use Rattle.zk_agent.proofs.agent.Agent.leave.Goals as goal
 
-pub returns-clause-tired : goal.returns-clause-tired
-returns-clause-tired g c =
+pub returns-clause-leaves : goal.returns-clause-leaves
+returns-clause-leaves g c =
     let old = trail_of c.args.self.now c.args.actions.now.items in
     let between = trail_of c.hang_up.new.self c.hang_up.new.actions.items in
     let after = trail_of c.hear_cut.new.self c.hear_cut.new.actions.items in

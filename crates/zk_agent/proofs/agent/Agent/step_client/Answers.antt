@@ -15,7 +15,7 @@ returns-clause-comes g c =
     let hears = c.in_ok-is_lost.ensures.hears in
     let was : to_z w64 (of_z w64 c.last_zxid-was.result) ≡ c.last_zxid-was.result = omega (arith, ints) in
     hears_then c.doubt_where_risen.result c.args.now (input_view c.args.input) (trail_of c.args.self.now c.args.actions.now.items)
-    (trail_of c.hear_once.new.self c.hear_once.new.actions.items)
+    (trail_of c.step_client_once.new.self c.step_client_once.new.actions.items)
     (trail_of c.leave_where_lost.new.self c.leave_where_lost.new.actions.items)
     (trail_of c.doubt_where_risen.new.self c.doubt_where_risen.new.actions.items) c.in_ok-is_lost.is_lost
     (to_z w64 (of_z w64 c.last_zxid-was.result)) hears.0 hears.1 (was ∙ c.last_zxid-was.ensures)
@@ -25,12 +25,12 @@ pub returns-in_err-leave_where_lost-clause-broke : goal.returns-in_err-leave_whe
 returns-in_err-leave_where_lost-clause-broke g c =
     err_always c.from_residual-in_err-leave_where_lost.result
     (after_hears c.args.now (input_view c.args.input) (trail_of c.args.self.now c.args.actions.now.items)
-    (trail_of c.hear_once.new.self c.hear_once.new.actions.items) (view_of c.leave_where_lost.new.self.asker.follower.client)
+    (trail_of c.step_client_once.new.self c.step_client_once.new.actions.items) (view_of c.leave_where_lost.new.self.asker.follower.client)
     c.in_ok-is_lost.ensures.hears.0 c.in_err-leave_where_lost.ensures.broke)
 
 pub returns-clause-broke : goal.returns-clause-broke
 returns-clause-broke g c =
-    let between = trail_of c.hear_once.new.self c.hear_once.new.actions.items in
+    let between = trail_of c.step_client_once.new.self c.step_client_once.new.actions.items in
     let after = trail_of c.leave_where_lost.new.self c.leave_where_lost.new.actions.items in
     let last = view_of c.doubt_where_risen.new.self.asker.follower.client in
     err_so c.doubt_where_risen.result

@@ -31,9 +31,9 @@ returns-clause-comes g c =
     subst (λ papers. Acts now (given ++ more papers) old new) c.in_ok-apply_happening.ensures.papers
     (in_turn now given _ old first (trail_of c.renew.new.self c.renew.new.actions.items)
     (trail_of c.give_up.new.self c.give_up.new.actions.items)
-    (trail_of c.send.new.self c.send.new.actions.items) (trail_of c.tire.new.self c.tire.new.actions.items) new
+    (trail_of c.send.new.self c.send.new.actions.items) (trail_of c.leave_if_late.new.self c.leave_if_late.new.actions.items) new
     c.in_ok-apply_happening.ensures.comes (c.in_ok-renew.ensures.comes now)
-    c.in_ok-give_up.ensures.comes c.in_ok-send.ensures.comes c.in_ok-tire.ensures.tired.acts c.in_ok-settle.ensures.comes)
+    c.in_ok-give_up.ensures.comes c.in_ok-send.ensures.comes c.in_ok-leave_if_late.ensures.leaves.acts c.in_ok-settle.ensures.comes)
 
 pub returns-clause-papers : goal.returns-clause-papers
 returns-clause-papers g c =
@@ -48,34 +48,34 @@ send-requires g c = record {
 pub returns-clause-followed : goal.returns-clause-followed
 returns-clause-followed g c =
     subst (λ (a : Asker g.row.A.Denot). AreFollowed c.args.now (view_of a.follower.client) a.follower.subjects.items)
-    (sym c.settle.ensures.asker) (c.in_ok-tire.ensures.followed c.in_ok-send.ensures.followed)
+    (sym c.settle.ensures.asker) (c.in_ok-leave_if_late.ensures.followed c.in_ok-send.ensures.followed)
 
 pub returns-clause-served : goal.returns-clause-served
 returns-clause-served g c =
     let asker = c.settle.new.self.asker in
     all_served (view_of asker.follower.client) asker.line.entries.items asker.asked
     (subst (λ (a : Asker g.row.A.Denot). IsDone (view_of a.follower.client) a.line.entries.items) (sym c.settle.ensures.asker)
-    (c.in_ok-tire.ensures.tired.done c.in_ok-send.ensures.done))
+    (c.in_ok-leave_if_late.ensures.leaves.done c.in_ok-send.ensures.done))
 
 pub returns-clause-limits : goal.returns-clause-limits
 returns-clause-limits g c =
     subst (λ (a : Asker g.row.A.Denot). All (IsInTime c.args.now) a.line.entries.items) (sym c.settle.ensures.asker)
-    (c.in_ok-tire.ensures.tired.limits (c.in_ok-send.ensures.limits c.in_ok-give_up.ensures.limits))
+    (c.in_ok-leave_if_late.ensures.leaves.limits (c.in_ok-send.ensures.limits c.in_ok-give_up.ensures.limits))
 
 pub returns-clause-closed : goal.returns-clause-closed
 returns-clause-closed g c = λ closed.
     let state = λ (a : Asker g.row.A.Denot). (view_of a.follower.client).standing.state in
     let line = λ (a : Asker g.row.A.Denot). a.line.entries.items in
     let sent : state c.send.new.self.asker ≡ Closed =
-    c.in_ok-tire.ensures.tired.ends Closed refl (sym (ap state c.settle.ensures.asker) ∙ closed) in
+    c.in_ok-leave_if_late.ensures.leaves.ends Closed refl (sym (ap state c.settle.ensures.asker) ∙ closed) in
     let given_up : state c.give_up.new.self.asker ≡ Closed = c.in_ok-send.ensures.ends Closed refl sent in
     let renewed = sym (ap (λ (f : Follower g.row.A.Denot). (view_of f.client).standing.state) c.give_up.ensures.follower) ∙ given_up in
     let same = c.send.ensures.same (λ connected. let f : Closed ≡ Connected = sym given_up ∙ connected in cc) in
-    ap line c.settle.ensures.asker ∙ c.in_ok-tire.ensures.tired.none (ap line same ∙ c.in_ok-give_up.ensures.closed renewed)
+    ap line c.settle.ensures.asker ∙ c.in_ok-leave_if_late.ensures.leaves.none (ap line same ∙ c.in_ok-give_up.ensures.closed renewed)
 
 pub returns-clause-renewed : goal.returns-clause-renewed
 returns-clause-renewed g c = λ expired.
-    let sent = c.in_ok-tire.ensures.tired.ends Expired refl
+    let sent = c.in_ok-leave_if_late.ensures.leaves.ends Expired refl
     (sym (ap (λ (a : Asker g.row.A.Denot). (view_of a.follower.client).standing.state) c.settle.ensures.asker) ∙ expired) in
     let given_up = c.in_ok-send.ensures.ends Expired refl sent in
     c.in_ok-renew.ensures.renewed
@@ -91,8 +91,9 @@ returns-clause-answers g c =
     ap (λ (a : Asker g.row.A.Denot). has_come now (ends_at (view_of a.follower.client).saved.session.timeout (waited_of new.waits)))
     c.settle.ensures.asker
     ∙ ap (λ (w : Waits g.row.A.Denot).
-    has_come now (ends_at (view_of c.tire.new.self.asker.follower.client).saved.session.timeout (waited_of w))) c.settle.ensures.waits
-    ∙ c.in_ok-tire.ensures.tired.answers
+    has_come now (ends_at (view_of c.leave_if_late.new.self.asker.follower.client).saved.session.timeout (waited_of w)))
+    c.settle.ensures.waits
+    ∙ c.in_ok-leave_if_late.ensures.leaves.answers
 
 pub returns-in_err-renew-clause-broke : goal.returns-in_err-renew-clause-broke
 returns-in_err-renew-clause-broke g c =
@@ -131,21 +132,21 @@ returns-in_err-send-clause-broke g c =
     (after_acts now given old happened new first (after_acts now [] happened renewed new (c.in_ok-renew.ensures.comes now)
     (after_acts now [] renewed left new c.in_ok-give_up.ensures.comes c.in_err-send.ensures.broke)))
 
-pub returns-in_err-tire-clause-broke : goal.returns-in_err-tire-clause-broke
-returns-in_err-tire-clause-broke g c =
+pub returns-in_err-leave_if_late-clause-broke : goal.returns-in_err-leave_if_late-clause-broke
+returns-in_err-leave_if_late-clause-broke g c =
     let now = c.args.now in
     let given = given_of c.args.self.now.dialler now c.args.input in
     let old = trail_of c.args.self.now c.args.actions.now.items in
     let happened = trail_of c.apply_happening.new.self c.apply_happening.new.actions.items in
     let first = c.in_ok-apply_happening.ensures.comes in
-    let new = view_of c.tire.new.self.asker.follower.client in
+    let new = view_of c.leave_if_late.new.self.asker.follower.client in
     let renewed = trail_of c.renew.new.self c.renew.new.actions.items in
     let left = trail_of c.give_up.new.self c.give_up.new.actions.items in
     let sent = trail_of c.send.new.self c.send.new.actions.items in
-    err_always c.from_residual-in_err-tire.result
+    err_always c.from_residual-in_err-leave_if_late.result
     (after_acts now given old happened new first (after_acts now [] happened renewed new (c.in_ok-renew.ensures.comes now)
     (after_acts now [] renewed left new c.in_ok-give_up.ensures.comes
-    (after_acts now [] left sent new c.in_ok-send.ensures.comes c.in_err-tire.ensures.broke))))
+    (after_acts now [] left sent new c.in_ok-send.ensures.comes c.in_err-leave_if_late.ensures.broke))))
 
 pub returns-in_err-settle-clause-broke : goal.returns-in_err-settle-clause-broke
 returns-in_err-settle-clause-broke g c =
@@ -158,9 +159,10 @@ returns-in_err-settle-clause-broke g c =
     let renewed = trail_of c.renew.new.self c.renew.new.actions.items in
     let left = trail_of c.give_up.new.self c.give_up.new.actions.items in
     let sent = trail_of c.send.new.self c.send.new.actions.items in
-    let tired = trail_of c.tire.new.self c.tire.new.actions.items in
+    let answered = trail_of c.leave_if_late.new.self c.leave_if_late.new.actions.items in
     err_always c.from_residual-in_err-settle.result
     (after_acts now given old happened new first (after_acts now [] happened renewed new (c.in_ok-renew.ensures.comes now)
     (after_acts now [] renewed left new c.in_ok-give_up.ensures.comes
-    (after_acts now [] left sent new c.in_ok-send.ensures.comes (after_acts now [] sent tired new c.in_ok-tire.ensures.tired.acts
-    (beside tired.timeout tired.view new (ap (λ (a : Asker g.row.A.Denot). view_of a.follower.client) c.settle.ensures.asker)))))))
+    (after_acts now [] left sent new c.in_ok-send.ensures.comes
+    (after_acts now [] sent answered new c.in_ok-leave_if_late.ensures.leaves.acts
+    (beside answered.timeout answered.view new (ap (λ (a : Asker g.row.A.Denot). view_of a.follower.client) c.settle.ensures.asker)))))))

@@ -14,13 +14,13 @@ impl<A: Allocator + Copy> Agent<A> {
     ghost use Rattle.zk_dialler.specs.Dialling.{has_come};
     ghost use Rattle.zk_follow.specs.Following.{AreFollowed};
     ghost use Rattle.zk_agent.specs.Agents.{ends_of, trail_of, IsBroken};
-    ghost use Rattle.zk_agent.specs.inner.Agents.{Tired};
+    ghost use Rattle.zk_agent.specs.inner.Agents.{LeavesIfLate};
     ghost use Rattle.zk_agent.specs.Waits.{ends_at, waited_of};
 
     /// Leaves the connection, and tells the client so. Nothing waits then.
     fn leave(&mut self, now: u64, actions: &mut Vec<Action<A>, A>) -> Result<(), FollowerStop>
         requires { has_come now (ends_of (trail_of self.old actions.old.items)) ≡ true }
-        ensures tired { OnOk result (Tired now (trail_of self.old actions.old.items) (trail_of self.new actions.new.items)) }
+        ensures leaves { OnOk result (LeavesIfLate now (trail_of self.old actions.old.items) (trail_of self.new actions.new.items)) }
         ensures followed { OnOk result
             (AreFollowed now (view_of self.new.asker.follower.client) self.new.asker.follower.subjects.items) }
         ensures broke { OnErr result (IsBroken self.old self.new) }
@@ -43,12 +43,12 @@ impl<A: Allocator + Copy> Agent<A> {
 
     /// Leaves a connection on which a call or a ping has waited for so long.
     #[inline(always)]
-    pub(crate) fn tire(
+    pub(crate) fn leave_if_late(
         &mut self,
         now: u64,
         actions: &mut Vec<Action<A>, A>,
     ) -> Result<(), FollowerStop>
-        ensures tired { OnOk result (Tired now (trail_of self.old actions.old.items) (trail_of self.new actions.new.items)) }
+        ensures leaves { OnOk result (LeavesIfLate now (trail_of self.old actions.old.items) (trail_of self.new actions.new.items)) }
         ensures followed { AreFollowed now (view_of self.old.asker.follower.client) self.old.asker.follower.subjects.items
             → OnOk result (AreFollowed now (view_of self.new.asker.follower.client) self.new.asker.follower.subjects.items) }
         ensures broke { OnErr result (IsBroken self.old self.new) }
