@@ -196,7 +196,9 @@ impl<A: Allocator + Copy> DigestTree<A> {
         ensures { OnOk result (tree_of self.new.nodes ≡ part_done stamp (part_of part.now) (tree_of self.old.nodes)) }
     {
         let txn = Txn::of_part(self.alloc, part.0, part_bytes(part))?;
-        self.follow_txn(stamp, &txn).map_err(From::from)
+        let outcome = self.follow_txn(stamp, &txn);
+        drop(txn);
+        outcome.map_err(From::from)
     }
 
     /// Does what the parts of a multi say, unless one has failed.

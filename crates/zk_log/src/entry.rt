@@ -104,7 +104,10 @@ fn whole_entry<'a, A: Allocator + Copy>(
     ensures err { IfErr result (λ e. digest ≡ Err e) }
 {
     match digest {
-        Err(fault) => Err(fault),
+        Err(fault) => {
+            drop(txn);
+            Err(fault)
+        }
         Ok(digest) => Ok(LogEntry {
             session: front.session,
             cxid: front.cxid,

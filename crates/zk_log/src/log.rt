@@ -79,7 +79,9 @@ fn read_placed<'a, A: Allocator + Copy>(
             if low < entry.zxid {
                 Ok(PlacedEntry { place, entry })
             } else {
-                Err(LogFault::Order(place, entry.zxid))
+                let zxid = entry.zxid;
+                drop(entry);
+                Err(LogFault::Order(place, zxid))
             }
         }
     }

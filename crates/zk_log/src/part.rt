@@ -23,6 +23,7 @@ fn whole_part<'a, 'b, A: Allocator + Copy>(
     if rest.is_empty() {
         Ok(txn)
     } else {
+        drop(txn);
         Err(EntryFault::Trailing(place))
     }
 }

@@ -9,7 +9,7 @@ use Rattle.zk_log.proofs.digest_tree.DigestTree.follow_part.Goals as goal
 pub returns : goal.returns
 returns g c =
     let fits : FitsSigned w32 c.args.part.now.0 = search rules in
-    through c.follow_txn.result c.map_err.result c.map_err.ensures.variant
+    through c.follow_txn-outcome.result c.map_err.result c.map_err.ensures.variant
     (part_as c.args.stamp (part_of c.args.part.now) _ c.part_bytes.result.now c.in_ok-txn.txn (tree_of c.args.self.now.nodes) _
     (to_z-of_z w32 c.args.part.now.0 fits) c.part_bytes.ensures c.in_ok-txn.ensures)
-    c.follow_txn.ensures
+    c.follow_txn-outcome.ensures
