@@ -78,16 +78,17 @@ impl<A: Allocator + Copy> Story<A> {
         ensures { IfOk result (λ text. IsAnswer side self.now.history (natural zxid) path.now (string_bytes text)) }
     {
         let mut text = String::new(alloc);
-        match side {
+        let pushed = match side {
             Side::Data => {
                 let told = self.history.data_at(zxid, path)?;
-                push_data(&mut text, alloc, &told)?;
+                push_data(&mut text, alloc, &told)
             }
             Side::Child => {
                 let told = self.history.names_at(zxid, path)?;
-                push_names(&mut text, alloc, &told)?;
+                push_names(&mut text, alloc, &told)
             }
-        }
+        };
+        pushed?;
         Ok(text)
     }
 
@@ -97,21 +98,20 @@ impl<A: Allocator + Copy> Story<A> {
         ensures refused { IfErr result (IsRefused (value_of line) self.old.history) }
         ensures err { OnErr result (self.new ≡ self.old) }
     {
-        match line {
+        let (done, begun) = match line {
             HistoryLine::Node(path, bytes, time) => {
-                allowed(self.history.node(path, bytes, time))?;
+                (self.history.node(path, bytes, time), self.begun)
             }
-            HistoryLine::Begin(zxid, time) => {
-                allowed(self.history.begin(zxid, time))?;
-                self.begun = true;
-            }
-            HistoryLine::Change(change) => allowed(self.history.change(change))?,
+            HistoryLine::Begin(zxid, time) => (self.history.begin(zxid, time), true),
+            HistoryLine::Change(change) => (self.history.change(change), self.begun),
             HistoryLine::Ask(side, zxid, path) => {
                 let answer = self.answer(alloc, side, zxid, &path)?;
                 self.asked = true;
                 return Ok(answer);
             }
-        }
+        };
+        allowed(done)?;
+        self.begun = begun;
         Ok(String::new(alloc))
     }
 
