@@ -1,6 +1,7 @@
 //! Words of a line: a name, and a value after it.
 
-ghost use Rattle.std.specs.Prelude.{◌≡◌, ◌++◌, [], OnOk, IsSome, unwrap_or, string_bytes};
+ghost use Rattle.std.specs.Fmt.{decimal};
+ghost use Rattle.std.specs.Prelude.{◌≡◌, ◌++◌, [], OnOk, IsSome, codes, unwrap_or, string_bytes};
 ghost use Rattle.script_words.specs.Words.{text_word};
 ghost use Rattle.script_stream.specs.Words.{count_word, named, size_word};
 ghost use Rattle.script_stream.specs.inner.Words.{field_word, fields_words};
@@ -49,6 +50,20 @@ pub fn push_value<A: Allocator, D: Display>(
     push_named(text, name, word.as_str())
 }
 
+/// Adds a name, and a number of bytes.
+pub(crate) fn push_length<A: Allocator>(
+    text: &mut String<A>,
+    alloc: A,
+    name: &str,
+    count: usize,
+) -> Result<(), AllocError>
+    ensures { OnOk result (string_bytes text.new ≡ string_bytes text.old ++ named name.now (decimal count ++ codes " bytes")) }
+{
+    let mut word = count.to_string(alloc)?;
+    word.push_str(" bytes")?;
+    push_named(text, name, word.as_str())
+}
+
 /// Adds a name, and how many bytes data are.
 pub fn push_size<A: Allocator + Copy>(
     text: &mut String<A>,
@@ -60,11 +75,7 @@ pub fn push_size<A: Allocator + Copy>(
 {
     match bytes.as_slice() {
         None => push_named(text, name, NULL),
-        Some(bytes) => {
-            let mut word = bytes.len().to_string(alloc)?;
-            word.push_str(" bytes")?;
-            push_named(text, name, word.as_str())
-        }
+        Some(bytes) => push_length(text, alloc, name, bytes.len()),
     }
 }
 

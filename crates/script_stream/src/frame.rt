@@ -9,10 +9,11 @@ ghost use Rattle.script_stream.specs.Frames.{frame_told, header_words, place_wor
 ghost use Rattle.script_stream.specs.Frames.{topic_words, type_words};
 
 use crate::asked::{Topic, topic_of};
-use crate::fields::{push_named, push_value};
+use crate::fields::{ToldField, push_fields, push_named, push_value};
 use crate::names::{code_name, type_name};
 use crate::told::{push_fault, push_record};
 use crate::way::Way;
+use script_words::values::push_word;
 use script_words::words::{NONE, boolean_to_word};
 use std::alloc::{AllocError, Allocator};
 use zk_jute::{Cursor, TakeError, take};
@@ -92,9 +93,13 @@ fn push_response<A: Allocator + Copy>(
 ) -> Result<(), AllocError>
     ensures { OnOk result (string_bytes text.new ≡ string_bytes text.old ++ response_words (lent_response_of response.now)) }
 {
-    push_value(text, alloc, "protocolVersion", &response.protocol_version)?;
-    push_value(text, alloc, "timeOut", &response.time_out)?;
-    push_value(text, alloc, "sessionId", &response.session_id)?;
+    let version = &response.protocol_version;
+    let fields = [
+        ("protocolVersion", ToldField::Int(version)),
+        ("timeOut", ToldField::Int(&response.time_out)),
+        ("sessionId", ToldField::Long(&response.session_id)),
+    ];
+    push_fields(text, alloc, &fields)?;
     match response.read_only {
         Some(flag) => push_named(text, "readOnly", boolean_to_word(flag)),
         None => push_named(text, "readOnly", NONE),
@@ -230,6 +235,7 @@ fn push_reply<A: Allocator + Copy>(
 }
 
 /// Adds the direction, and a place in it.
+#[tactic(auto, unfolding(script_words::specs::Values::spaced))]
 pub fn push_place<A: Allocator + Copy>(
     text: &mut String<A>,
     alloc: A,
@@ -238,10 +244,8 @@ pub fn push_place<A: Allocator + Copy>(
 ) -> Result<(), AllocError>
     ensures { OnOk result (string_bytes text.new ≡ string_bytes text.old ++ place_words way place) }
 {
-    let place = place.to_string(alloc)?;
     text.push_str(way.mark())?;
-    text.push_str(" ")?;
-    text.push_str(place.as_str())
+    push_word(text, alloc, &place)
 }
 
 /// Adds the words of a payload. The first in each direction has no header.

@@ -11,7 +11,7 @@ ghost use Rattle.script_stream.specs.Streams.{left_line, telling};
 ghost use Rattle.script_stream.specs.inner.Streams.{position_of};
 
 use crate::asked::note;
-use crate::fields::{push_named, push_value};
+use crate::fields::{push_length, push_value};
 use crate::frame::{push_frame, push_place};
 use crate::line::{CaptureLine, parse_line};
 use crate::way::Way;
@@ -158,10 +158,8 @@ fn push_left<A: Allocator + Copy>(
     if place >= came {
         return Ok(());
     }
-    let mut word = (came - place).to_string(alloc)?;
-    word.push_str(" bytes")?;
     push_place(text, alloc, way, place)?;
-    push_named(text, "left", word.as_str())?;
+    push_length(text, alloc, "left", came - place)?;
     text.push_str("\n")
 }
 
