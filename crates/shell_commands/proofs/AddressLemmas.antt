@@ -1,10 +1,13 @@
 -- Whether each word is admitted, and what is told where the words ask for nothing: by induction on the words, up to the first stranger.
-use Rattle.std.proofs.Common.{◌≡◌, ◌≢◌, ◌∙◌, Bool, true, false, List, [], ◌∷◌, Option, Some, None, ap, refl, sym, subst, map, unwrap_or}
+use Rattle.std.proofs.Common.{◌≡◌, ◌≢◌, ◌∙◌, Bool, true, false, List, [], ◌∷◌, Option, Some, None, ap, ap₂, codes, refl, sym, subst}
+use Rattle.std.proofs.Common.{map, unwrap_or}
 use Rattle.std.specs.Prelude.{not, find, ◌&&◌, cond, Result, Ok, Err, IfErr, IsErrAnd}
 use Rattle.std.specs.Borrow.{Bor}
 use Rattle.std.specs.List.{list_all}
-use Rattle.clap.specs.Words.{Row, Text}
+use Rattle.std.proofs.lemmas.Bool.{true≢false}
+use Rattle.clap.specs.Words.{Row, Text, first_of}
 use Rattle.shell_commands.specs.Asks.{AreServers, chroot_text, cut_at_slash}
+use Rattle.shell_commands.specs.CommandLine.{IsNode, is_below}
 use Rattle.shell_commands.specs.declared.line_fault.LineFault.{LineFault}
 use Rattle.shell_commands.specs.declared.line_fault.LineFault.TheVariants.{Help, Refused, Memory}
 use Rattle.shell_commands.specs.inner.CommandLine.{IsNoHelp, TellsIf}
@@ -62,3 +65,12 @@ pub one_chroot : (rows : List Row) (addresses others : List Text) (chroot other 
 one_chroot rows addresses others chroot other one two =
     let same : one.word ≡ two.word = ap (λ o. unwrap_or o []) (sym one.given ∙ two.given) in
     one.are.2 ∙ ap (λ (w : Text). chroot_text (cut_at_slash w).1) same ∙ sym two.are.2
+
+-- where the path of the node that is named is refused, no node below the chroot that was given is
+pub no_node : (rows : List Row) (word chroot text : Text) (addresses : List Text)
+    → first_of (codes "PATH") rows ≡ Some word → AreServers addresses chroot rows → text ≡ chroot → is_below text word ≡ false
+    → (others : List Text) (other name : Text) → AreServers others other rows → IsNode other name rows → ⊥
+no_node rows word chroot text addresses some servers at refused others other name are node =
+    let same : name ≡ word = ap (λ o. unwrap_or o []) (sym node.given ∙ some) in
+    let below : other ≡ text = one_chroot rows others addresses other chroot are servers ∙ sym at in
+    true≢false (sym node.is ∙ ap₂ is_below below same ∙ refused)

@@ -2,5 +2,6 @@
 pub mod CommandLine
 pub mod Fields
 pub mod Files
+pub mod Forms
 pub mod Show
 pub mod Written

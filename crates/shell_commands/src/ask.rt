@@ -67,12 +67,8 @@ fn why_words(fault: FileFault) -> &'static str
 fn unread_line(alloc: Global, name: &str, fault: FileFault) -> Result<String, AllocError>
     ensures { IfOk result (λ line. string_bytes line ≡ fault_line (codes "unread: ") name.now (why_words fault)) }
 {
-    let mut line = String::from_str(alloc, "unread: ")?;
-    line.push_str(name)?;
-    line.push_str(": ")?;
-    line.push_str(why_words(fault))?;
-    line.push_str("\n")?;
-    Ok(line)
+    let why = why_words(fault);
+    format!(in alloc; "unread: {name}: {why}\n")
 }
 
 /// Tells why a file gives no data.

@@ -2,7 +2,7 @@
 
 ghost use Rattle.std.specs.Prelude.{◌≡◌, ◌==◌, true, false, List, None, Some, IfOk, IfErr, OnOk, codes, find, map, not, string_bytes};
 ghost use Rattle.std.specs.List.{list_all, slice_split};
-ghost use Rattle.std.specs.Option.{option_and_then};
+ghost use Rattle.std.specs.Option.{option_and_then, option_map};
 ghost use Rattle.clap.specs.Words.{Text, first_of, found_of, rows_of};
 ghost use Rattle.shell_commands.specs.Asks.{AreServers, absolute, chroot_text, cut_at_slash, data_form, flag, form_for, form_or_json};
 ghost use Rattle.shell_commands.specs.Asks.{is_root};
@@ -11,7 +11,7 @@ ghost use Rattle.shell_commands.specs.inner.CommandLine.{TellsIf};
 ghost use Rattle.shell_commands.specs.CommandLine.{is_below, wait_at};
 
 use crate::host_name::is_named_server;
-use crate::line_fault::{LineFault, no_command, no_server, no_wait};
+use crate::line_fault::{LineFault, NO_SERVER, NO_WAIT, no_command, refused};
 use crate::verb::Verb;
 use crate::watch_words::{count_of, path_of};
 use clap::ArgMatches;
@@ -68,8 +68,7 @@ fn between_commas<'a>(alloc: Global, text: &'a str) -> Result<Vec<&'a str>, Allo
 fn stranger<'a>(words: &[&'a str]) -> Option<&'a str>
     ensures { result ≡ find (λ w. not (is_named_server w.now)) words.now }
 {
-    let word = words.iter().find(|word| !is_named_server(word))?;
-    Some(*word)
+    words.iter().find(|word| !is_named_server(word)).copied()
 }
 
 /// The servers of a list.
@@ -80,7 +79,7 @@ fn hosts_of<'a>(alloc: Global, hosts: &'a str) -> Result<Vec<&'a str>, LineFault
 {
     let addresses = between_commas(alloc, hosts)?;
     match stranger(addresses.as_slice()) {
-        Some(word) => Err(no_server(alloc, word)),
+        Some(word) => Err(refused(alloc, word, NO_SERVER)),
         None => Ok(addresses),
     }
 }
@@ -95,7 +94,7 @@ pub(crate) fn servers_of<'a>(
     ensures err { IfErr result
         (TellsIf ((addresses : List Text) (chroot : Text) → AreServers addresses chroot (rows_of (found_of matches.now)) → ⊥)) }
 {
-    let Some(word) = matches.get_str("SERVERS") else {
+    let Some(word) = given(matches, "SERVERS") else {
         return Err(no_command(alloc));
     };
     let (hosts, below) = parted(word);
@@ -131,20 +130,27 @@ pub(crate) fn wait_of(alloc: Global, matches: &ArgMatches<'_>) -> Result<u64, Li
     ensures ok { IfOk result (λ ms. option_and_then wait_at (first_of (codes "wait") (rows_of (found_of matches.now))) ≡ Some ms) }
     ensures err { IfErr result (TellsIf (option_and_then wait_at (first_of (codes "wait") (rows_of (found_of matches.now))) ≡ None)) }
 {
-    let Some(word) = matches.get_str("wait") else {
+    let Some(word) = given(matches, "wait") else {
         return Err(no_command(alloc));
     };
     match count_of(word, MOST_SECONDS) {
         Some(seconds) => Ok(1000 * seconds),
-        None => Err(no_wait(alloc, word)),
+        None => Err(refused(alloc, word, NO_WAIT)),
     }
+}
+
+/// The word that was given for a name.
+pub(crate) fn given<'a>(matches: &ArgMatches<'a>, name: &str) -> Option<&'a str>
+    ensures { option_map (λ w. w.now) result ≡ first_of name.now (rows_of (found_of matches.now)) }
+{
+    matches.get_str(name)
 }
 
 /// Whether a flag is used.
 pub(crate) fn flag(matches: &ArgMatches<'_>, name: &str) -> bool
     ensures { result ≡ flag name.now (rows_of (found_of matches.now)) }
 {
-    match matches.get_str(name) {
+    match given(matches, name) {
         Some(word) => word == "true",
         None => false,
     }

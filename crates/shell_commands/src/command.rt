@@ -1,51 +1,35 @@
 //! What a command line asks for.
 
-ghost use Rattle.std.specs.Prelude.{◌≡◌, ℕ, ℤ, true, List, Option, IfOk, IfErr, IfSome, IfNone, find, map, codes, not};
+ghost use Rattle.std.specs.Prelude.{◌≡◌, ℕ, ℤ, List, Option, IfOk, IfErr, IfSome, IfNone, find, map, codes, not};
 ghost use Rattle.std.specs.Borrow.{Bor};
 ghost use Rattle.std.specs.Global.{Global, Vec};
-ghost use Rattle.clap.specs.Words.{Text, app_of, found_of, first_value, kind_of, new_app, rows_of, subcommand_rows_of, with_subcommand};
+ghost use Rattle.clap.specs.Words.{Text, found_of, first_value, kind_of, rows_of, subcommand_rows_of};
 ghost use Rattle.script_live.specs.Addresses.{is_address};
 ghost use Rattle.shell_commands.specs.Kinds.{kind_word};
-ghost use Rattle.shell_commands.specs.CommandLine.{AreAddresses, AreKinds, AsksFor, AsksForNone, AsksQuestion, IsAsked, IsDue, IsFound};
-ghost use Rattle.shell_commands.specs.CommandLine.{IsWatch, Sights, sights_of, history_app, live_app, rehearse_app};
+ghost use Rattle.shell_commands.specs.CommandLine.{AreAddresses, AsksFor, AsksForNone, AsksQuestion, IsAsked, IsDue, IsFound};
+ghost use Rattle.shell_commands.specs.CommandLine.{IsWatch, Sights, sights_of};
 ghost use Rattle.shell_commands.specs.inner.CommandLine.{Tells, TellsIf};
-ghost use Rattle.shell_commands.specs.CommandLine.{replay_app, show_app, shell_app, shell_top, watch_app};
 ghost use Rattle.shell_ask.specs.declared.plan.Form.{Form};
 ghost use Rattle.zk_conversation.specs.Calls.{Call as Calls};
 ghost use Rattle.zk_nodes.specs.declared.side.Side.{Side};
 ghost use Rattle.shell_watch.specs.declared.plan.Style.{Style};
 
-use crate::ask_forms::{with_reads, with_writes};
-use crate::ask_words::{form_for, node_of, servers_of, wait_of};
+use crate::ask_words::{form_for, given, node_of, servers_of, wait_of};
 use crate::data_words::call_of;
-use crate::help;
+use crate::forms::shell_form;
 use crate::kind::FrameKind;
-use crate::line_fault::{LineFault, no_address, no_command};
+use crate::line_fault::{LineFault, NO_ADDRESS, no_command, refused};
 use crate::tree_words::tree_of;
 use crate::verb::Verb;
-use crate::watch_words::{addresses_arg, duration_of, scope_of, style_of, timeout_of, watch_form};
+use crate::watch_words::{duration_of, scope_of, style_of, timeout_of};
 use clap::error::ErrorKind;
-use clap::{Arg, ArgMatches, Error};
+use clap::{ArgMatches, Error};
 use script_live::address::is_address;
 use shell_ask::Form;
 use shell_watch::{NodeSide, Style};
-use std::alloc::{AllocError, Global};
+use std::alloc::Global;
 use zk_client::Call;
 use zk_nodes::Path;
-
-static KINDS: [&str; 11] = [
-    "connect",
-    "accepted",
-    "request",
-    "notice",
-    "reply-exists",
-    "reply-setdata",
-    "reply-getdata",
-    "reply-getchildren",
-    "reply-getchildren2",
-    "reply-create",
-    "reply-header",
-];
 
 /// What a command line asks for.
 #[derive(Drop)]
@@ -118,116 +102,6 @@ pub struct Tour<'a> {
     pub wait_ms: u64,
 }
 
-/// The form of `show`.
-fn show_form<'a>(alloc: Global) -> Result<clap::Command<'a>, AllocError>
-    ensures { IfOk result (λ r. (names : Bor (List (Bor Text))) × AreKinds names × (app_of r ≡ show_app names)) }
-{
-    let kind = Arg::new(alloc, "KIND")
-        .required(true)
-        .value_parser(KINDS.as_slice())
-        .help("What kind of payload the frame has");
-    let show = clap::Command::new(alloc, "show")
-        .about("Prints the fields of a frame, and its bytes again")
-        .after_help(help::SHOW)
-        .arg(kind)?;
-    let hex = Arg::new(alloc, "HEX")
-        .required(true)
-        .help("One whole frame with its length, in hex without spaces");
-    show.arg(hex)
-}
-
-/// A form with one more command, of this name, that takes a script and no words, and what its help says first and last.
-fn with_script<'a>(
-    alloc: Global,
-    form: clap::Command<'a>,
-    name: &'a str,
-    about: &'a str,
-    lines: &'a str,
-) -> Result<clap::Command<'a>, AllocError>
-    ensures { IfOk result (λ r. app_of r ≡ with_subcommand (app_of form.entry) (new_app name.now).top) }
-{
-    let script = clap::Command::new(alloc, name)
-        .about(about)
-        .after_help(lines);
-    form.subcommand(script)
-}
-
-/// A form with the three commands that take a script and no words.
-fn with_scripts<'a>(alloc: Global, form: clap::Command<'a>) -> Result<clap::Command<'a>, AllocError>
-    ensures { IfOk result (λ r. app_of r
-        ≡ with_subcommand (with_subcommand (with_subcommand (app_of form.entry) history_app.top) replay_app.top) rehearse_app.top) }
-{
-    let form = with_script(
-        alloc,
-        form,
-        "history",
-        "Answers data and names of a history at any zxid",
-        help::HISTORY,
-    )?;
-    let form = with_script(
-        alloc,
-        form,
-        "replay",
-        "Drives a client by a script, and prints what it says and keeps",
-        help::REPLAY,
-    )?;
-    with_script(
-        alloc,
-        form,
-        "rehearse",
-        "Drives a client by a script against servers in memory",
-        help::REHEARSE,
-    )
-}
-
-/// The form of `live`.
-fn live_form<'a>(alloc: Global) -> Result<clap::Command<'a>, AllocError>
-    ensures { IfOk result (λ r. app_of r ≡ live_app) }
-{
-    clap::Command::new(alloc, "live")
-        .about("Drives a client over TCP by a script, and prints what it says and keeps")
-        .after_help(help::LIVE)
-        .arg(addresses_arg(alloc))
-}
-
-/// A form with the two commands that connect.
-fn with_sessions<'a>(
-    alloc: Global,
-    form: clap::Command<'a>,
-) -> Result<clap::Command<'a>, AllocError>
-    ensures { IfOk result (λ r. app_of r ≡ with_subcommand (with_subcommand (app_of form.entry) live_app.top) watch_app.top) }
-{
-    let live = live_form(alloc)?;
-    let form = form.subcommand(live)?;
-    let watch = watch_form(alloc)?;
-    form.subcommand(watch)
-}
-
-/// The command line's form with one command, and all that its help says except about the others.
-fn form_with<'a>(alloc: Global, command: clap::Command<'a>) -> Result<clap::Command<'a>, AllocError>
-    ensures { IfOk result
-        (λ r. (app_of command.entry).top.is_plain ≡ true → app_of r ≡ with_subcommand shell_top (app_of command.entry).top) }
-{
-    clap::Command::new(alloc, "zk_shell")
-        .about("Reads, changes and watches nodes, shows frames, and drives a client by scripts")
-        .version(help::VERSION)
-        .after_help(help::SHELL)
-        .subcommand_required(true)
-        .subcommand(command)
-}
-
-/// The command line's form.
-fn form<'a>(alloc: Global) -> Result<clap::Command<'a>, AllocError>
-    ensures { IfOk result (λ r. (names : Bor (List (Bor Text))) × AreKinds names × (app_of r ≡ shell_app names)) }
-{
-    let show = show_form(alloc)?;
-    let shown = form_with(alloc, show)?;
-    let driven = with_scripts(alloc, shown)?;
-    let joined = with_sessions(alloc, driven)?;
-    let reading = with_reads(alloc, joined)?;
-    with_writes(alloc, reading)
-}
-
 /// What a refusal of `clap` says.
 fn told_of(alloc: Global, error: &Error) -> LineFault
     ensures { Tells (kind_of error.now) result }
@@ -260,8 +134,7 @@ fn show_of<'a>(matches: &ArgMatches<'a>) -> Option<Command<'a>>
 fn stranger<'a>(words: &[&'a str]) -> Option<&'a str>
     ensures { result ≡ find (λ w. not (is_address w.now)) words.now }
 {
-    let word = words.iter().find(|word| !is_address(word))?;
-    Some(*word)
+    words.iter().find(|word| !is_address(word)).copied()
 }
 
 /// The addresses that are given, where each word is one.
@@ -273,7 +146,7 @@ fn addresses_of<'a>(alloc: Global, matches: &ArgMatches<'a>) -> Result<Vec<&'a s
         return Err(no_command(alloc));
     };
     if let Some(word) = stranger(words) {
-        return Err(no_address(alloc, word));
+        return Err(refused(alloc, word, NO_ADDRESS));
     }
     let addresses = Vec::from_slice(alloc, words)?;
     Ok(addresses)
@@ -321,7 +194,7 @@ fn ask_of<'a>(alloc: Global, verb: Verb, matches: &ArgMatches<'a>) -> Result<Com
         (TellsIf ((addresses : List Text) (chroot name : Text) (call : Calls) (from : Option Text) (form : Form) (wait_ms : ℕ)
         → IsAsked verb addresses chroot name call from form wait_ms (rows_of (found_of matches.now)) → ⊥)) }
 {
-    let Some(name) = matches.get_str("PATH") else {
+    let Some(name) = given(matches, "PATH") else {
         return Err(no_command(alloc));
     };
     let wait_ms = wait_of(alloc, matches)?;
@@ -333,7 +206,7 @@ fn ask_of<'a>(alloc: Global, verb: Verb, matches: &ArgMatches<'a>) -> Result<Com
         chroot,
         name,
         call,
-        from: matches.get_str("from"),
+        from: given(matches, "from"),
         form: form_for(verb, matches),
         wait_ms,
     }))
@@ -368,7 +241,7 @@ pub fn command_of<'a>(alloc: Global, words: &'a [&'a str]) -> Result<Command<'a>
     ensures ok { IfOk result (AsksFor (map (λ w. w.now) words.entry.now)) }
     ensures err { IfErr result (IsDue (map (λ w. w.now) words.entry.now)) }
 {
-    match form(alloc)?.try_get_matches_from(words) {
+    match shell_form(alloc)?.try_get_matches_from(words) {
         Ok(matches) => asked(alloc, &matches),
         Err(error) => Err(told_of(alloc, &error)),
     }

@@ -7,8 +7,8 @@ ghost use Rattle.zk_conversation.specs.Views.{call_view, mode_number};
 ghost use Rattle.shell_commands.specs.Asks.{call_for, data_given, data_in, data_with, mode_in, version_in};
 ghost use Rattle.shell_commands.specs.inner.CommandLine.{TellsIf};
 
-use crate::ask_words::flag;
-use crate::line_fault::{LineFault, no_data, no_hex, no_version, two_data};
+use crate::ask_words::{flag, given};
+use crate::line_fault::{LineFault, NO_HEX, NO_VERSION, TWO_DATA, no_data, refused};
 use crate::verb::Verb;
 use clap::ArgMatches;
 use script_words::numbers::natural_of;
@@ -32,7 +32,7 @@ fn bytes_of(alloc: Global, word: &str, is_hex: bool) -> Result<Option<Vec<u8>>, 
     match parse_data(alloc, word.as_bytes()) {
         Ok(bytes) => Ok(bytes),
         Err(ScriptFault::Memory) => Err(LineFault::Memory),
-        Err(_) => Err(no_hex(alloc, word)),
+        Err(_) => Err(refused(alloc, word, NO_HEX)),
     }
 }
 
@@ -51,7 +51,7 @@ fn data_from(
         (None, true) => Ok(None),
         (None, false) => Err(no_data(alloc)),
         (Some(word), false) => bytes_of(alloc, word, is_hex),
-        (Some(word), true) => Err(two_data(alloc, word)),
+        (Some(word), true) => Err(refused(alloc, word, TWO_DATA)),
     }
 }
 
@@ -73,8 +73,8 @@ fn data_with(
     };
     match (word, is_null, is_hex) {
         (None, false, false) => Ok(None),
-        (Some(word), _, _) => Err(two_data(alloc, word)),
-        (None, _, _) => Err(two_data(alloc, file)),
+        (Some(word), _, _) => Err(refused(alloc, word, TWO_DATA)),
+        (None, _, _) => Err(refused(alloc, file, TWO_DATA)),
     }
 }
 
@@ -85,8 +85,8 @@ fn data_of(alloc: Global, matches: &ArgMatches<'_>) -> Result<Option<Vec<u8>>, L
 {
     let is_null = flag(matches, "null");
     let is_hex = flag(matches, "hex");
-    let word = matches.get_str("DATA");
-    let file = matches.get_str("from");
+    let word = given(matches, "DATA");
+    let file = given(matches, "from");
     data_with(alloc, file, word, is_null, is_hex)
 }
 
@@ -95,12 +95,12 @@ fn version_of(alloc: Global, matches: &ArgMatches<'_>) -> Result<i32, LineFault>
     ensures ok { IfOk result (λ version. version_in (rows_of (found_of matches.now)) ≡ Some version) }
     ensures err { IfErr result (TellsIf (version_in (rows_of (found_of matches.now)) ≡ None)) }
 {
-    let Some(word) = matches.get_str("version") else {
+    let Some(word) = given(matches, "version") else {
         return Ok(-1);
     };
     match natural_of(word.as_bytes(), GREATEST) {
         Some(version) => Ok(version as i32),
-        None => Err(no_version(alloc, word)),
+        None => Err(refused(alloc, word, NO_VERSION)),
     }
 }
 

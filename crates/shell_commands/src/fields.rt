@@ -124,11 +124,7 @@ fn numbered<A: Allocator + Copy>(
 ) -> Result<String<A>, AllocError>
     ensures { IfOk result (λ word. string_bytes word ≡ name.now ++ 46 ∷ decimal number) }
 {
-    let number = number.to_string(alloc)?;
-    let mut word = String::from_str(alloc, name)?;
-    word.push_str(".")?;
-    word.push_str(number.as_str())?;
-    Ok(word)
+    format!(in alloc; "{name}.{number}")
 }
 
 /// Adds a line for each text, with its number after a dot.

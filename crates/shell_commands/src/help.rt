@@ -14,7 +14,7 @@ reads the output has closed it. Commands that ask for one node or a tree end wit
 `zk_shell get --help`. A watch ends with 9 too: `zk_shell watch --help`.";
 
 /// At the end of the help of `live`.
-pub const LIVE: &str =
+const LIVE: &str =
     r"The script on standard input is read whole. Then the client connects to the first address that
 answers, and the lines are done one by one. Empty lines and those that begin with # are skipped.
 
@@ -77,7 +77,7 @@ Example:
     zk_shell live 127.0.0.1:2181";
 
 /// At the end of the help of `watch`.
-pub const WATCH: &str =
+const WATCH: &str =
     r"Connects to one of the hosts of SERVERS, which `zk_shell get --help` tells, in random order, reads each
 node with a watch, and goes on to print a line whenever something else is kept of it than was printed last.
 Where the connection is lost, the next host is dialled, and where the session expires, a new one begins.
@@ -153,7 +153,7 @@ With --json, the data alone:
   zk_shell watch 127.0.0.1:2181 --data /config --json | jq --unbuffered .data";
 
 /// At the end of the help of the commands that ask for one node.
-pub const ASK: &str =
+const ASK: &str =
     r"SERVERS is one word: hosts with commas between them, of which one that answers is asked. A host is a name
 or an address, with its port where that is not 2181: zk1, zk1:2182, 127.0.0.1:2181, [::1]:2181. A name
 is looked up at each dial, which takes as long as the system lets it, and its addresses are tried in turn.
@@ -211,7 +211,7 @@ Examples:
   zk_shell stat 127.0.0.1:2181 /config --json | jq .version";
 
 /// At the end of the help of `show`.
-pub const SHOW: &str =
+const SHOW: &str =
     r"zk_shell show --stream takes a capture of one connection on standard input instead, and prints a line for
 each frame of it. Each line of the capture has the bytes of a piece of it, in their order:
   > HEX                         What the client sent
@@ -240,7 +240,7 @@ length. Of types whose records zk_shell does not read, the number and N are prin
 it knows one, else unknown. A text is printed as in `zk_shell live`, null as \0.";
 
 /// At the end of the help of `history`.
-pub const HISTORY: &str =
+const HISTORY: &str =
     r"The script on standard input tells a history, and then asks it. Empty lines and those that begin
 with # are skipped. With --log FILE.. servers' logs are read instead: `zk_shell history --log --help`.
 
@@ -269,7 +269,7 @@ Example:
     zk_shell history";
 
 /// At the end of the help of `replay`.
-pub const REPLAY: &str =
+const REPLAY: &str =
     r"The script on standard input tells what happens to a client, line by line, and what it says is
 printed. Empty lines and those that begin with # are skipped.
 
@@ -290,7 +290,7 @@ Example:
   printf 'timeout 30000\nopened\ncall 7 exists /a 1\nlast\n' | zk_shell replay";
 
 /// At the end of the help of `rehearse`.
-pub const REHEARSE: &str =
+const REHEARSE: &str =
     r"The script on standard input tells a history, and then drives a client over eight servers in
 memory, which hold what they have taken of it. Empty lines and those that begin with # are skipped.
 
@@ -316,3 +316,16 @@ A line that is refused ends the script, with `line N: REASON` on standard error,
 Example:
   printf 'node /a 68 0\nbegin 30000\nopen 1\nprocess\ndeliver\ncall 1 getdata /a 1\nlast\n' |
     zk_shell rehearse";
+
+/// At the end of the help of a command.
+pub fn last_of(command: &str) -> &'static str {
+    match command {
+        "show" => SHOW,
+        "history" => HISTORY,
+        "replay" => REPLAY,
+        "rehearse" => REHEARSE,
+        "live" => LIVE,
+        "watch" => WATCH,
+        _ => ASK,
+    }
+}

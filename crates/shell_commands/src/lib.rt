@@ -2,7 +2,6 @@
 #![tactic(auto)]
 
 mod ask;
-mod ask_forms;
 mod ask_words;
 mod asked;
 mod capture;
@@ -12,6 +11,7 @@ mod default_servers;
 mod fault;
 mod fields;
 pub mod files;
+mod forms;
 mod frame;
 mod help;
 mod host_name;

@@ -8,6 +8,30 @@ use std::alloc::{AllocError, Global};
 use thiserror::Error;
 use zk_nodes::PathFault;
 
+/// What is told after a word.
+pub(crate) const NO_ADDRESS: &str = " is no address: IP:PORT in numbers, as 127.0.0.1:2181";
+
+pub(crate) const NO_SERVER: &str = " is no server: HOST:PORT, as zk1:2181 or [::1]:2181";
+
+pub(crate) const NO_TIMEOUT: &str = " is no timeout: a number of milliseconds from 1 to 2147483647";
+
+pub(crate) const NO_DURATION: &str = " is no time to watch: a number of seconds from 1 to 4294967";
+
+pub(crate) const NO_WAIT: &str = " is no time to wait: a number of seconds from 1 to 4294967";
+
+pub(crate) const NO_DEPTH: &str = " is no depth: a number from 0 to 4294967295";
+
+pub(crate) const NO_MOST: &str = " is no number of nodes: a number from 1 to 4294967295";
+
+pub(crate) const NO_HEX: &str =
+    " is no hex: two digits for each byte, \\e for no bytes, or \\0 for null";
+
+pub(crate) const NO_VERSION: &str = " is no version: a number from 0 to 2147483647";
+
+/// Others are given beside it.
+pub(crate) const TWO_DATA: &str =
+    ": give DATA, with --hex where it is hex, or --null, or --from FILE";
+
 /// Why a command line asks for nothing.
 #[derive(Debug, Drop, Error)]
 pub enum LineFault {
@@ -46,22 +70,11 @@ pub(crate) fn no_command(alloc: Global) -> LineFault
     refusal(String::from_str(alloc, "error: no command\n"))
 }
 
-/// What is told of a word that is no address.
-pub(crate) fn no_address(alloc: Global, word: &str) -> LineFault
+/// What is told of a word, and this after it.
+pub(crate) fn refused(alloc: Global, word: &str, why: &str) -> LineFault
     ensures { IsNoHelp result }
 {
-    refusal(format!(in alloc;
-        "error: {word:?} is no address: IP:PORT in numbers, as 127.0.0.1:2181\n"
-    ))
-}
-
-/// What is told of a word that is no server.
-pub(crate) fn no_server(alloc: Global, word: &str) -> LineFault
-    ensures { IsNoHelp result }
-{
-    refusal(format!(in alloc;
-        "error: {word:?} is no server: HOST:PORT, as zk1:2181 or [::1]:2181\n"
-    ))
+    refusal(format!(in alloc; "error: {word:?}{why}\n"))
 }
 
 /// What is told of a word that is no path.
@@ -69,49 +82,6 @@ pub(crate) fn no_path(alloc: Global, word: &str, fault: PathFault) -> LineFault
     ensures { IsNoHelp result }
 {
     refusal(format!(in alloc; "error: {word:?}: {fault}\n"))
-}
-
-/// What is told of a word that is no timeout.
-pub(crate) fn no_timeout(alloc: Global, word: &str) -> LineFault
-    ensures { IsNoHelp result }
-{
-    refusal(format!(in alloc;
-        "error: {word:?} is no timeout: a number of milliseconds from 1 to 2147483647\n"
-    ))
-}
-
-/// What is told of a word that does not say how long to watch.
-pub(crate) fn no_duration(alloc: Global, word: &str) -> LineFault
-    ensures { IsNoHelp result }
-{
-    refusal(format!(in alloc;
-        "error: {word:?} is no time to watch: a number of seconds from 1 to 4294967\n"
-    ))
-}
-
-/// What is told of a word that does not say how long to wait.
-pub(crate) fn no_wait(alloc: Global, word: &str) -> LineFault
-    ensures { IsNoHelp result }
-{
-    refusal(format!(in alloc;
-        "error: {word:?} is no time to wait: a number of seconds from 1 to 4294967\n"
-    ))
-}
-
-/// What is told of a word that is no number of levels.
-pub(crate) fn no_depth(alloc: Global, word: &str) -> LineFault
-    ensures { IsNoHelp result }
-{
-    refusal(format!(in alloc; "error: {word:?} is no depth: a number from 0 to 4294967295\n"))
-}
-
-/// What is told of a word that is no number of nodes.
-pub(crate) fn no_most(alloc: Global, word: &str) -> LineFault
-    ensures { IsNoHelp result }
-{
-    refusal(format!(in alloc;
-        "error: {word:?} is no number of nodes: a number from 1 to 4294967295\n"
-    ))
 }
 
 /// What is told where no data are given.
@@ -122,29 +92,4 @@ pub(crate) fn no_data(alloc: Global) -> LineFault
         alloc,
         "error: DATA is missing: give it, or --from FILE, or --null for null data\n",
     ))
-}
-
-/// What is told of a word for data that others are given beside.
-pub(crate) fn two_data(alloc: Global, word: &str) -> LineFault
-    ensures { IsNoHelp result }
-{
-    refusal(format!(in alloc;
-        "error: {word:?}: give DATA, with --hex where it is hex, or --null, or --from FILE\n"
-    ))
-}
-
-/// What is told of a word that is no hex.
-pub(crate) fn no_hex(alloc: Global, word: &str) -> LineFault
-    ensures { IsNoHelp result }
-{
-    refusal(format!(in alloc;
-        "error: {word:?} is no hex: two digits for each byte, \\e for no bytes, or \\0 for null\n"
-    ))
-}
-
-/// What is told of a word that is no version.
-pub(crate) fn no_version(alloc: Global, word: &str) -> LineFault
-    ensures { IsNoHelp result }
-{
-    refusal(format!(in alloc; "error: {word:?} is no version: a number from 0 to 2147483647\n"))
 }

@@ -3,26 +3,23 @@
 ghost use Rattle.std.specs.Prelude.{◌≡◌, ◌≤◌, ◌++◌, true, false, List, None, Option, Some, OnOk, IfOk, IfErr, IfSome, codes, map};
 ghost use Rattle.std.specs.Option.{option_and_then, option_map};
 ghost use Rattle.std.specs.List.{list_all};
-ghost use Rattle.clap.specs.Words.{Text, app_of, new_app, first_of, found_of, rows_of, rule_of};
+ghost use Rattle.clap.specs.Words.{Text, first_of, found_of, rows_of};
 ghost use Rattle.zk_nodes.specs.declared.side.Side.{Side as Sides};
 ghost use Rattle.shell_watch.specs.Watching.{aims_of};
 ghost use Rattle.shell_commands.specs.Asks.{absolute};
-ghost use Rattle.shell_commands.specs.CommandLine.{AreAims, IsDuration, IsTimeout, AreRoots, AreSights, Sights, address_rule};
+ghost use Rattle.shell_commands.specs.CommandLine.{AreAims, IsDuration, IsTimeout, AreRoots, AreSights, Sights};
 ghost use Rattle.shell_commands.specs.inner.CommandLine.{TellsIf};
-ghost use Rattle.shell_commands.specs.CommandLine.{aims_at, bound_rule, scope_app, sights_of, count_at, duration_rule, duration_read};
-ghost use Rattle.shell_commands.specs.CommandLine.{given, is_below, is_path, option_rule, path_rule, style_in, timeout_at, timeout_rule};
-ghost use Rattle.shell_commands.specs.CommandLine.{watch_app};
+ghost use Rattle.shell_commands.specs.CommandLine.{aims_at, sights_of, count_at, duration_read};
+ghost use Rattle.shell_commands.specs.CommandLine.{given, is_below, is_path, style_in, timeout_at};
 
-use crate::ask_forms::{flag_arg, servers_arg};
-use crate::ask_words::{flag, node_of};
+use crate::ask_words::{flag, given, node_of};
 use crate::command::Scope;
-use crate::help;
-use crate::line_fault::{LineFault, no_command, no_duration, no_path, no_timeout};
+use crate::line_fault::{LineFault, NO_DURATION, NO_TIMEOUT, no_command, no_path, refused};
 use crate::tree_words::most_of;
-use clap::{Arg, ArgAction, ArgMatches};
+use clap::ArgMatches;
 use script_words::numbers::natural_of;
 use shell_watch::{NodeSide, Style};
-use std::alloc::{AllocError, Global};
+use std::alloc::Global;
 use zk_nodes::{Path, PathFault, Side};
 
 /// The most milliseconds of a timeout.
@@ -30,100 +27,6 @@ const MOST_MS: u64 = 2_147_483_647;
 
 /// The most seconds of a watch.
 const MOST_SECONDS: u64 = 4_294_967;
-
-/// The addresses of `live`.
-pub(crate) fn addresses_arg<'a>(alloc: Global) -> Arg<'a>
-    ensures rule { rule_of result ≡ address_rule }
-    ensures local { result.global ≡ false }
-{
-    Arg::new(alloc, "ADDRESS")
-        .required(true)
-        .action(ArgAction::Append)
-        .help("A server's address in numbers, as 127.0.0.1:2181. Several are tried in turn")
-}
-
-/// An option that takes a value, and what help says of it.
-pub(crate) fn option_arg<'a>(
-    alloc: Global,
-    name: &'a str,
-    value: &'a str,
-    about: &'a str,
-) -> Arg<'a>
-    ensures rule { rule_of result ≡ option_rule name.now }
-    ensures local { result.global ≡ false }
-{
-    Arg::new(alloc, name)
-        .long(name)
-        .value_name(value)
-        .help(about)
-}
-
-/// An option that takes a path, and may be used several times.
-fn paths_arg<'a>(alloc: Global, name: &'a str, about: &'a str) -> Arg<'a>
-    ensures rule { rule_of result ≡ path_rule name.now }
-    ensures local { result.global ≡ false }
-{
-    option_arg(alloc, name, "PATH", about).action(ArgAction::Append)
-}
-
-/// The option of how many nodes of one tree to watch.
-fn bound_arg<'a>(alloc: Global) -> Arg<'a>
-    ensures rule { rule_of result ≡ bound_rule }
-    ensures local { result.global ≡ false }
-{
-    let about = "How many nodes of one tree at most, 1 to 4294967295";
-    option_arg(alloc, "most", "N", about).default_value("1000")
-}
-
-/// The option of the session's timeout.
-fn timeout_arg<'a>(alloc: Global) -> Arg<'a>
-    ensures rule { rule_of result ≡ timeout_rule }
-    ensures local { result.global ≡ false }
-{
-    let about = "The session timeout to ask for, in milliseconds, 1 to 2147483647";
-    option_arg(alloc, "timeout", "MS", about).default_value("30000")
-}
-
-/// The option of how long to watch.
-fn duration_arg<'a>(alloc: Global) -> Arg<'a>
-    ensures rule { rule_of result ≡ duration_rule }
-    ensures local { result.global ≡ false }
-{
-    let about = "How long to watch, in seconds, 1 to 4294967; else until standard output is closed";
-    option_arg(alloc, "for", "SECONDS", about)
-}
-
-/// `watch`, and what its help says of it.
-fn watch_named<'a>(alloc: Global) -> clap::Command<'a>
-    ensures { app_of result ≡ new_app (codes "watch") }
-{
-    clap::Command::new(alloc, "watch")
-        .about("Connects over TCP, and prints a line at each change of the nodes that it watches")
-        .after_help(help::WATCH)
-}
-
-/// The form of `watch`, as far as it says what is watched.
-fn scope_form<'a>(alloc: Global) -> Result<clap::Command<'a>, AllocError>
-    ensures { IfOk result (λ r. app_of r ≡ scope_app) }
-{
-    let watch = watch_named(alloc).arg(servers_arg(alloc))?;
-    let watch = watch.arg(paths_arg(alloc, "data", "A node whose data to watch"))?;
-    let watch = watch.arg(paths_arg(alloc, "children", "A node below which to watch the names"))?;
-    let watch = watch.arg(paths_arg(alloc, "tree", "A node to watch with all below it"))?;
-    watch.arg(bound_arg(alloc))
-}
-
-/// The form of `watch`.
-pub(crate) fn watch_form<'a>(alloc: Global) -> Result<clap::Command<'a>, AllocError>
-    ensures { IfOk result (λ r. app_of r ≡ watch_app) }
-{
-    let watch = scope_form(alloc)?;
-    let watch = watch.arg(timeout_arg(alloc))?;
-    let watch = watch.arg(duration_arg(alloc))?;
-    let text = flag_arg(alloc, "text", "Prints data in quotes where they are text");
-    let watch = watch.arg(text)?;
-    watch.arg(flag_arg(alloc, "json", "Prints JSON, an object a line"))
-}
 
 /// How a watch prints.
 pub(crate) fn style_of(matches: &ArgMatches<'_>) -> Style
@@ -155,12 +58,12 @@ pub(crate) fn timeout_of(alloc: Global, matches: &ArgMatches<'_>) -> Result<i32,
     ensures ok { IfOk result (λ ms. IsTimeout ms (rows_of (found_of matches.now))) }
     ensures err { IfErr result (TellsIf (option_and_then timeout_at (first_of (codes "timeout") (rows_of (found_of matches.now))) ≡ None)) }
 {
-    let Some(word) = matches.get_str("timeout") else {
+    let Some(word) = given(matches, "timeout") else {
         return Err(no_command(alloc));
     };
     match count_of(word, MOST_MS) {
         Some(ms) => Ok(ms as i32),
-        None => Err(no_timeout(alloc, word)),
+        None => Err(refused(alloc, word, NO_TIMEOUT)),
     }
 }
 
@@ -169,12 +72,12 @@ pub(crate) fn duration_of(alloc: Global, matches: &ArgMatches<'_>) -> Result<Opt
     ensures ok { IfOk result (λ ms. IsDuration ms (rows_of (found_of matches.now))) }
     ensures err { IfErr result (TellsIf (duration_read (first_of (codes "for") (rows_of (found_of matches.now))) ≡ None)) }
 {
-    let Some(word) = matches.get_str("for") else {
+    let Some(word) = given(matches, "for") else {
         return Ok(None);
     };
     match count_of(word, MOST_SECONDS) {
         Some(seconds) => Ok(Some(1000 * seconds)),
-        None => Err(no_duration(alloc, word)),
+        None => Err(refused(alloc, word, NO_DURATION)),
     }
 }
 

@@ -1,14 +1,17 @@
 -- What `ask` ensures of each end is what is promised of its status. It is never `More`: one call is never cut off, by the case of what came
 -- of it (`never_more`).
-use Rattle.std.proofs.Common.{◌≡◌, ◌≢◌, true, false, ap, sym, refl}
-use Rattle.shell_ask.specs.Asking.{Coming, Answered, Late}
+use Rattle.std.proofs.Common.{◌≡◌, ◌≢◌, ℕ, List, true, false, ap, sym, refl}
+use Rattle.zk_link.specs.FarEnds.{FarEnd}
+use Rattle.clap.specs.Words.{Text}
+use Rattle.shell_ask.specs.Asking.{Coming, ComesOf, Answered, Late}
 use Rattle.shell_ask.specs.Printing.{end_of, is_read, told}
+use Rattle.shell_ask.specs.declared.end.CallEnd.{CallEnd}
 use Rattle.shell_ask.specs.declared.end.CallEnd.TheVariants as ends
-use Rattle.zk_conversation.specs.Views.{call_view}
+use Rattle.zk_conversation.specs.Calls.{Call}
 use Rattle.zk_conversation.specs.Results.{NoNode, Refused, Found, Read, Listing, Made, Done, Brought}
 use Rattle.zk_turns.specs.Turns.{Replied, ConnectionLoss, SessionExpired, SessionClosed, NotConnected, TooManyWatches, TooLarge}
 use Rattle.zk_turns.specs.Turns.{TooManyPending}
-use Rattle.shell_commands.specs.Asks.{status_of}
+use Rattle.shell_commands.specs.Asks.{TellsWhy, status_of}
 use Rattle.shell_commands.proofs.ask.ask_over.Goals as goal
 
 -- one call is never cut off
@@ -41,38 +44,25 @@ returns-in-Done-clause-done g c = λ _.
     let done = c.in-Done.ensures.done refl in
     (done.1, record { coming = done.0; comes = done.2; done = done.3; prints = done.4 }, done.5, done.6)
 
+-- What is told of an end by which the call is not done is promised of its status.
+undone : {A : Type 0} {far : FarEnd} {call : Call} {name : Text} (end : CallEnd) (P : List ℕ → Type 0) (Q : Type 0)
+    → ((coming : Coming) × ComesOf A far call coming × (end ≡ end_of coming) × P (told (is_read call) name coming) × Q)
+    → (text : List ℕ) × TellsWhy A far call name (status_of end) text × P text × Q
+undone {call = call} {name = name} end P Q why = (
+  told (is_read call) name why.0,
+  record { coming = why.0; comes = why.1; ends = ap status_of why.2; tells = refl },
+  why.3,
+  why.4,
+)
+
 pub returns-in-NoNode-clause-undone : goal.returns-in-NoNode-clause-undone
-returns-in-NoNode-clause-undone g c = λ _.
-    let why = c.in-NoNode.ensures.told tt in (
-      told (is_read (call_view c.args.plan.call)) c.args.plan.name.now why.0,
-      record { coming = why.0; comes = why.1; ends = ap status_of why.2; tells = refl },
-      why.3,
-      why.4,
-    )
+returns-in-NoNode-clause-undone g c = λ _. undone ends.NoNode _ _ (c.in-NoNode.ensures.told tt)
 
 pub returns-in-Refused-clause-undone : goal.returns-in-Refused-clause-undone
-returns-in-Refused-clause-undone g c = λ _.
-    let why = c.in-Refused.ensures.told tt in (
-      told (is_read (call_view c.args.plan.call)) c.args.plan.name.now why.0,
-      record { coming = why.0; comes = why.1; ends = ap status_of why.2; tells = refl },
-      why.3,
-      why.4,
-    )
+returns-in-Refused-clause-undone g c = λ _. undone ends.Refused _ _ (c.in-Refused.ensures.told tt)
 
 pub returns-in-Unconnected-clause-undone : goal.returns-in-Unconnected-clause-undone
-returns-in-Unconnected-clause-undone g c = λ _.
-    let why = c.in-Unconnected.ensures.told tt in (
-      told (is_read (call_view c.args.plan.call)) c.args.plan.name.now why.0,
-      record { coming = why.0; comes = why.1; ends = ap status_of why.2; tells = refl },
-      why.3,
-      why.4,
-    )
+returns-in-Unconnected-clause-undone g c = λ _. undone ends.Unconnected _ _ (c.in-Unconnected.ensures.told tt)
 
 pub returns-in-Unanswered-clause-undone : goal.returns-in-Unanswered-clause-undone
-returns-in-Unanswered-clause-undone g c = λ _.
-    let why = c.in-Unanswered.ensures.told tt in (
-      told (is_read (call_view c.args.plan.call)) c.args.plan.name.now why.0,
-      record { coming = why.0; comes = why.1; ends = ap status_of why.2; tells = refl },
-      why.3,
-      why.4,
-    )
+returns-in-Unanswered-clause-undone g c = λ _. undone ends.Unanswered _ _ (c.in-Unanswered.ensures.told tt)

@@ -13,7 +13,7 @@ pub returns-in-Some-clause-err : goal.returns-in-Some-clause-err
 returns-in-Some-clause-err c =
     let words = c.in_ok-addresses.addresses.items in
     let other = one_is_not is_named_server words c.in-Some.word (search rules) in
-    tells _ c.no_server.result c.no_server.ensures (rw (← c.in_ok-addresses.ensures) (not_true _ other))
+    tells _ c.refused.result c.refused.ensures (rw (← c.in_ok-addresses.ensures) (not_true _ other))
 
 pub returns-clause-accepted : goal.returns-clause-accepted
 returns-clause-accepted c =

@@ -1,10 +1,9 @@
 -- The servers and the chroot are the parts of the word that is given, cut at its slash. A refusal is told where there is no word, its hosts
 -- are no servers (`no_servers`), or its chroot is no path (`no_root`).
-use Rattle.std.proofs.Common.{rules, ◌≡◌, ◌∙◌, ◌==◌, List, [], Bool, false, ap, sym, codes, Some, None, unwrap_or}
+use Rattle.std.proofs.Common.{◌≡◌, ◌∙◌, ◌==◌, List, [], Bool, false, ap, sym, codes, Some, unwrap_or}
 use Rattle.std.specs.List.{list_all, slice_split}
 use Rattle.std.proofs.lemmas.Bool.{true≢false}
-use Rattle.clap.specs.Words.{Row, Text, first_of, found_of, rows_of}
-use Rattle.clap.proofs.WalkLemmas.{first_value-rows}
+use Rattle.clap.specs.Words.{Row, Text, first_of}
 use Rattle.shell_commands.specs.Hosts.{is_named_server}
 use Rattle.shell_commands.specs.Asks.{AreServers, chroot_text, cut_at_slash, is_root}
 use Rattle.shell_commands.proofs.AddressLemmas.{tells, tells_on}
@@ -32,39 +31,27 @@ no_root rows word parts given cut refused addresses chroot are =
 
 pub returns-in_default-clause-err : goal.returns-in_default-clause-err
 returns-in_default-clause-err c =
-    let found = found_of c.args.matches.now in
-    let is = first_value-rows found (codes "SERVERS") in
-    let none : None ≡ first_of (codes "SERVERS") (rows_of found) = search rules in
-    tells _ c.no_command.result c.no_command.ensures (λ addresses chroot are. let bad = none ∙ are.given in cc)
+    tells _ c.no_command.result c.no_command.ensures (λ addresses chroot are. let bad = c.in_default.ensures ∙ are.given in cc)
 
 pub returns-in_err-addresses-clause-err : goal.returns-in_err-addresses-clause-err
 returns-in_err-addresses-clause-err c =
-    let found = found_of c.args.matches.now in
-    let is = first_value-rows found (codes "SERVERS") in
-    let some : first_of (codes "SERVERS") (rows_of found) ≡ Some c.in-Some.word.now = search rules in
     let parts : Text × Text = (c.parted.result.0.now, c.parted.result.1.now) in
     tells_on _ _ c.from_residual.result c.in_err-addresses.field-0.0 c.from_residual.ensures.1 c.in_err-addresses.ensures.err
-    (λ refused. no_servers (rows_of found) c.in-Some.word.now parts some c.parted.ensures refused)
+    (λ refused. no_servers _ c.in-Some.word.now parts (sym c.in-Some.ensures) c.parted.ensures refused)
 
 pub returns-in_err-chroot-clause-err : goal.returns-in_err-chroot-clause-err
 returns-in_err-chroot-clause-err c =
-    let found = found_of c.args.matches.now in
-    let is = first_value-rows found (codes "SERVERS") in
-    let some : first_of (codes "SERVERS") (rows_of found) ≡ Some c.in-Some.word.now = search rules in
     let parts : Text × Text = (c.parted.result.0.now, c.parted.result.1.now) in
     tells_on _ _ c.from_residual-in_err-chroot.result c.in_err-chroot.field-0.0 c.from_residual-in_err-chroot.ensures.1
     c.in_err-chroot.ensures.err
-    (λ refused. no_root (rows_of found) c.in-Some.word.now parts some c.parted.ensures refused)
+    (λ refused. no_root _ c.in-Some.word.now parts (sym c.in-Some.ensures) c.parted.ensures refused)
 
 pub returns-clause-ok : goal.returns-clause-ok
 returns-clause-ok c =
-    let found = found_of c.args.matches.now in
-    let is = first_value-rows found (codes "SERVERS") in
-    let some : first_of (codes "SERVERS") (rows_of found) ≡ Some c.in-Some.word.now = search rules in
     let split = c.in_ok-addresses.ensures.ok in
     record {
       word = c.in-Some.word.now;
-      given = some;
+      given = sym c.in-Some.ensures;
       are = (
         split ∙ ap (λ (p : Text × Text). slice_split (λ b. b == 44) p.0) c.parted.ensures,
         ap (list_all is_named_server) split ∙ c.in_ok-addresses.ensures.accepted,

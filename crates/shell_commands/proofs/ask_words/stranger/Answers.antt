@@ -6,12 +6,6 @@ use Rattle.std.proofs.lemmas.Iterator.Search.{find_from_yields_List}
 use Rattle.shell_commands.specs.Hosts.{is_named_server}
 use Rattle.shell_commands.proofs.ask_words.stranger.Goals as goal
 
-pub returns-in_err-word : goal.returns-in_err-word
-returns-in_err-word c =
-    let found = find_from_yields_List (λ w. not (is_named_server w.now)) _ _ c.find.result c.find.ensures.ran
-    (YieldsList-from_slice c.args.words.now cc) (λ x b q k. search (rules, tests)) in
-    search rules
-
 pub returns : goal.returns
 returns c =
     let found = find_from_yields_List (λ w. not (is_named_server w.now)) _ _ c.find.result c.find.ensures.ran

@@ -1,7 +1,5 @@
--- The wait is the first row's word (`first_value-rows`), read by `count_of`, in milliseconds; a refusal is told where there is none.
-use Rattle.std.proofs.Common.{rules, ◌≡◌, ◌∙◌, ap, sym, codes, Some, None}
-use Rattle.clap.specs.Words.{first_of, found_of, rows_of}
-use Rattle.clap.proofs.WalkLemmas.{first_value-rows}
+-- The wait is the first row's word, read by `count_of`, in milliseconds; a refusal is told where there is none.
+use Rattle.std.proofs.Common.{◌≡◌, ◌∙◌, ap, sym}
 use Rattle.std.specs.Option.{option_and_then, option_map}
 use Rattle.std.specs.Prelude.{◌*◌}
 use Rattle.shell_commands.specs.CommandLine.{wait_at}
@@ -10,22 +8,14 @@ use Rattle.shell_commands.proofs.ask_words.wait_of.Goals as goal
 
 pub returns-in_default-clause-err : goal.returns-in_default-clause-err
 returns-in_default-clause-err c =
-    let found = found_of c.args.matches.now in
-    let is = first_value-rows found (codes "wait") in
-    let none : first_of (codes "wait") (rows_of found) ≡ None = search rules in
-    tells _ c.no_command.result c.no_command.ensures (ap (option_and_then wait_at) none)
+    tells _ c.no_command.result c.no_command.ensures (ap (option_and_then wait_at) (sym c.in_default.ensures))
 
 pub returns-in-Some-count_of-clause-ok : goal.returns-in-Some-count_of-clause-ok
 returns-in-Some-count_of-clause-ok c =
-    let found = found_of c.args.matches.now in
-    let is = first_value-rows found (codes "wait") in
-    let some : first_of (codes "wait") (rows_of found) ≡ Some c.in-Some.word.now = search rules in
-    ap (option_and_then wait_at) some ∙ ap (option_map (λ seconds. 1000 * seconds)) (sym c.in-Some-count_of.ensures.value)
+    ap (option_and_then wait_at) (sym c.in-Some.ensures)
+    ∙ ap (option_map (λ seconds. 1000 * seconds)) (sym c.in-Some-count_of.ensures.value)
 
 pub returns-in-None-clause-err : goal.returns-in-None-clause-err
 returns-in-None-clause-err c =
-    let found = found_of c.args.matches.now in
-    let is = first_value-rows found (codes "wait") in
-    let some : first_of (codes "wait") (rows_of found) ≡ Some c.in-Some.word.now = search rules in
-    tells _ c.no_wait.result c.no_wait.ensures
-    (ap (option_and_then wait_at) some ∙ ap (option_map (λ seconds. 1000 * seconds)) (sym c.in-None.ensures.value))
+    tells _ c.refused.result c.refused.ensures
+    (ap (option_and_then wait_at) (sym c.in-Some.ensures) ∙ ap (option_map (λ seconds. 1000 * seconds)) (sym c.in-None.ensures.value))

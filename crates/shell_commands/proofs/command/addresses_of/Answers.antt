@@ -25,7 +25,7 @@ returns-in-Some-stranger-clause-err c =
     let words = c.in-Some.words.now in
     let some : Some (map (λ v. v.now) words) ≡ all_of (codes "ADDRESS") (rows_of found) = search rules in
     let other = one_is_not is_address words c.in-Some-stranger.word (search rules) in
-    tells _ c.no_address.result c.no_address.ensures (λ given are.
+    tells _ c.refused.result c.refused.ensures (λ given are.
     let same : map (λ v. v.now) words ≡ given = search rules in other (rw same are.1))
 
 pub returns-clause-ok : goal.returns-clause-ok

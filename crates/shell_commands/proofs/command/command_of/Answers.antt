@@ -41,7 +41,7 @@ nothing_is_due words names Memory are told = tt
 
 pub returns-in-Err-clause-err : goal.returns-in-Err-clause-err
 returns-in-Err-clause-err c =
-    let form = c.in_ok-form.ensures in
+    let form = c.in_ok-shell_form.ensures in
     let words : List Text = map (λ w. w.now) c.args.words.now in
     let kind = kind_of c.in-Err.error in
     let has = c.in-Err.ensures.kinds (ap is_simple_and_free form.2 ∙ simple_and_free form.0) in
@@ -50,21 +50,21 @@ returns-in-Err-clause-err c =
 
 -- the rows of the matches are what is found of the words
 rows_found : (c : In-Ok)
-    → subcommand_rows_of c.in-Ok.matches ≡ subcommand_of (shell_app c.in_ok-form.ensures.0) (map (λ w. w.now) c.args.words.now)
+    → subcommand_rows_of c.in-Ok.matches ≡ subcommand_of (shell_app c.in_ok-shell_form.ensures.0) (map (λ w. w.now) c.args.words.now)
 rows_found c =
-    let form = c.in_ok-form.ensures in
+    let form = c.in_ok-shell_form.ensures in
     let words : List Text = map (λ w. w.now) c.args.words.now in
     (c.in-Ok.ensures.matches (ap is_simple form.2 ∙ simple form.0)).1 ∙ ap (λ (a : App). subcommand_of a words) form.2
 
 pub returns-in-Ok-clause-err : goal.returns-in-Ok-clause-err
 returns-in-Ok-clause-err c =
-    let form = c.in_ok-form.ensures in
+    let form = c.in_ok-shell_form.ensures in
     let found = rows_found (goal.at.returns-in-Ok-clause-err c).In-Ok in
     IfErr-weaker c.asked.result _ _ (λ fault told. nothing_is_due (map (λ w. w.now) c.args.words.now) form.0 fault form.1
     (subst (λ rows. TellsIf (AsksForNone rows) fault) found told)) c.asked.ensures.err
 
 pub returns-in-Ok-clause-ok : goal.returns-in-Ok-clause-ok
 returns-in-Ok-clause-ok c =
-    let form = c.in_ok-form.ensures in
+    let form = c.in_ok-shell_form.ensures in
     let found = rows_found (goal.at.returns-in-Ok-clause-ok c).In-Ok in
     IfOk-weaker c.asked.result _ _ (λ command asked. (form.0, form.1, subst (λ rows. IsFound command rows) found asked)) c.asked.ensures.ok

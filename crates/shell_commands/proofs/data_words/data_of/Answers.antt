@@ -3,7 +3,6 @@ use Rattle.std.proofs.Common.{◌≡◌, ◌∙◌, Bool, List, ap, sym, codes, 
 use Rattle.std.proofs.lemmas.Result.{IfErr-weaker, IfOk-weaker}
 use Rattle.std.specs.Option.{option_map}
 use Rattle.clap.specs.Words.{Row, Text, first_of, found_of, rows_of}
-use Rattle.clap.proofs.WalkLemmas.{first_value-rows}
 use Rattle.shell_commands.specs.Asks.{data_in, data_with, flag}
 use Rattle.shell_commands.proofs.AddressLemmas.{tells_more}
 use Rattle.shell_commands.proofs.data_words.data_of.Goals as goal
@@ -19,18 +18,12 @@ given_by rows file word is_null is_hex zero one two three =
 
 pub returns-clause-ok : goal.returns-clause-ok
 returns-clause-ok c =
-    let found = found_of c.args.matches.now in
-    let word = sym (first_value-rows found (codes "DATA")) ∙ sym c.get_str-word.ensures in
-    let file = sym (first_value-rows found (codes "from")) ∙ sym c.get_str-file.ensures in
-    let means = given_by (rows_of found) _ _ c.flag-is_null.result c.flag-is_hex.result file word (sym c.flag-is_null.ensures)
-    (sym c.flag-is_hex.ensures) in
+    let means = given_by (rows_of (found_of c.args.matches.now)) _ _ c.flag-is_null.result c.flag-is_hex.result
+    (sym c.given-file.ensures) (sym c.given-word.ensures) (sym c.flag-is_null.ensures) (sym c.flag-is_hex.ensures) in
     IfOk-weaker c.data_with.result _ _ (λ bytes read. means ∙ read) c.data_with.ensures.ok
 
 pub returns-clause-err : goal.returns-clause-err
 returns-clause-err c =
-    let found = found_of c.args.matches.now in
-    let word = sym (first_value-rows found (codes "DATA")) ∙ sym c.get_str-word.ensures in
-    let file = sym (first_value-rows found (codes "from")) ∙ sym c.get_str-file.ensures in
-    let means = given_by (rows_of found) _ _ c.flag-is_null.result c.flag-is_hex.result file word (sym c.flag-is_null.ensures)
-    (sym c.flag-is_hex.ensures) in
+    let means = given_by (rows_of (found_of c.args.matches.now)) _ _ c.flag-is_null.result c.flag-is_hex.result
+    (sym c.given-file.ensures) (sym c.given-word.ensures) (sym c.flag-is_null.ensures) (sym c.flag-is_hex.ensures) in
     IfErr-weaker c.data_with.result _ _ (λ fault told. tells_more _ _ fault (λ unread. means ∙ unread) told) c.data_with.ensures.err

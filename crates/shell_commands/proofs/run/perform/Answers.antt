@@ -1,12 +1,99 @@
 -- By the command: what `show`, `script_over`, `watch_over`, `ask_with` or `tour_over` ensures of a status, restated for the words that ask
 -- for that command; a status that it never gives is absurd.
-use Rattle.std.proofs.Common.{ℕ, List, [], ◌∷◌, ◌++◌, refl, inl, inr}
-use Rattle.script_words.specs.Scripts.{refusal_text}
+use Rattle.std.proofs.Common.{◌≡◌, ℕ, List, [], ◌∷◌, ◌++◌, Option, refl, inl, inr}
+use Rattle.zk_link.specs.FarEnds.{FarEnd}
+use Rattle.clap.specs.Words.{Text}
+use Rattle.script_words.specs.Scripts.{lines_of, refusal_text}
+use Rattle.script_words.specs.declared.script.ScriptEnd.{ScriptEnd}
+use Rattle.script_words.specs.declared.script.ScriptEnd.TheVariants as ends
+use Rattle.script_words.specs.declared.script_fault.ScriptFault.{ScriptFault}
+use Rattle.shell_commands.specs.declared.command.Command.{Command}
 use Rattle.shell_commands.specs.declared.command.Command.TheVariants.{History, Replay, Rehearse, Live}
-use Rattle.shell_commands.specs.Run.{shows, plays, watches, asks, tours, call, tree, unshown, stopped, nothing, begins, ceases}
+use Rattle.shell_commands.specs.CommandLine.{AsksFor}
+use Rattle.shell_commands.specs.Run.{IsDone, IsFaulty, IsWhole, shows, plays, watches, asks, tours, call, tree, unshown, stopped, nothing}
+use Rattle.shell_commands.specs.Run.{begins, ceases}
+use Rattle.shell_commands.specs.Scripts.{IsInput, IsTranscriptOf}
+use Rattle.shell_commands.specs.Written.{RunsOut}
 use Rattle.shell_commands.specs.Show.{fault_text}
 use Rattle.shell_commands.proofs.ScriptLemmas.{appends_nothing}
 use Rattle.shell_commands.proofs.run.perform.Goals as goal
+
+-- What a script prints that is taken is promised of the command that takes it, for the words that ask for it.
+played : {far : FarEnd} {words : List Text} {files : Text → Option (List ℕ)} {input : Option (List ℕ)} (command : Command)
+    (P : List ℕ → Type 0) (Q : Type 0) → AsksFor words command
+    → ((script text : List ℕ) × IsInput input script × IsTranscriptOf command (lines_of script) text ends.Taken × P text) → Q
+    → (text : List ℕ) × IsDone far words files input text × P text × Q
+played command P Q asked told same = (told.1, plays command told.0 asked told.2 told.3, told.4, same)
+
+-- one with a line that is refused
+refused : {words : List Text} {input : Option (List ℕ)} (command : Command)
+    (P Q : List ℕ → Type 0) → AsksFor words command
+    → ((script text : List ℕ) × (number : ℕ) × (why : ScriptFault) × IsInput input script
+    × IsTranscriptOf command (lines_of script) text (ends.Refused number why) × P text × Q (refusal_text number why))
+    → (text told : List ℕ) × IsFaulty words input text told × P text × Q told
+refused command P Q asked told =
+    (told.1, refusal_text told.2 told.3, stopped command told.0 told.2 told.3 asked told.4 told.5 refl, told.6, told.7)
+
+-- one at which memory ran out
+ended : {far : FarEnd} {words : List Text} {input : Option (List ℕ)} (command : Command)
+    (P : List ℕ → Type 0) (Q : Type 0) → AsksFor words command
+    → ((script text told : List ℕ) × (end : ScriptEnd) × IsInput input script × IsTranscriptOf command (lines_of script) text end
+    × RunsOut end told × P (text ++ told)) → Q
+    → (text : List ℕ) × IsWhole far words input text × P text × Q
+ended command P Q asked told same =
+    (told.1 ++ told.2, begins command told.0 told.1 told.2 told.3 asked told.4 told.5 told.6 refl, told.7, same)
+
+pub returns-in-History : goal.returns-in-History
+returns-in-History g c =
+    let ran = c.script_over.ensures in
+    record {
+      done = λ is words asked. played History _ _ (rw c.in-History.is at asked) (ran.done is) (ran.silent (inl is));
+      fault = λ is words asked. refused History _ _ (rw c.in-History.is at asked) (ran.fault is);
+      usage = ran.usage;
+      undone = λ is words asked. absurd (ran.asks is);
+      never = λ is words asked. absurd (ran.never is);
+      more = λ is words asked. absurd (ran.more is);
+      memory = λ is words asked. ended History _ _ (rw c.in-History.is at asked) (ran.memory is) (ran.silent (inr is));
+    }
+
+pub returns-in-Replay : goal.returns-in-Replay
+returns-in-Replay g c =
+    let ran = c.script_over-in-Replay.ensures in
+    record {
+      done = λ is words asked. played Replay _ _ (rw c.in-Replay.is at asked) (ran.done is) (ran.silent (inl is));
+      fault = λ is words asked. refused Replay _ _ (rw c.in-Replay.is at asked) (ran.fault is);
+      usage = ran.usage;
+      undone = λ is words asked. absurd (ran.asks is);
+      never = λ is words asked. absurd (ran.never is);
+      more = λ is words asked. absurd (ran.more is);
+      memory = λ is words asked. ended Replay _ _ (rw c.in-Replay.is at asked) (ran.memory is) (ran.silent (inr is));
+    }
+
+pub returns-in-Rehearse : goal.returns-in-Rehearse
+returns-in-Rehearse g c =
+    let ran = c.script_over-in-Rehearse.ensures in
+    record {
+      done = λ is words asked. played Rehearse _ _ (rw c.in-Rehearse.is at asked) (ran.done is) (ran.silent (inl is));
+      fault = λ is words asked. refused Rehearse _ _ (rw c.in-Rehearse.is at asked) (ran.fault is);
+      usage = ran.usage;
+      undone = λ is words asked. absurd (ran.asks is);
+      never = λ is words asked. absurd (ran.never is);
+      more = λ is words asked. absurd (ran.more is);
+      memory = λ is words asked. ended Rehearse _ _ (rw c.in-Rehearse.is at asked) (ran.memory is) (ran.silent (inr is));
+    }
+
+pub returns-in-Live : goal.returns-in-Live
+returns-in-Live g c =
+    let ran = c.script_over-in-Live.ensures in
+    record {
+      done = λ is words asked. played (Live c.in-Live.addresses) _ _ (rw c.in-Live.is at asked) (ran.done is) (ran.silent (inl is));
+      fault = λ is words asked. refused (Live c.in-Live.addresses) _ _ (rw c.in-Live.is at asked) (ran.fault is);
+      usage = ran.usage;
+      undone = λ is words asked. absurd (ran.asks is);
+      never = λ is words asked. absurd (ran.never is);
+      more = λ is words asked. absurd (ran.more is);
+      memory = λ is words asked. ended (Live c.in-Live.addresses) _ _ (rw c.in-Live.is at asked) (ran.memory is) (ran.silent (inr is));
+    }
 
 pub returns-in-Show-clause-done : goal.returns-in-Show-clause-done
 returns-in-Show-clause-done g c = λ is words asked.
@@ -27,106 +114,6 @@ pub returns-in-Show-clause-memory : goal.returns-in-Show-clause-memory
 returns-in-Show-clause-memory g c = λ is words asked.
     let same = c.show.ensures.memory is in
     ([], nothing refl, rw same.0 (appends_nothing (g.O.Write.contents c.args.out.now)), same.1)
-
-pub returns-in-History-clause-done : goal.returns-in-History-clause-done
-returns-in-History-clause-done g c = λ is words asked.
-    let told = c.script_over.ensures.done is in
-    (told.1, plays History told.0 (rw c.in-History.is at asked) told.2 told.3, told.4, c.script_over.ensures.silent (inl is))
-
-pub returns-in-History-clause-fault : goal.returns-in-History-clause-fault
-returns-in-History-clause-fault g c = λ is words asked.
-    let told = c.script_over.ensures.fault is in (
-      told.1,
-      refusal_text told.2 told.3,
-      stopped History told.0 told.2 told.3 (rw c.in-History.is at asked) told.4 told.5 refl,
-      told.6,
-      told.7,
-    )
-
-pub returns-in-History-clause-memory : goal.returns-in-History-clause-memory
-returns-in-History-clause-memory g c = λ is words asked.
-    let told = c.script_over.ensures.memory is in (
-      told.1 ++ told.2,
-      begins History told.0 told.1 told.2 told.3 (rw c.in-History.is at asked) told.4 told.5 told.6 refl,
-      told.7,
-      c.script_over.ensures.silent (inr is),
-    )
-
-pub returns-in-Replay-clause-done : goal.returns-in-Replay-clause-done
-returns-in-Replay-clause-done g c = λ is words asked.
-    let told = c.script_over-in-Replay.ensures.done is in
-    (told.1, plays Replay told.0 (rw c.in-Replay.is at asked) told.2 told.3, told.4, c.script_over-in-Replay.ensures.silent (inl is))
-
-pub returns-in-Replay-clause-fault : goal.returns-in-Replay-clause-fault
-returns-in-Replay-clause-fault g c = λ is words asked.
-    let told = c.script_over-in-Replay.ensures.fault is in (
-      told.1,
-      refusal_text told.2 told.3,
-      stopped Replay told.0 told.2 told.3 (rw c.in-Replay.is at asked) told.4 told.5 refl,
-      told.6,
-      told.7,
-    )
-
-pub returns-in-Replay-clause-memory : goal.returns-in-Replay-clause-memory
-returns-in-Replay-clause-memory g c = λ is words asked.
-    let told = c.script_over-in-Replay.ensures.memory is in (
-      told.1 ++ told.2,
-      begins Replay told.0 told.1 told.2 told.3 (rw c.in-Replay.is at asked) told.4 told.5 told.6 refl,
-      told.7,
-      c.script_over-in-Replay.ensures.silent (inr is),
-    )
-
-pub returns-in-Rehearse-clause-done : goal.returns-in-Rehearse-clause-done
-returns-in-Rehearse-clause-done g c = λ is words asked.
-    let told = c.script_over-in-Rehearse.ensures.done is in
-    (told.1, plays Rehearse told.0 (rw c.in-Rehearse.is at asked) told.2 told.3, told.4, c.script_over-in-Rehearse.ensures.silent (inl is))
-
-pub returns-in-Rehearse-clause-fault : goal.returns-in-Rehearse-clause-fault
-returns-in-Rehearse-clause-fault g c = λ is words asked.
-    let told = c.script_over-in-Rehearse.ensures.fault is in (
-      told.1,
-      refusal_text told.2 told.3,
-      stopped Rehearse told.0 told.2 told.3 (rw c.in-Rehearse.is at asked) told.4 told.5 refl,
-      told.6,
-      told.7,
-    )
-
-pub returns-in-Rehearse-clause-memory : goal.returns-in-Rehearse-clause-memory
-returns-in-Rehearse-clause-memory g c = λ is words asked.
-    let told = c.script_over-in-Rehearse.ensures.memory is in (
-      told.1 ++ told.2,
-      begins Rehearse told.0 told.1 told.2 told.3 (rw c.in-Rehearse.is at asked) told.4 told.5 told.6 refl,
-      told.7,
-      c.script_over-in-Rehearse.ensures.silent (inr is),
-    )
-
-pub returns-in-Live-clause-done : goal.returns-in-Live-clause-done
-returns-in-Live-clause-done g c = λ is words asked.
-    let told = c.script_over-in-Live.ensures.done is in (
-      told.1,
-      plays (Live c.in-Live.addresses) told.0 (rw c.in-Live.is at asked) told.2 told.3,
-      told.4,
-      c.script_over-in-Live.ensures.silent (inl is),
-    )
-
-pub returns-in-Live-clause-fault : goal.returns-in-Live-clause-fault
-returns-in-Live-clause-fault g c = λ is words asked.
-    let told = c.script_over-in-Live.ensures.fault is in (
-      told.1,
-      refusal_text told.2 told.3,
-      stopped (Live c.in-Live.addresses) told.0 told.2 told.3 (rw c.in-Live.is at asked) told.4 told.5 refl,
-      told.6,
-      told.7,
-    )
-
-pub returns-in-Live-clause-memory : goal.returns-in-Live-clause-memory
-returns-in-Live-clause-memory g c = λ is words asked.
-    let told = c.script_over-in-Live.ensures.memory is in (
-      told.1 ++ told.2,
-      begins (Live c.in-Live.addresses) told.0 told.1 told.2 told.3 (rw c.in-Live.is at asked) told.4 told.5 told.6 refl,
-      told.7,
-      c.script_over-in-Live.ensures.silent (inr is),
-    )
 
 pub returns-in-Watch-clause-done : goal.returns-in-Watch-clause-done
 returns-in-Watch-clause-done g c = λ is words asked.
@@ -158,18 +145,6 @@ returns-in-Watch-clause-memory g c = λ is words asked.
 pub returns-in-Show-clause-undone : goal.returns-in-Show-clause-undone
 returns-in-Show-clause-undone g c = λ is words asked. absurd (c.show.ensures.asks is)
 
-pub returns-in-History-clause-undone : goal.returns-in-History-clause-undone
-returns-in-History-clause-undone g c = λ is words asked. absurd (c.script_over.ensures.asks is)
-
-pub returns-in-Replay-clause-undone : goal.returns-in-Replay-clause-undone
-returns-in-Replay-clause-undone g c = λ is words asked. absurd (c.script_over-in-Replay.ensures.asks is)
-
-pub returns-in-Rehearse-clause-undone : goal.returns-in-Rehearse-clause-undone
-returns-in-Rehearse-clause-undone g c = λ is words asked. absurd (c.script_over-in-Rehearse.ensures.asks is)
-
-pub returns-in-Live-clause-undone : goal.returns-in-Live-clause-undone
-returns-in-Live-clause-undone g c = λ is words asked. absurd (c.script_over-in-Live.ensures.asks is)
-
 pub returns-in-Watch-clause-undone : goal.returns-in-Watch-clause-undone
 returns-in-Watch-clause-undone g c = λ is words asked. absurd (c.watch_over.ensures.asks is)
 
@@ -190,18 +165,6 @@ returns-in-Ask-clause-memory g c = λ is words asked.
 
 pub returns-in-Show-clause-never : goal.returns-in-Show-clause-never
 returns-in-Show-clause-never g c = λ is words asked. absurd (c.show.ensures.never is)
-
-pub returns-in-History-clause-never : goal.returns-in-History-clause-never
-returns-in-History-clause-never g c = λ is words asked. absurd (c.script_over.ensures.never is)
-
-pub returns-in-Replay-clause-never : goal.returns-in-Replay-clause-never
-returns-in-Replay-clause-never g c = λ is words asked. absurd (c.script_over-in-Replay.ensures.never is)
-
-pub returns-in-Rehearse-clause-never : goal.returns-in-Rehearse-clause-never
-returns-in-Rehearse-clause-never g c = λ is words asked. absurd (c.script_over-in-Rehearse.ensures.never is)
-
-pub returns-in-Live-clause-never : goal.returns-in-Live-clause-never
-returns-in-Live-clause-never g c = λ is words asked. absurd (c.script_over-in-Live.ensures.never is)
 
 pub returns-in-Ask-clause-never : goal.returns-in-Ask-clause-never
 returns-in-Ask-clause-never g c = λ is words asked. absurd (c.ask_with.ensures.never is)
@@ -231,18 +194,6 @@ returns-in-Watch-clause-never g c = λ is words asked.
 
 pub returns-in-Show-clause-more : goal.returns-in-Show-clause-more
 returns-in-Show-clause-more g c = λ is words asked. absurd (c.show.ensures.more is)
-
-pub returns-in-History-clause-more : goal.returns-in-History-clause-more
-returns-in-History-clause-more g c = λ is words asked. absurd (c.script_over.ensures.more is)
-
-pub returns-in-Replay-clause-more : goal.returns-in-Replay-clause-more
-returns-in-Replay-clause-more g c = λ is words asked. absurd (c.script_over-in-Replay.ensures.more is)
-
-pub returns-in-Rehearse-clause-more : goal.returns-in-Rehearse-clause-more
-returns-in-Rehearse-clause-more g c = λ is words asked. absurd (c.script_over-in-Rehearse.ensures.more is)
-
-pub returns-in-Live-clause-more : goal.returns-in-Live-clause-more
-returns-in-Live-clause-more g c = λ is words asked. absurd (c.script_over-in-Live.ensures.more is)
 
 pub returns-in-Watch-clause-more : goal.returns-in-Watch-clause-more
 returns-in-Watch-clause-more g c = λ is words asked. absurd (c.watch_over.ensures.more is)
