@@ -45,7 +45,7 @@ left s kept told (name ∷ path) some none = go (has (name ∷ path) (made_in s 
       (ap (λ (ts : List Transaction). is_owned s (first_tree (record { nodes = ts; transactions = [] }) (name ∷ path)))
       (nodes-changes kept told) ∙ none) e)
 
-closed_left : (s : ℤ) (kept : HistoryView) (paths : List (Option Text)) (p : NodePath) → kept.transactions ≢ []
+pub closed_left : (s : ℤ) (kept : HistoryView) (paths : List (Option Text)) (p : NodePath) → kept.transactions ≢ []
     → is_owned s (first_tree kept p) ≡ false → is_owned s (newest_tree (with_changes kept (close_changes s paths kept)) p) ≡ false
 closed_left s kept paths p some none =
     let told = deletions is_some kept (map named paths) in
@@ -71,7 +71,7 @@ nodes-entries : (kept : HistoryView) (entries : List Logged) → (with_entries k
 nodes-entries kept [] = refl
 nodes-entries kept (one ∷ entries) = nodes-entries (with_whole kept (transaction_of kept one)) entries
 
-some_end : (ts : List Transaction) (one : Transaction) → ts ++ one ∷ [] ≢ []
+pub some_end : (ts : List Transaction) (one : Transaction) → ts ++ one ∷ [] ≢ []
 some_end [] one = λ e. cc
 some_end (two ∷ ts) one = λ e. cc
 

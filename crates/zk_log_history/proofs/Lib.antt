@@ -9,3 +9,6 @@ pub mod Owned
 pub mod Ended
 pub mod Refused
 pub mod Outcomes
+pub mod Known
+pub mod KnownIsTrue
+pub mod PathRefused

@@ -108,7 +108,7 @@ root-after s (one ∷ more) tree none =
 
 -- ---- one change more
 
-apply_all-end : (z : ℕ) (t : ℤ) (cs : List Change) (c : Change) (tree : Tree)
+pub apply_all-end : (z : ℕ) (t : ℤ) (cs : List Change) (c : Change) (tree : Tree)
     → apply_all z t (cs ++ c ∷ []) tree ≡ apply z t c (apply_all z t cs tree)
 apply_all-end z t [] c tree = refl
 apply_all-end z t (x ∷ xs) c tree = apply_all-end z t xs c (apply z t x tree)
@@ -123,7 +123,7 @@ more-after s (one ∷ two ∷ more) c tree p none apart =
     more-after s (two ∷ more) c (apply_all one.zxid one.time one.changes tree) p none apart
 
 -- what is deleted is gone
-gone-after : (ts : List Transaction) (name : List ℕ) (path : NodePath) (tree : Tree) → ts ≢ []
+pub gone-after : (ts : List Transaction) (name : List ℕ) (path : NodePath) (tree : Tree) → ts ≢ []
     → after (last_with ts (Deletes (name ∷ path))) tree (name ∷ path) ≡ None
 gone-after [] name path tree some = absurd (some refl)
 gone-after (one ∷ []) name path tree some =
@@ -134,7 +134,7 @@ gone-after (one ∷ []) name path tree some =
 gone-after (one ∷ two ∷ more) name path tree some =
     gone-after (two ∷ more) name path (apply_all one.zxid one.time one.changes tree) (λ e. cc)
 
-some-with : (ts : List Transaction) (c : Change) → ts ≢ [] → last_with ts c ≢ []
+pub some-with : (ts : List Transaction) (c : Change) → ts ≢ [] → last_with ts c ≢ []
 some-with [] c some = λ e. some refl
 some-with (one ∷ []) c some = λ e. cc
 some-with (one ∷ two ∷ more) c some = λ e. cc

@@ -5,4 +5,6 @@ pub mod UntoldText
 pub mod Made
 pub mod Ended
 pub mod Refused
+pub mod Known
+pub mod KnownIsTrue
 pub mod inner

@@ -48,7 +48,7 @@ fn add<A: Allocator + Copy>(
 }
 
 /// Whether a part of a multi has failed: then none has changed anything.
-fn has_failed<A: Allocator>(parts: &[PartTxn<A>]) -> bool
+pub(crate) fn has_failed<A: Allocator>(parts: &[PartTxn<A>]) -> bool
     ensures { result ≡ list_any is_failed (map part_of parts.now) }
 {
     for part in parts {
@@ -70,7 +70,7 @@ fn part_bytes<A: Allocator>(part: &PartTxn<A>) -> &[u8]
 }
 
 /// The change that a part of a multi makes, if it makes one.
-fn part_change<A: Allocator + Copy>(
+pub(crate) fn part_change<A: Allocator + Copy>(
     alloc: A,
     session: i64,
     part: &PartTxn<A>,
