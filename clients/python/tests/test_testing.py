@@ -16,12 +16,14 @@ import threading
 import unittest
 from collections.abc import Iterator
 from typing import Callable
+from unittest import mock
 
 from support import CLIENTS, TIMEOUT, WAIT, within
 
 import dirwolleu
 from dirwolleu import Client, State, aio, testing
 from dirwolleu.testing import Server
+from dirwolleu.testing._ensemble import Connection
 
 
 class ServerTest(unittest.TestCase):
@@ -226,6 +228,20 @@ class ServerTest(unittest.TestCase):
             os._exit(0 if status == 1 else 2)
         self.assertEqual(os.waitstatus_to_exitcode(os.waitpid(child, 0)[1]), 0)
         self.assertEqual(server.sessions, ())
+
+    def test_one_that_connects_as_the_server_goes_down_has_no_connection(self) -> None:
+        """The loop makes a connection two turns after it has taken it, and may be asked to end all in between."""
+        running = self.server._alive()
+
+        def make() -> Connection:
+            running.loop.call_soon(running.ensemble.go_down)
+            return Connection(running.ensemble)
+
+        with mock.patch.object(running.ensemble, "make_connection", make):
+            self.server.restart()
+            with socket.create_connection(("127.0.0.1", running.ensemble.port), WAIT) as connection, contextlib.suppress(ConnectionError):
+                self.assertEqual(connection.recv(1), b"")
+        self.assertEqual((self.server.connections, running.ensemble.connections), (1, {}))
 
     def test_nothing_is_left(self) -> None:
         def found() -> tuple[set[str], int]:

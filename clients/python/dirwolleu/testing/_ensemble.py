@@ -100,6 +100,9 @@ class Ensemble:
         self._listener = await loop.create_server(self.make_connection, "127.0.0.1", port, reuse_address=True)
         self.port = self._listener.sockets[0].getsockname()[1]
 
+    def is_up(self) -> bool:
+        return self._listener is not None
+
     def stop_listening(self) -> None:
         if self._listener is not None:
             self._listener.close()
@@ -244,6 +247,8 @@ class Connection(asyncio.Protocol):
         self.transport = transport
         self.server.connections[self] = None
         self.server.came += 1
+        if not self.server.is_up():  # it was taken before, and is made a turn or two of the loop later
+            self.abort()
 
     def connection_lost(self, _: Optional[Exception]) -> None:
         self.forget()
