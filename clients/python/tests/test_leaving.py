@@ -11,12 +11,15 @@ import struct
 import threading
 import time
 import unittest
+from collections.abc import Iterator
 from typing import Any, Callable, Optional
+from unittest import mock
 
 from both import AioCase, Blocking, BothCase
 from support import WAIT, within
 
 from dirwolleu import ConnectionLoss, LockTimeout, MixedNamesError, aio
+from dirwolleu._steps import left_of
 
 CREATE, DELETE, GET_DATA, GET_CHILDREN_2, NONE = 1, 2, 4, 12, -1
 """Types of requests, and one of none."""
@@ -32,6 +35,8 @@ class Relay:
         self._listener = socket.create_server(("127.0.0.1", 0))
         self.host = f"127.0.0.1:{self._listener.getsockname()[1]}"
         self.kind, self.at, self.outage, self.cuts = NONE, "", 0.0, 0
+        self.kinds = list[int]()
+        """The types of the requests that came since a cut was asked for."""
         self._xid: Optional[int] = None
         self._opens_at = 0.0
         self.hear: Callable[[bytes], object] = lambda _: None
@@ -42,7 +47,7 @@ class Relay:
         """Cuts at the next request of this type, or at the answer to it; then there is no server for so long, or until `open`. With
         `nothing` that request has no answer, and the connection stays.
         """
-        self.kind, self.at, self.outage, self.cuts = kind, at, outage, 0
+        self.kind, self.at, self.outage, self.cuts, self.kinds = kind, at, outage, 0, []
 
     def open(self) -> None:
         """Ends an outage. There is one until now."""
@@ -83,10 +88,14 @@ class Relay:
     def _passes_request(self, frame: bytes) -> Optional[bool]:
         self.hear(frame)
         xid, kind = struct.unpack_from(">ii", frame)
+        self.kinds.append(kind)
         if kind != self.kind:
             return True
         self._xid = xid
-        return self.at == "answer" or not self._cut() and (None if self.at == "nothing" else False)
+        if self.at == "answer":
+            return True
+        self._cut()
+        return None if self.at == "nothing" else False
 
     def _passes_answer(self, frame: bytes) -> bool:
         (xid,) = struct.unpack_from(">i", frame)
@@ -98,7 +107,7 @@ class Relay:
         return True
 
 
-T = 2.0
+T = 3.0
 """The timeout of a session that has no server for longer than its recipes wait, in seconds."""
 
 
@@ -125,6 +134,21 @@ class LeavingRules(BothCase):
         """Nobody's place is left, and the next one takes the lock."""
         within(lambda: not self.other.get_children("/locks"))
         self.recipe("Lock", self.other, "/locks").acquire(WAIT).release()
+
+    @contextlib.contextmanager
+    def times_out(self, kind: int) -> Iterator[None]:
+        """A wait for a lock that ends by its time: not before what is to be cut has come, or for a delete the create before it. A busy machine
+        sends it later than that.
+        """
+        relay = self.relay
+
+        def left(until: Optional[float]) -> Optional[float]:
+            left = left_of(until)
+            has_come = relay.cuts or kind == DELETE and CREATE in relay.kinds
+            return left if left is None or has_come or left < -WAIT else max(left, 0.01)
+
+        with mock.patch("dirwolleu._locks.left_of", left), self.assertRaises(LockTimeout):
+            yield
 
     def lock(self, name: str = "Lock", **named: Any) -> Any:
         return self.recipe(name, self.one, "/locks", **named)
@@ -159,7 +183,7 @@ class LeavingRules(BothCase):
         for cut in self.each_cut(DELETE):
             with self.recipe("Lock", self.other, "/locks"):
                 cut()
-                with self.assertRaises(LockTimeout):
+                with self.times_out(DELETE):
                     self.lock("ReadLock").acquire(0.3)
                 self.assertEqual(len(self.other.get_children("/locks")), 1)
 
@@ -167,7 +191,7 @@ class LeavingRules(BothCase):
         for cut in self.each_cut(CREATE):
             with self.recipe("Lock", self.other, "/locks"):
                 cut()
-                with self.assertRaises(LockTimeout):
+                with self.times_out(CREATE):
                     self.lock().acquire(0.3)
                 self.assertEqual(len(self.other.get_children("/locks")), 1)
 
@@ -180,7 +204,7 @@ class LeavingRules(BothCase):
 
     def test_requests_without_an_answer_are_lived_through(self) -> None:
         """The session leaves the connection, and the core asks again over the next one."""
-        self.one = self.client(self.relay.host + self.root, 3 * T)
+        self.one = self.client(self.relay.host + self.root, 2 * T)
         for kind in (CREATE, GET_DATA, GET_CHILDREN_2, DELETE):
             with self.subTest(kind):
                 self.relay.cut(kind, "nothing", 0.0)
@@ -196,7 +220,7 @@ class LeavingRules(BothCase):
         with self.recipe("Lock", self.other, "/locks"):
             for kind in (CREATE, GET_CHILDREN_2, DELETE):
                 self.relay.cut(kind, "nothing", 0.0)
-                with self.assertRaises(LockTimeout):
+                with self.times_out(kind):
                     self.lock().acquire(0.3)
                 within(lambda: len(self.other.get_children("/locks")) == 1)
                 self.assertEqual(self.relay.cuts, 1)
@@ -231,9 +255,8 @@ class LeavingRules(BothCase):
         self.one = self.client(self.relay.host + self.root, T)
         with self.recipe("Lock", self.other, "/locks"):
             self.relay.cut(CREATE, "answer", math.inf)
-            while not self.relay.cuts:
-                with self.assertRaises(LockTimeout):
-                    self.lock().acquire(0.5)
+            with self.times_out(CREATE):
+                self.lock().acquire(0.5)
             self.assertEqual(len(self.other.get_children("/locks")), 2)
             self.relay.open()
             within(lambda: len(self.other.get_children("/locks")) == 1)
