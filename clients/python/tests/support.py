@@ -9,6 +9,7 @@ import sys
 import time
 import unittest
 from typing import Any, Callable, Optional
+from unittest import mock
 
 CLIENTS = pathlib.Path(__file__).resolve().parents[2]
 sys.path[:0] = [str(CLIENTS / "python"), str(CLIENTS / "bench")]
@@ -18,8 +19,9 @@ from partner import *  # noqa: E402, F403
 from partner import WAIT, Partner, Peer, RawServer  # noqa: E402
 
 import dirwolleu  # noqa: E402
+from dirwolleu._clock import moment  # noqa: E402
 
-__all__ = ["CLIENTS", "TIMEOUT", "ClientCase", "PartnerCase", "within"]
+__all__ = ["CLIENTS", "LIMIT", "TIMEOUT", "ClientCase", "PartnerCase", "let_pass", "within"]
 __all__ += partner.__all__
 
 partner.begin_making()  # before trials/test forks a process for each class: so all share it
@@ -29,6 +31,16 @@ if signal.getsignal(signal.SIGINT) is signal.SIG_IGN:  # as in the background of
 
 TIMEOUT = 60.0
 """The timeout of a session, in seconds, where a test does not wait for its end: so no machine that holds its server up ends a call."""
+
+LIMIT = TIMEOUT / 2
+"""The limit of a call that is sent and has no answer, in seconds: longer than any machine takes to send it, and than a server may be silent."""
+
+
+def let_pass(client: dirwolleu.Client, seconds: float) -> None:
+    """Tells the session of a client the moment that comes this number of seconds later, for which nobody waits."""
+    threads = client._threads()
+    assert threads is not None
+    threads.loop.soon(lambda: client._engine.tick(moment() + round(1000 * seconds)))
 
 
 def within(condition: Callable[[], Any], seconds: float = WAIT) -> Any:
@@ -78,6 +90,13 @@ class PartnerCase(unittest.TestCase):
             if re.search(pattern, str(caught.exception)):
                 return
         self.assertRegex(str(caught.exception), pattern)
+
+    def await_farewells(self) -> None:
+        """From now on, a client that is stopped waits longer than two seconds for the end of its session: a busy machine takes longer."""
+        for module in ("client", "aio"):
+            patch = mock.patch(f"dirwolleu.{module}.LONGEST_FAREWELL", WAIT)
+            patch.start()
+            self.addCleanup(patch.stop)
 
     def raises(self, kind: type[BaseException], code: Optional[int]) -> Any:
         """Like assertRaises, and the class and the code have to be exactly these."""

@@ -112,10 +112,11 @@ class EndOfLoopTest(PartnerCase):
     """What `asyncio.run` does at its end, after a Ctrl-C too: it cancels all tasks and waits for them."""
 
     def test_the_session_is_ended_though_all_tasks_are_cancelled(self) -> None:
+        self.await_farewells()
         partner = self.partner()
 
         async def program() -> None:
-            async with Client(partner.host) as client:
+            async with Client(partner.host, TIMEOUT) as client:
                 await client.create("/a", ephemeral=True)
                 ready.set_result(None)
                 await asyncio.sleep(9 * WAIT)
@@ -134,7 +135,7 @@ class EndOfLoopTest(PartnerCase):
         self.assertEqual(asyncio.run(self.names(partner.host)), [])
 
     async def names(self, host: str) -> list[str]:
-        async with Client(host) as client:
+        async with Client(host, TIMEOUT) as client:
             return await client.get_children("/")
 
     def test_the_session_is_ended_after_an_interrupt(self) -> None:
@@ -142,7 +143,8 @@ class EndOfLoopTest(PartnerCase):
         program = (
             "import asyncio, sys; sys.path.insert(0, sys.argv[1]); import dirwolleu\n"
             "async def main():\n"
-            "    async with dirwolleu.aio.Client(sys.argv[2]) as client:\n"
+            "    dirwolleu.aio.LONGEST_FAREWELL = 60.0  # also on a busy machine\n"
+            "    async with dirwolleu.aio.Client(sys.argv[2], 60.0) as client:\n"
             "        print(await client.create('/a', ephemeral=True), flush=True)\n"
             "        await asyncio.sleep(60)\n"
             "asyncio.run(main())\n"

@@ -17,7 +17,7 @@ from typing import Any, Callable
 from unittest import mock
 
 from both import in_thread
-from support import CLIENTS, GET_DATA, SET_WATCHES, WAIT, ClientCase, Peer, data_reply, reply, within
+from support import CLIENTS, GET_DATA, LIMIT, SET_WATCHES, WAIT, ClientCase, Peer, data_reply, let_pass, reply, within
 
 from dirwolleu import (
     CallTimeoutError,
@@ -51,8 +51,11 @@ class TimeoutTest(ClientCase):
         partner = self.partner()
         client = self.client(partner.host, 60.0)
         partner.do("mute")
+        made = in_thread(lambda: client.create("/a", timeout=LIMIT))
+        within(lambda: client.stats().in_flight)
+        let_pass(client, LIMIT)
         with self.assertRaisesRegex(CallTimeoutError, "may still happen") as caught:
-            client.create("/a", timeout=2.0)
+            made.result()
         self.assertTrue(caught.exception.may_have_happened)
         with self.assertRaises(TimeoutError) as read:
             client.get("/", timeout=0.2)
@@ -284,8 +287,9 @@ class RetryTest(ClientCase):
             client.close()
 
     def test_the_deadline_bounds_the_tries(self) -> None:
-        attempts = Retry(tries=None, deadline=0.2, pause=0.15, chance=0.0).attempts()
-        self.assertEqual(attempts.after(NotConnectedError("x")), 0.15)
+        """Which nobody waits for here."""
+        attempts = Retry(tries=None, deadline=20 * WAIT, pause=15 * WAIT, chance=0.0, longest_pause=20 * WAIT).attempts()
+        self.assertEqual(attempts.after(NotConnectedError("x")), 15 * WAIT)
         with self.assertRaises(NotConnectedError):
             attempts.after(NotConnectedError("x"))
 
@@ -552,7 +556,7 @@ def run(**named):
             """
 told = threading.Event()
 def fail(_): raise ValueError("this is seen")
-with dirwolleu.Client(host) as client:
+with dirwolleu.Client(host, 60.0) as client:
     client.exists("/b", watch=fail)
     client.exists("/b", watch=lambda _: told.set())
     client.create("/b")
@@ -565,7 +569,7 @@ with dirwolleu.Client(host) as client:
             """
 async def fail(_): raise ValueError("this is seen too")
 async def main():
-    async with dirwolleu.aio.Client(host) as client:
+    async with dirwolleu.aio.Client(host, 60.0) as client:
         await client.exists("/c", watch=fail)
         await client.create("/c")
         await asyncio.sleep(0.2)

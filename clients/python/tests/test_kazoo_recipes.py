@@ -247,6 +247,7 @@ class RecipesTest(RecipesCase):
                 self.one.LockingQueue("/queue").put(*wrong)
 
     def test_a_queue_that_locks(self) -> None:
+        self.await_farewells()
         one, other = self.one.LockingQueue("/queue"), self.other.LockingQueue("/queue")
         self.assertEqual((one.get(0), one.consume(), one.release(), one.holds_lock(), len(one)), (None, False, False, False, 0))
         one.put(b"second")
@@ -314,6 +315,7 @@ class SharesTest(RecipesCase):
         self.assertFalse(second.is_acquired)
 
     def test_a_lease_is_lost_with_its_session(self) -> None:
+        self.await_farewells()
         semaphore = self.other.Semaphore("/some", max_leases=1)
         semaphore.acquire()
         self.other.stop()

@@ -9,7 +9,8 @@ import socket
 from typing import Callable
 
 import support
-from support import WAIT, Partner, PartnerCase
+from both import in_thread
+from support import LIMIT, TIMEOUT, WAIT, Partner, PartnerCase, let_pass
 
 from dirwolleu import Client, ConnectionLoss, NoNodeError, NotConnectedError, SessionExpiredError, State, aio
 from dirwolleu.exceptions import error_of
@@ -27,7 +28,7 @@ class MessageCase(PartnerCase):
         raise AssertionError("there is no error")
 
     def client(self, partner: Partner) -> Client:
-        client = Client(partner.host)
+        client = Client(partner.host, TIMEOUT)
         self.addCleanup(client.close)
         client.start(WAIT)
         return client
@@ -86,8 +87,10 @@ class RefusalTest(MessageCase):
         partner = self.partner()
         client = self.client(partner)
         partner.do("mute")
-        message = self.said(lambda: client.get("/a", timeout=2.0))
-        self.assertEqual(message, "no answer has come in time: /a; it may still happen")
+        message = in_thread(lambda: self.said(lambda: client.get("/a", timeout=LIMIT)))
+        support.within(lambda: client.stats().in_flight)
+        let_pass(client, LIMIT)
+        self.assertEqual(message.result(), "no answer has come in time: /a; it may still happen")
 
     def test_a_text_that_is_no_path_says_why(self) -> None:
         client = self.client(self.partner())
@@ -109,7 +112,7 @@ class RefusalTest(MessageCase):
     def test_below_a_root_the_path_is_that_of_the_program(self) -> None:
         partner = self.partner()
         partner.do("create /app x")
-        client = Client(f"{partner.host}/app")
+        client = Client(f"{partner.host}/app", TIMEOUT)
         self.addCleanup(client.close)
         client.start(WAIT)
         almost = "/" + 4094 * "x"

@@ -10,13 +10,13 @@ import sys
 import urllib.request
 from typing import Any
 
-from support import CLIENTS, TIMEOUT, WAIT, PartnerCase, Peer, reply, within
+from both import in_thread
+from support import CLIENTS, LIMIT, TIMEOUT, WAIT, PartnerCase, Peer, let_pass, reply, within
 
 import dirwolleu
 from dirwolleu import aio
 from dirwolleu.exceptions import CallTimeoutError, NoNodeError
 from dirwolleu.metrics import CallEvent, ConnectionEvent, Metrics, Observation, Transfer
-from dirwolleu.security import AuthFailedError
 
 SAMPLE = re.compile(r"dirwolleu_[a-z_]+(?:\{[a-z]+=\"[^\"]*\"(?:,[a-z]+=\"[^\"]*\")*\})? (?:[0-9.e+-]+)")
 
@@ -113,10 +113,7 @@ class MetricsTest(PartnerCase):
         """Why the first connection to a server is over."""
         client = self.client(self.raw_server(serve).host, **named)
         told = observed(client, ConnectionEvent)
-        try:
-            client.start(3.0)
-        except (TimeoutError, AuthFailedError):
-            pass
+        in_thread(lambda: client.start(WAIT))
         return str(within(lambda: [one.reason for one in told if one.kind == "over"])[0])
 
     def test_why_a_connection_is_over(self) -> None:
@@ -147,8 +144,11 @@ class MetricsTest(PartnerCase):
         client = self.client(server.host)
         told = observed(client, CallEvent)
         client.start(WAIT)
+        call = in_thread(lambda: client.get("/", timeout=LIMIT))
+        within(lambda: client.stats().in_flight)
+        let_pass(client, LIMIT)
         with self.assertRaises(CallTimeoutError) as caught:
-            client.get("/", timeout=0.05)
+            call.result()
         self.assertTrue(caught.exception.was_sent)
         client.stop()
         self.assertIn(("get", "late"), [(one.kind, one.outcome) for one in told])

@@ -12,7 +12,7 @@ from typing import Any, Callable, Optional
 from unittest import mock
 
 from both import in_thread
-from support import WAIT, ClientCase, PartnerCase, within
+from support import TIMEOUT, WAIT, ClientCase, PartnerCase, within
 from test_leaving import CREATE, Relay
 
 import dirwolleu
@@ -295,6 +295,7 @@ class RegistrationTest(ClientCase):
     def test_a_node_of_another_session_is_waited_for(self) -> None:
         partner = self.partner()
         client, other = self.client(partner.host), self.client(partner.host)
+        self.await_farewells()
         other.create("/one", b"other", ephemeral=True)
         registration = Registration(client, "/one", b"own")
         self.assertFalse(registration.wait(0.2))
@@ -325,7 +326,7 @@ class AioTest(PartnerCase):
                 await asyncio.sleep(0.005)
 
         async def run() -> None:
-            async with aio.Client(partner.host) as one, aio.Client(partner.host) as other:
+            async with aio.Client(partner.host, TIMEOUT) as one, aio.Client(partner.host, TIMEOUT) as other:
                 lock, second = aio.Lock(one, "/locks", "one", on_lost=lost.append), aio.Lock(other, "/locks", "other")
                 async with lock as held:
                     held.check(within=WAIT)
@@ -357,7 +358,7 @@ class AioTest(PartnerCase):
         partner = self.partner()
 
         async def run() -> None:
-            async with aio.Client(partner.host) as client, aio.Client(partner.host) as other:
+            async with aio.Client(partner.host, TIMEOUT) as client, aio.Client(partner.host, TIMEOUT) as other:
                 async with aio.Registration(client, "/workers/one", b"first") as registration:
                     self.assertTrue(await registration.wait(WAIT))
                     self.assertTrue(registration.is_registered)

@@ -13,7 +13,7 @@ from typing import Any, Callable
 from unittest import mock
 
 from both import in_thread
-from support import WAIT, Partner, PartnerCase, within
+from support import TIMEOUT, WAIT, Partner, PartnerCase, within
 
 from dirwolleu import Client, ConnectionClosedError, NoNodeError, SessionExpiredError, State, ZookeeperError
 from dirwolleu import _requests as requests
@@ -55,7 +55,7 @@ def held_at_start(thread: Any) -> Iterator[None]:
 
 
 class StoppingCase(PartnerCase):
-    def client(self, host: str = "127.0.0.1:1", timeout: float = 10.0) -> Client:
+    def client(self, host: str = "127.0.0.1:1", timeout: float = TIMEOUT) -> Client:
         """A client, which finds no server unless it is told of one."""
         client = Client(host, timeout)
         self.addCleanup(client.close)
@@ -245,10 +245,10 @@ class ClientTest(StoppingCase):
         clients[0].stop()
         self.assertTrue(told.wait(WAIT))
         self.assertEqual([client.get_children("/") for client in clients[1:]], [[], []])
-        self.assertEqual(threads(), ["dirwolleu"])
+        within(lambda: threads() == ["dirwolleu"])  # a stop waits for the others, and not for ever
         for client in clients[1:]:
             client.stop()
-        self.assertEqual(threads(), [])
+        within(lambda: not threads())
 
     def test_a_stop_comes_at_any_moment_of_a_start(self) -> None:
         until = time.monotonic() + LONGEST
