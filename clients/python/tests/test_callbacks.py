@@ -26,7 +26,7 @@ class CallbackTest(PartnerCase):
             import sys; sys.path.insert(0, sys.argv[2])
             import dirwolleu
             def fail(event): raise LookupError("a fault of the program")
-            with dirwolleu.Client(sys.argv[1]) as client:
+            with dirwolleu.Client(sys.argv[1], 60.0) as client:
                 client.exists("/a", watch=fail)
                 client.create("/a")
             print("done")
@@ -45,7 +45,7 @@ class CallbackTest(PartnerCase):
                 async def fail(event):
                     failed.set()
                     raise LookupError("a fault of the program")
-                async with aio.Client(sys.argv[1]) as client:
+                async with aio.Client(sys.argv[1], 60.0) as client:
                     await client.exists("/a", watch=fail)
                     await client.create("/a")
                     await failed.wait()

@@ -18,7 +18,7 @@ import time
 from typing import Any, Callable
 from unittest import mock
 
-from support import PASSWORD, PING, WAIT, Asked, Connected, PartnerCase, Peer, data_reply, framed, notice, reply, within
+from support import PASSWORD, PING, TIMEOUT, WAIT, Asked, Connected, PartnerCase, Peer, data_reply, framed, notice, reply, within
 
 from dirwolleu import Client, ConnectionClosedError, ConnectionLoss, NotConnectedError, State, aio
 from dirwolleu._driver import Driver
@@ -102,8 +102,9 @@ class DialTest(PartnerCase):
             client.start(WAIT)
 
     def test_a_server_that_comes_back_in_time_is_met_in_time(self) -> None:
+        """How soon, `AwayTest` says."""
         partner = self.partner()
-        client = self.client(partner.host, 4.0)
+        client = self.client(partner.host, TIMEOUT)
         states: list[State] = []
         client.add_listener(states.append)
         partner.do("down")
@@ -176,6 +177,8 @@ class DialTest(PartnerCase):
         self.is_left_while_connecting(lambda peer: peer.trickle(struct.pack(">i", 1000) + bytes(996), 0.2))
 
     def test_a_server_that_trickles_an_answer_is_left(self) -> None:
+        """When, `AwayTest` says."""
+
         def serve(peer: Peer) -> None:
             peer.admit()
             while (asked := peer.take()).kind == PING:  # a busy machine asks later than a ping is due
@@ -186,7 +189,7 @@ class DialTest(PartnerCase):
         began = time.monotonic()
         with self.raises(ConnectionLoss, -4):
             client.set("/a", b"x")
-        self.assertTrue(1.5 < time.monotonic() - began < WAIT)  # on a busy machine the step that sends it began before
+        self.assertLess(time.monotonic() - began, WAIT)
 
     def test_a_server_that_answers_no_ping_is_left(self) -> None:
         def serve(peer: Peer) -> None:
@@ -222,14 +225,14 @@ class DialTest(PartnerCase):
                 peer.send(reply(ping))
 
         server = self.raw_server(serve)
-        self.client(server.host, 12.0)  # so that an answer may be four seconds late
-        within(lambda: len(pings) == 3)
+        self.client(server.host, 18.0)  # so that an answer may be six seconds late
+        within(lambda: len(pings) >= 2)
         self.assertEqual(({ping.kind for ping in pings}, len(server.dials)), ({PING}, 1))
 
     def test_a_process_that_was_held_up_reads_what_its_socket_has(self) -> None:
-        """It is told of something while it is held up, and goes on after a server may be silent no more, eight seconds of twelve.
+        """It is told of something while it is held up, and goes on after a server may be silent no more, 12 seconds of 18.
 
-        What came may have come as it was stopped: so it may be held up for three seconds more.
+        What came may have come as it was stopped: so it may be held up for five seconds more.
         """
         pinged, stopped, told, resumed = threading.Event(), threading.Event(), threading.Event(), threading.Event()
         pings = list[Asked]()
@@ -248,15 +251,15 @@ class DialTest(PartnerCase):
                 resumed.set()
 
         server = self.raw_server(serve)
-        child = subprocess.Popen([sys.executable, str(HELD_UP), server.host, "12"], stdout=subprocess.PIPE, text=True)
+        child = subprocess.Popen([sys.executable, str(HELD_UP), server.host, "18"], stdout=subprocess.PIPE, text=True)
         self.addCleanup(child.communicate)
         self.addCleanup(child.kill)
         self.assertTrue(pinged.wait(WAIT))
-        time.sleep(3.2)
+        time.sleep(5.2)
         child.send_signal(signal.SIGSTOP)
         stopped.set()
         self.assertTrue(told.wait(WAIT))
-        time.sleep(5.0)
+        time.sleep(7.0)
         child.send_signal(signal.SIGCONT)
         self.assertTrue(resumed.wait(WAIT))
         self.assertEqual((len(server.dials), pings[0].kind), (1, PING))
@@ -348,7 +351,7 @@ class DialTest(PartnerCase):
         for serve, words in ((finishes, "the server has closed it"), (resets, "reset by peer|[Bb]roken pipe")):
             with self.subTest(serve.__name__), self.assertLogs("dirwolleu.connection", "WARNING") as told:
                 server = self.raw_server(serve)
-                client = self.client(server.host, 3.0)
+                client = self.client(server.host, TIMEOUT)
                 for _ in range(3):
                     self.assertEqual(client.get("/a")[0], b"one")
                 within(lambda: len(told.output) >= 2)

@@ -12,7 +12,7 @@ from collections.abc import Sequence
 from typing import Any, Callable, Optional
 from unittest import mock
 
-from support import WAIT, ClientCase, Partner, PartnerCase, Peer, within
+from support import TIMEOUT, WAIT, ClientCase, Partner, PartnerCase, Peer, within
 from test_library import CONNECT_RESPONSE
 
 from dirwolleu import Client, EventType, Mark, NoNodeError, State, WatchedEvent
@@ -145,7 +145,7 @@ class NamesTest(ClientCase):
     def test_a_name_that_has_a_new_address_is_followed_there(self) -> None:
         partner = self.partner()
         with mock.patch("socket.getaddrinfo", return_value=found("127.0.0.9")) as look_up:
-            client = Client(f"name:{partner.port}", 2.0)
+            client = Client(f"name:{partner.port}", TIMEOUT)
             self.addCleanup(client.close)
             begun = threading.Thread(target=lambda: client.start(WAIT), daemon=True)
             begun.start()
@@ -236,7 +236,7 @@ class RootTest(PartnerCase):
     def setUp(self) -> None:
         self.other: Partner = self.partner()
         self.other.do("create /app", "create /app/x one", "create /elsewhere")
-        self.client = Client(self.other.host + "/app")
+        self.client = Client(self.other.host + "/app", TIMEOUT)
         self.addCleanup(self.client.close)
         self.addCleanup(self.client.stop)
         self.client.start(WAIT)

@@ -265,7 +265,7 @@ class StatesTest(KazooCase):
         zk = KazooClient("127.0.0.1:1", timeout=1.0)
         begin = time.monotonic()
         with self.assertRaisesRegex(KazooTimeoutError, "connection refused"):
-            zk.start(3.0)
+            zk.start(10.0)  # also on a busy machine that time is enough for an attempt
         self.assertLess(time.monotonic() - begin, WAIT)
         with self.assertRaises(ConnectionClosedError):
             zk.get("/")
@@ -328,6 +328,7 @@ class StatesTest(KazooCase):
         self.assertIsNotNone(other.exists("/mine"))
 
     def test_restart_with_another_timeout(self) -> None:
+        self.await_farewells()
         zk = self.client()
         zk.create("/mine", ephemeral=True)
         first, zxid = zk.client_id, zk.last_zxid
@@ -498,9 +499,9 @@ class KeywordsTest(KazooCase):
                 self.asked.append((args, kwargs))
                 return super().create_connection(*args, **kwargs)
 
-        zk = self.client(handler=Handler(), timeout=7.0)
+        zk = self.client(handler=Handler(), timeout=70.0)
         port = int(self.server.host.rpartition(":")[2])
-        self.assertEqual(Handler.asked, [((), {"address": ("127.0.0.1", port), "timeout": 7.0})])
+        self.assertEqual(Handler.asked, [((), {"address": ("127.0.0.1", port), "timeout": 70.0})])
         self.server.do("drop")
         within(lambda: len(Handler.asked) == 2 and zk.connected)
 
@@ -599,7 +600,7 @@ class InternalsTest(KazooCase):
         zk = self.unstarted(timeout=30.0)
         connect = zk._connection._connect
         connection: Any = zk._connection
-        connection._connect = lambda *words: (6000, connect(*words)[1])  # as patroni does
+        connection._connect = lambda *words: (12_000, connect(*words)[1])  # as patroni does
         zk.start(WAIT)
         time.sleep(3.4)
         assert zk._session is not None

@@ -365,7 +365,7 @@ class OutageTest(PartnerCase):
         is_over.set()
         self.assertEqual([end.get(timeout=6 * WAIT) for end in ends], 4 * [None])
         self.assertGreater(len(tokens), 4)
-        self.assertEqual(clients[0].retry(clients[0].get_children, "/locks"), [])
+        within(lambda: not clients[0].retry(clients[0].get_children, "/locks"))  # what a release has left on a busy machine goes later
 
 
 class NumberTest(BothCase):

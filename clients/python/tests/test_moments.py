@@ -170,6 +170,33 @@ class AwayTest(UntimedCase):
 
         self.run_in_loop(run())
 
+    def test_one_that_trickles_an_answer_is_left_at_two_thirds(self) -> None:
+        """Byte after byte comes of a frame that has no end in time. So it is with one that trickles while it accepts the session."""
+
+        def trickle(server: Server, data: bytes) -> None:
+            server.write(data[:1])
+            self.loop.call_later(0.2, trickle, server, data[1:])
+
+        for admits in (True, False):
+            with self.subTest(admits=admits):
+                self.setUp()
+
+                async def run(admits: bool = admits) -> None:
+                    server, _ = Server(self.loop, 1, says_nothing), Server(self.loop, 2, answers)
+                    server.admits = admits
+                    async with self.client(1, 2, timeout=6.0, is_awaited=admits) as client:
+                        await asyncio.sleep(0.1)
+                        began = self.loop.time() if admits else self.loop.dials[0][0]
+                        self.loop.call_later(0.5, trickle, server, framed(bytes(1000)))
+                        if admits:
+                            with self.assertRaises(ConnectionLoss):
+                                await client.set("/a", b"x")
+                            self.check(self.loop.time() - began, 4.0)
+                        await client.get("/a")
+                        self.check(self.loop.dials[1][0] - began, 4.0)
+
+                self.run_in_loop(run())
+
     def test_one_that_answers_pings_alone_is_left_at_two_thirds(self) -> None:
         """What it says meanwhile does not matter to the call that waits."""
 

@@ -173,6 +173,8 @@ CODES = {-4: "the server has lost its connection", -6: "the server does not know
          -118: "the session was taken up over another connection", -999: "the server refuses it", 1: "the server refuses it"}  # fmt: skip
 NAMES = [b"b", b" ", b"\\", "\u00e9".encode(), b"a\tb", "\u202ex".encode(), b"b"]
 UNACCEPTING: list[Serve] = [closes, functools.partial(says, b"\xff" * 4), functools.partial(says, b"\0\0\0\x25\0")]
+LONG_ENOUGH = "10"
+"""For how many seconds a command waits that has no other end: also a busy machine has dialled by then, and has been answered."""
 End = tuple[Serve, list[str], int, str, str]
 """What a server does, a command, and its end in both: the status, the output, and what is said."""
 ENDS_OF_READS: list[End] = [(functools.partial(is_silent, 30_000), words, 8, "", f"{LATE}\n") for words in (GET, LS, TREE, ["stat", "/a"])]
@@ -290,7 +292,7 @@ class ShellsTest(unittest.TestCase):
                     server.create("/a/c")
                 self.assertEqual(zk, self.run_python(hosts, words), (hosts, words))
         for hosts in ("127.0.0.1:1", "host.invalid:1"):
-            zk, python = self.run_both(hosts, ["get", "/a", "--wait", "3"])
+            zk, python = self.run_both(hosts, ["get", "/a", "--wait", LONG_ENOUGH])
             self.assertEqual(zk, python, hosts)
 
     def test_servers_of_the_environment(self) -> None:
@@ -308,7 +310,7 @@ class ShellsTest(unittest.TestCase):
 
     def test_a_server_that_accepts_no_session(self) -> None:
         with socket.create_server(("127.0.0.1", 0)) as listener:
-            hosts, words = f"127.0.0.1:{listener.getsockname()[1]}", ["get", "/a", "--wait", "3"]
+            hosts, words = f"127.0.0.1:{listener.getsockname()[1]}", ["get", "/a", "--wait", LONG_ENOUGH]
             zk, python = self.run_both(hosts, words)
             self.assertEqual(zk, python)
             self.assertIn("connected, but no session was accepted", zk[2])
@@ -331,7 +333,7 @@ class ShellsTest(unittest.TestCase):
             for run in (self.run_zk, self.run_python):
                 server = RawServer(serve)
                 self.addCleanup(server.stop)
-                ends.append(run(server.host, ["get", "/a", "--wait", "3"]))
+                ends.append(run(server.host, ["get", "/a", "--wait", LONG_ENOUGH]))
             self.assertEqual(ends[0], ends[1])
             self.assertEqual(ends[0][0], status)
 
@@ -587,7 +589,7 @@ class ShellsTest(unittest.TestCase):
                 peer.take()
 
         for fault, message in faults:
-            timeout = "900" if fault == "D1" else "30000"
+            timeout = "9000" if fault == "D1" else "30000"
             for seconds in ("1", "10", "40"):
                 words = ["watch", "--data", "/a", "--data", "/b", "--for", seconds, "--timeout", timeout]
                 ends = self.ends_of(functools.partial(serve, message), words)

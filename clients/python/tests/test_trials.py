@@ -29,7 +29,7 @@ class TrialsTest(unittest.TestCase):
     def tried(self, *parts: str) -> tuple[int, str]:
         """The exit status and the last line of the script, where these tools alone are in the path."""
         environment = {**os.environ, "PATH": str(self.tools), "CC": "cc"}
-        done = subprocess.run([sys.executable, str(SCRIPT), *parts], env=environment, capture_output=True, text=True, timeout=WAIT)
+        done = subprocess.run([sys.executable, str(SCRIPT), *parts], env=environment, capture_output=True, text=True, timeout=6 * WAIT)
         return done.returncode, (done.stdout + done.stderr).splitlines()[-1]
 
     def test_what_is_missing_is_named(self) -> None:

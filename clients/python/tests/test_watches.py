@@ -188,7 +188,7 @@ class WatchRules(BothCase):
                 if asked.kind == GET_DATA:
                     reads.append(b"")
 
-        client, told = self.client(self.raw_server(serve).host, 1.5), queue.Queue[Any]()
+        client, told = self.client(self.raw_server(serve).host), queue.Queue[Any]()
         with self.assertLogs("dirwolleu") as logs:
             in_thread(lambda: self.watch(client, "DataWatch", "/a", lambda data, _: told.put(data)))  # it waits for an answer
             within(lambda: len(reads) == 2)
@@ -445,7 +445,7 @@ class FutureTest(BothCase):
         partner = self.partner()
 
         async def run() -> None:
-            async with aio.Client(partner.host) as client:
+            async with aio.Client(partner.host, TIMEOUT) as client:
                 futures: list[asyncio.Future[Any]] = [client.create_async("/a", b"x"), client.get_async("/a")]
                 self.assertEqual([await one for one in futures], ["/a", (b"x", await client.exists("/a"))])
                 await client.create_async("/b/c", makepath=True)
