@@ -100,17 +100,20 @@ class Follow(Followed):
         self.assertGreater(dials[6] - begun, 2)
 
     def test_stopped_program(self):
-        """A program that is stopped for more than two thirds of the timeout since it heard the server reads its socket first."""
+        """A program that is stopped for more than two thirds of the timeout since it heard the server reads its socket first. Then it has as long for
+        what it asks.
+        """
         shown = threading.Event()
 
         def serve(_, line):
-            line.admit(3_000)
+            line.admit(9_000)
             xid, _ = line.request()
             line.answer(xid, 0, DATA)
-            line.serve_until(shown, {PING: line.answer})  # a ping without an answer would end the connection
+            line.serve_until(shown, {PING: line.answer})
             self.followed.process.send_signal(signal.SIGSTOP)
+            line.serve_what_came({PING: line.answer})  # a ping without an answer would end the connection
             line.answer(-1, 0, struct.pack(">iii", 3, 3, 7) + b"/config")
-            time.sleep(2.4)
+            time.sleep(6.4)
             self.followed.process.send_signal(signal.SIGCONT)
             line.serve({GET_DATA: lambda xid: line.answer(xid, 0, DATA), PING: line.answer})
 

@@ -84,6 +84,11 @@ class Line(Peer):
             if select.select([self.connection], [], [], 0.01)[0]:
                 self.serve_one(kinds)
 
+    def serve_what_came(self, kinds):
+        """The same, as long as there is one."""
+        while select.select([self.connection], [], [], 0.5)[0]:
+            self.serve_one(kinds)
+
     def dribble(self, data):
         while True:
             self.send_bytes(data)

@@ -126,7 +126,7 @@ class Servers(Followed):
         end = time.monotonic() + BOUND
         while len(pings) < 2 and time.monotonic() < end:
             time.sleep(0.02)
-        moments = [admitted[0], *pings]
+        moments = [admitted[0], *pings[:2]]  # a busy machine looks later
         self.assertEqual((len(moments), len(admitted)), (3, 1))
         for before, after in zip(moments, moments[1:]):
             self.assertLess(after - before, 4 + SLACK)
@@ -150,7 +150,7 @@ class Late(Case):
         xids = []
 
         def serve(number, line):
-            line.admit(3_000)
+            line.admit(30_000)
             xids.append(line.request()[0])
             if number == 3:
                 line.answer(xids[-1], -101)
@@ -165,7 +165,7 @@ class Late(Case):
         kinds = []
 
         def serve(number, line):
-            line.admit(3_000)
+            line.admit(30_000)
             kinds.append(line.request()[1])
 
         _, said = self.says(serve, "/a", "one")
