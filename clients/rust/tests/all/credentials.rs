@@ -18,7 +18,7 @@ const AUTH_XID: i32 = -4;
 fn taking(ends_at: Option<i32>) -> (Partner, mpsc::Receiver<(usize, Request)>) {
     let (sender, told) = mpsc::channel();
     let partner = Partner::start(move |number, mut line| {
-        line.admit(10_000);
+        line.admit(60_000);
         while let Some(request) = line.request() {
             sender.send((number, request.clone())).unwrap();
             match request.kind {
@@ -60,7 +60,7 @@ fn credentials_are_told_first_on_each_connection() {
 #[test]
 fn credentials_that_are_refused_end_all_calls() {
     let partner = Partner::start(|_, mut line| {
-        line.admit(10_000);
+        line.admit(60_000);
         line.request();
         line.refuse(AUTH_XID, Code::AUTH_FAILED.0);
     });
@@ -110,7 +110,7 @@ fn credentials_that_are_refused_end_what_is_good() {
 #[test]
 fn credentials_that_are_added_and_refused_are_told_to_their_caller() {
     let partner = Partner::start(|_, mut line| {
-        line.admit(10_000);
+        line.admit(60_000);
         while let Some(request) = line.request() {
             match request.kind {
                 AUTH => {

@@ -20,7 +20,7 @@ fn options() -> SessionOptions {
 /// Admits a session, and answers each get by a frame with this many bytes after its length, and all else by a Stat. It tells how many bytes
 /// other requests have.
 fn serve(mut line: Line, size: usize, lengths: &Sender<usize>) {
-    line.admit(10_000);
+    line.admit(60_000);
     line.each(|line, request| {
         match request.kind {
             PING => line.refuse(PONG, 0),
@@ -85,7 +85,7 @@ fn a_request_is_as_long_as_it_may_be() {
 fn expiring() -> Partner {
     let lengths = channel().0;
     Partner::start(move |number, mut line| match number {
-        0 => drop((line.admit(10_000), line.frame())),
+        0 => drop((line.admit(60_000), line.frame())),
         1 => drop((line.frame(), line.send(&Record::expired()))),
         _ => serve(line, RAISED, &lengths),
     })

@@ -253,7 +253,7 @@ fn one_that_gives_up_and_knows_no_place_is_cut() {
 fn a_release_says_what_is_left() {
     let Some(server) = started() else { return };
     let wire = Wire::to(server.address);
-    let session = Session::open(wire.address, Duration::from_secs(1)).unwrap();
+    let session = Session::open(wire.address, Duration::from_secs(6)).unwrap();
     let lock = Lock::acquire(&session, "/lock", Sharing::Exclusive, b"").unwrap();
     wire.set_down(true);
     wire.cut_at(DELETE, Cut::Request);

@@ -37,7 +37,7 @@ fn challenge(xid: i32, bytes: &[u8]) -> Vec<u8> {
 }
 
 fn admit_by_log_in(line: &mut Line) {
-    line.admit(10_000);
+    line.admit(60_000);
     expect_token(line, FIRST_XID, b"");
     line.send(&challenge(FIRST_XID, b"who?"));
     expect_token(line, FIRST_XID - 1, b"app");
@@ -73,7 +73,7 @@ fn the_log_in_comes_in_pieces_of_a_byte() {
             }
         };
         line.frame();
-        dribble(&mut line, &Record::accepted(10_000, 0x1234));
+        dribble(&mut line, &Record::accepted(60_000, 0x1234));
         expect_token(&mut line, FIRST_XID, b"");
         dribble(&mut line, &challenge(FIRST_XID, b"who?"));
         expect_token(&mut line, FIRST_XID - 1, b"app");
@@ -101,7 +101,7 @@ fn expect_refused(session: &Session, partner: &Partner, words: &str) {
 fn who_is_not_taken_has_no_session() {
     for code in [-115, -124] {
         let partner = Partner::start(move |_, mut line| {
-            line.admit(10_000);
+            line.admit(60_000);
             expect_token(&mut line, FIRST_XID, b"");
             line.refuse(FIRST_XID, code);
             line.frame();
@@ -110,7 +110,7 @@ fn who_is_not_taken_has_no_session() {
         expect_refused(&session, &partner, "a code");
     }
     let partner = Partner::start(|_, mut line| {
-        line.admit(10_000);
+        line.admit(60_000);
         expect_token(&mut line, FIRST_XID, b"");
         line.send(&challenge(FIRST_XID, b"others"));
         line.frame();
@@ -128,7 +128,7 @@ fn what_is_no_refusal_is_tried_again() {
     ] {
         let partner = Partner::start(move |number, mut line| {
             if number == 0 {
-                line.admit(10_000);
+                line.admit(60_000);
                 expect_token(&mut line, FIRST_XID, b"");
                 line.send(&first);
                 line.frame();

@@ -10,10 +10,13 @@ use std::sync::mpsc;
 use std::thread::{self, sleep};
 use std::time::{Duration, Instant};
 
+/// The limit of a call that is sent and not answered: a busy machine takes less to send it.
+const LIMIT: Duration = Duration::from_secs(6);
+
 /// A server that admits the session and answers nothing.
 fn silent() -> Partner {
     Partner::start(|_, mut line| {
-        line.admit(10_000);
+        line.admit(60_000);
         while line.request().is_some() {}
     })
 }
@@ -26,15 +29,12 @@ fn a_call_waits_to_a_limit_of_its_own() {
         sleep(millis(5));
     }
     let begun = Instant::now();
-    let write = Request::set("/a", b"one", 0).within(millis(2_000));
+    let write = Request::set("/a", b"one", 0).within(LIMIT);
     let late = session.call(write).unwrap_err();
     let took = begun.elapsed();
     assert_eq!(late.kind(), &ErrorKind::TimedOut);
     assert!(late.may_have_happened());
-    assert!(
-        took >= millis(2_000) && took < millis(2_000) + SLACK,
-        "{took:?}"
-    );
+    assert!(took >= LIMIT && took < LIMIT + SLACK, "{took:?}");
     let mut local = LocalSession::open(partner.address, TIMEOUT).unwrap();
     let waits = Request::get("/a").within(millis(300));
     let late = local.call(waits).unwrap_err();
@@ -106,7 +106,7 @@ fn a_raw_call_waits_to_its_limit_too() {
     while session.state() != Some(State::Connected) {
         sleep(millis(5));
     }
-    let late = session.call(Request::sync("/").within(millis(2_000)));
+    let late = session.call(Request::sync("/").within(LIMIT));
     assert_eq!(kind_of(late), ErrorKind::TimedOut);
 }
 
@@ -114,7 +114,7 @@ fn a_raw_call_waits_to_its_limit_too() {
 fn admit_and_tell(line: &mut Line, asked: &mpsc::Sender<Vec<u8>>) {
     let request = line.frame().unwrap();
     asked.send(request[16..24].to_vec()).unwrap();
-    line.send(&jute::Record::accepted(10_000, 0x1234));
+    line.send(&jute::Record::accepted(60_000, 0x1234));
 }
 
 #[test]
@@ -261,6 +261,8 @@ fn how_old_an_answer_may_be_is_told() {
     sleep(millis(300));
     let age = session.age().unwrap();
     assert!(age >= millis(299) && age < millis(300) + SLACK, "{age:?}");
+    let asked = Instant::now();
     session.exists("/a").unwrap();
-    assert!(session.age().unwrap() < age);
+    let age = session.age().unwrap();
+    assert!(age <= asked.elapsed() + millis(1), "{age:?}"); // moments are whole milliseconds
 }

@@ -20,6 +20,9 @@ fn printed<T, E: Display + Debug>(outcome: Result<T, E>) -> String {
 /// An address that nobody listens at: no system gives that port away.
 const NOBODY: SocketAddr = SocketAddr::new(IpAddr::V4(Ipv4Addr::LOCALHOST), 1);
 
+/// How long a server is searched for: also on a busy machine each address is dialled by then.
+const SEARCH: Duration = Duration::from_secs(8);
+
 /// A message about a search for a server, with the seconds that it says.
 fn searched(message: &str, hosts: &str) -> (f64, String) {
     let begin = format!("no server{hosts} accepted the session in ");
@@ -126,19 +129,23 @@ fn a_text_that_is_no_path_says_why() {
 
 #[test]
 fn where_no_server_is_there_the_last_attempt_is_told() {
-    let options = SessionOptions::new(Duration::from_secs(3));
+    let options = SessionOptions::new(SEARCH);
     let session = options.open_lazily(NOBODY).unwrap();
     let (seconds, last) = searched(&printed(session.get("/a")), &format!(" of {NOBODY}"));
-    assert!(seconds >= 3.0, "{seconds}");
+    assert!(seconds >= SEARCH.as_secs_f64(), "{seconds}");
     assert_eq!(last, format!("{NOBODY}: connection refused"));
 }
 
 #[test]
 fn a_call_whose_limit_has_passed_tells_it_too() {
-    let options = SessionOptions::new(TIMEOUT).limit(Duration::from_secs(2));
+    let timeout = 10 * SEARCH;
+    let options = SessionOptions::new(timeout).limit(SEARCH);
     let session = options.open_lazily(NOBODY).unwrap();
     let (seconds, last) = searched(&printed(session.get("/a")), &format!(" of {NOBODY}"));
-    assert!((2.0..10.0).contains(&seconds), "{seconds}");
+    assert!(
+        (SEARCH.as_secs_f64()..timeout.as_secs_f64()).contains(&seconds),
+        "{seconds}"
+    );
     assert_eq!(last, format!("{NOBODY}: connection refused"));
 }
 
@@ -147,7 +154,7 @@ fn a_server_that_says_nothing_is_told() {
     let listener = TcpListener::bind("127.0.0.1:0").unwrap();
     let address = listener.local_addr().unwrap();
     thread::spawn(move || listener.incoming().map(Result::unwrap).collect::<Vec<_>>());
-    let options = SessionOptions::new(TIMEOUT).limit(Duration::from_secs(2)); // before the server is left
+    let options = SessionOptions::new(10 * SEARCH).limit(SEARCH); // before the server is left
     let session = options.open_lazily(address).unwrap();
     let (_, last) = searched(&printed(session.get("/a")), &format!(" of {address}"));
     let wanted = format!("{address}: connected, and it has not accepted the session");
@@ -158,10 +165,9 @@ fn a_server_that_says_nothing_is_told() {
 fn who_opens_a_session_where_no_server_is_there_is_told_why() {
     let options = SessionOptions::new(TIMEOUT).shuffles(false);
     let hosts = format!("{NOBODY},127.0.0.1:2");
-    let limit = Duration::from_secs(3);
-    let nobody = options.opens_within(limit).open(hosts.as_str());
+    let nobody = options.opens_within(SEARCH).open(hosts.as_str());
     let (seconds, last) = searched(&printed(nobody), &format!(" of {hosts}"));
-    assert!(seconds >= 3.0, "{seconds}");
+    assert!(seconds >= SEARCH.as_secs_f64(), "{seconds}");
     let each = last.split("; ").map(|reason| reason.split_once(": "));
     let mut each: Vec<_> = each.map(Option::unwrap).collect();
     each.sort_unstable();

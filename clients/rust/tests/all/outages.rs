@@ -51,7 +51,7 @@ fn serve_behind(number: usize, mut line: Line, requests: &mpsc::Sender<Vec<u8>>)
     if number == 1 {
         return;
     }
-    line.send(&Record::accepted(10_000, 0x1234));
+    line.send(&Record::accepted(60_000, 0x1234));
     match number {
         0 => {
             let request = line.request().unwrap();
@@ -177,9 +177,18 @@ fn what_was_read_stays_good_while_a_server_stays_away_and_ends_with_the_session(
         (Some(State::Idle), Some(Mark::Good))
     );
     let listener = TcpListener::bind(address).unwrap();
-    let mut line = Line::over(listener.accept().unwrap().0);
-    assert_eq!(asked(&line.frame().unwrap()), (9, 0x1234));
-    line.send(&Record::expired());
+    let (sender, requests) = mpsc::channel();
+    thread::spawn(move || {
+        for stream in listener.incoming().map_while(Result::ok) {
+            let mut line = Line::over(stream); // a session that is told too late on a busy machine asks again
+            if let Some(request) = line.frame() {
+                let _ = sender.send(request);
+                line.send(&Record::expired());
+            }
+        }
+    });
+    let request = requests.recv_timeout(PATIENCE).unwrap();
+    assert_eq!(asked(&request), (9, 0x1234));
     wait_for_state(&session, State::Expired);
     assert_eq!(mark(&session), None);
 }
@@ -189,9 +198,9 @@ fn the_first_ping_comes_a_third_of_the_timeout_after_the_last_frame() {
     let (sender, heard) = mpsc::channel();
     let partner = Partner::start(move |_, mut line| {
         line.frame();
-        sleep(millis(5_000));
+        sleep(millis(8_000));
         sender.send((Instant::now(), 0)).unwrap();
-        line.send(&Record::accepted(18_000, 0x1234));
+        line.send(&Record::accepted(27_000, 0x1234));
         while let Some(request) = line.request() {
             sender.send((Instant::now(), request.kind)).unwrap();
             serve_one_at(&mut line, &request, 5);
@@ -202,7 +211,7 @@ fn the_first_ping_comes_a_third_of_the_timeout_after_the_last_frame() {
     let [(accepted, _), (first, kind)] = [(); 2].map(|()| heard.recv_timeout(PATIENCE).unwrap());
     let (took, later) = (first - begun, first - accepted);
     assert_eq!(kind, PING);
-    assert!(took >= millis(5_999), "{took:?} after its own frame");
-    assert!(later < millis(6_000), "{later:?} after the server's");
+    assert!(took >= millis(8_999), "{took:?} after its own frame");
+    assert!(later < millis(9_000), "{later:?} after the server's"); // eight of which are for a busy machine
     assert_eq!(session.state(), Some(State::Connected));
 }

@@ -106,7 +106,7 @@ fn deny_once(mut line: Line, reads: &mpsc::Sender<()>) {
 fn a_read_that_is_denied_is_made_again() {
     let (sender, reads) = mpsc::channel();
     let partner = Partner::start(move |_, line| deny_once(line, &sender));
-    let session = Session::open(partner.address, Duration::from_secs(3)).unwrap();
+    let session = Session::open(partner.address, Duration::from_secs(60)).unwrap();
     let mut nodes = session.follow("/a");
     let node = block_on(poll_fn(|context| nodes.poll_next(context)));
     assert_eq!(text(node.unwrap().unwrap()).as_deref(), Some("one"));

@@ -26,7 +26,7 @@ fn header(record: Record, kind: i32, is_end: bool) -> Record {
 fn a_transaction_is_spelled_and_read_as_the_protocol_has_it() {
     let (sender, asked) = mpsc::channel();
     let partner = Partner::start(move |_, mut line| {
-        line.admit(10_000);
+        line.admit(60_000);
         let request = line.request().unwrap();
         sender
             .send((request.xid, request.kind, request.rest))
@@ -87,7 +87,7 @@ fn what_a_transaction_made_stale_is_stale_when_its_caller_goes_on() {
 fn admit_at(zxid: i64, line: &mut Line) -> bool {
     let request = line.frame().unwrap();
     let seen = i64::from_be_bytes(request[4..12].try_into().unwrap());
-    seen <= zxid && line.send(&Record::accepted(10_000, 0x1234))
+    seen <= zxid && line.send(&Record::accepted(60_000, 0x1234))
 }
 
 #[test]
@@ -127,7 +127,7 @@ fn tell_acls(line: &mut Line, xid: i32) -> bool {
 #[test]
 fn a_write_is_told_where_the_connection_ends_and_a_read_is_asked_again() {
     let partner = Partner::start(|number, mut line| {
-        line.admit(10_000);
+        line.admit(60_000);
         if number == 0 {
             (0..6).for_each(|_| drop(line.request()));
             return;
@@ -160,7 +160,7 @@ fn a_write_is_told_where_the_connection_ends_and_a_read_is_asked_again() {
 #[test]
 fn an_answer_that_does_not_read_ends_the_connection() {
     let partner = Partner::start(|number, mut line| {
-        line.admit(10_000);
+        line.admit(60_000);
         while let Some(request) = line.request() {
             let reply = Record::reply(request.xid, 6, 0);
             match (number, request.kind) {

@@ -1,7 +1,7 @@
 //! What a session does where servers go, refuse, and hold it: at a server that does what each test says.
 
 use crate::example;
-use crate::jute::{self, GET_DATA};
+use crate::jute::{self, GET_DATA, PING};
 use crate::partner::{Line, Partner};
 use crate::runtime::block_on;
 use crate::{kind_of, millis, PATIENCE, SLACK};
@@ -11,6 +11,7 @@ use dirwolleu::{
 use std::fmt::Debug;
 use std::fs::OpenOptions;
 use std::io::{BufRead, BufReader};
+use std::mem;
 use std::process::{Command, Stdio};
 use std::sync::mpsc::channel;
 use std::thread::{self, sleep};
@@ -67,7 +68,7 @@ fn a_session_that_may_live_is_not_left_alone_for_long() {
 #[test]
 fn a_server_that_admits_and_closes_is_dialled_three_times_a_second_at_most() {
     let partner = Partner::start(|_, mut line| {
-        line.admit(10_000);
+        line.admit(60_000);
     });
     let begun = Instant::now();
     let mut session = session_at(&partner, millis(10_000));
@@ -79,7 +80,7 @@ fn a_server_that_admits_and_closes_is_dialled_three_times_a_second_at_most() {
 #[test]
 fn an_answer_is_no_reason_to_dial_at_once() {
     let partner = Partner::start(|_, mut line| {
-        if line.admit(10_000) {
+        if line.admit(60_000) {
             let request = line.request();
             request.map(|request| line.tell_stat(request.xid));
         }
@@ -104,7 +105,7 @@ fn a_timeout_of_a_millisecond_does_not_lock_the_client_out() {
         }
         line.frame();
         sleep(millis(200));
-        line.send(&jute::Record::accepted(10_000, 0x1234));
+        line.send(&jute::Record::accepted(60_000, 0x1234));
         line.serve();
     });
     let mut session = session_at(&partner, millis(10_000));
@@ -119,7 +120,7 @@ fn a_program_that_was_stopped_keeps_a_server_that_has_sent_something() {
     let (stop, stopped) = channel();
     let (note, told) = channel();
     let partner = Partner::start(move |_, mut line| {
-        line.admit(6_000);
+        line.admit(12_000);
         let request = line.request().unwrap();
         line.tell_data(request.xid);
         stopped.recv_timeout(PATIENCE).unwrap();
@@ -127,10 +128,10 @@ fn a_program_that_was_stopped_keeps_a_server_that_has_sent_something() {
         note.send(()).unwrap();
         line.serve();
     });
-    let mut session = session_at(&partner, millis(6_000));
+    let mut session = session_at(&partner, millis(12_000));
     session.watch("/a").unwrap();
     stop.send(()).unwrap();
-    sleep(millis(4_300));
+    sleep(millis(8_300));
     told.recv_timeout(PATIENCE).unwrap();
     let answer = session.call(Request::exists("/").within(PATIENCE));
     assert!(answer.unwrap().is_some());
@@ -195,7 +196,7 @@ fn the_example_goes_on_where_a_read_is_refused() {
 
 /// Answers the first read with a code that nobody knows.
 fn refuse_once(mut line: Line) {
-    line.admit(10_000);
+    line.admit(60_000);
     let mut is_refused = false;
     while let Some(request) = line.request() {
         match request.kind {
@@ -279,15 +280,18 @@ fn a_server_that_dribbles_is_left_while_it_connects() {
     assert!(took >= least && took < least + SLACK, "{took:?}");
 }
 
-/// A server that sends these bytes again and again in place of the first answer, and is well on the next connection.
+/// A server that sends these bytes again and again in place of the answer to the first call, and is well on the next connection. A ping is no call:
+/// one comes before it if the machine is busy.
 fn distracted(bytes: Vec<u8>) -> Partner {
-    Partner::start(move |number, mut line| {
-        line.admit(3_000);
-        if number == 0 {
-            line.request();
-            dribble(line, bytes.clone());
-        } else {
-            line.serve();
+    let mut is_well = false;
+    Partner::start(move |_, mut line| {
+        line.admit(9_000);
+        while let Some(request) = line.request() {
+            if request.kind != PING && !mem::replace(&mut is_well, true) {
+                dribble(line, bytes.clone());
+                return;
+            }
+            line.answer(&request);
         }
     })
 }
@@ -297,35 +301,42 @@ fn patient() -> Request<()> {
     Request::delete("/a", ANY_VERSION).within(millis(30_000))
 }
 
-/// Whether a call is lost after two thirds of the timeout of three seconds.
+/// Whether a call is lost after two thirds of the timeout of nine seconds. A server that is held up for as long loses it before, by a ping.
 fn is_lost_in_time<T: Debug>(call: impl FnOnce() -> Result<T, Error>) {
     let begun = Instant::now();
     let lost = call();
     let took = begun.elapsed();
     assert_eq!(kind_of(lost), NoReply::ConnectionLoss.into());
     assert!(
-        took >= millis(1_990) && took < millis(2_000) + SLACK,
+        took >= millis(5_990) && took < millis(6_000) + SLACK,
         "{took:?}"
     );
 }
 
 #[test]
 fn a_call_that_is_not_answered_is_lost_whatever_else_comes() {
-    let partner = distracted(jute::Record::notice(3, "/a"));
-    let mut session = session_at(&partner, millis(3_000));
-    is_lost_in_time(|| session.call(patient()));
-    let partner = distracted(jute::Record::notice(3, "/a"));
-    let session = Session::open(partner.address, millis(3_000)).unwrap();
-    is_lost_in_time(|| session.call(patient()));
-    let partner = distracted(jute::Record::notice(3, "/a"));
-    let session = Session::open(partner.address, millis(3_000)).unwrap();
-    is_lost_in_time(|| block_on(session.ask(patient())));
+    let opened = |partner: &Partner| Session::open(partner.address, millis(9_000)).unwrap();
+    thread::scope(|scope| {
+        scope.spawn(|| {
+            let partner = distracted(jute::Record::notice(3, "/a"));
+            let mut session = session_at(&partner, millis(9_000));
+            is_lost_in_time(|| session.call(patient()));
+        });
+        scope.spawn(|| {
+            let partner = distracted(jute::Record::notice(3, "/a"));
+            let session = opened(&partner);
+            is_lost_in_time(|| session.call(patient()));
+        });
+        let partner = distracted(jute::Record::notice(3, "/a"));
+        let session = opened(&partner);
+        is_lost_in_time(|| block_on(session.ask(patient())));
+    });
 }
 
 #[test]
 fn a_raw_call_that_is_not_answered_is_lost_too() {
     let partner = distracted(jute::Record::notice(3, "/a"));
-    let session = Session::open(partner.address, millis(3_000)).unwrap();
+    let session = Session::open(partner.address, millis(9_000)).unwrap();
     let write = Request::set_acls("/", &[], ANY_VERSION);
     is_lost_in_time(|| session.call(write.within(millis(30_000))));
 }
@@ -333,15 +344,15 @@ fn a_raw_call_that_is_not_answered_is_lost_too() {
 #[test]
 fn a_read_that_is_not_answered_is_asked_of_another_server() {
     let partner = distracted(jute::Record::notice(3, "/a"));
-    let mut session = session_at(&partner, millis(3_000));
+    let mut session = session_at(&partner, millis(9_000));
     let read = Request::exists("/a").within(millis(30_000));
     assert!(session.call(read).unwrap().is_some());
-    assert_eq!(partner.dials(), 2);
+    assert!(partner.dials() >= 2);
     let partner = distracted(jute::Record::notice(3, "/a"));
-    let mut session = session_at(&partner, millis(3_000));
+    let mut session = session_at(&partner, millis(9_000));
     let sync = Request::sync("/").within(millis(30_000));
     assert_eq!(session.call(sync), Ok(()));
-    assert_eq!(partner.dials(), 2);
+    assert!(partner.dials() >= 2);
 }
 
 /// The ping goes out after a third of the timeout, and may take two thirds. On a machine so busy that the server is silent for as long, its silence
@@ -368,7 +379,7 @@ fn a_program_that_was_stopped_keeps_a_server_that_has_answered() {
     let (stop, stopped) = channel();
     let (note_answer, answered) = channel();
     let partner = Partner::start(move |_, mut line| {
-        line.admit(6_000);
+        line.admit(12_000);
         let ping = line.request().unwrap();
         note_ping.send(()).unwrap();
         stopped.recv_timeout(PATIENCE).unwrap();
@@ -376,12 +387,12 @@ fn a_program_that_was_stopped_keeps_a_server_that_has_answered() {
         note_answer.send(()).unwrap();
         line.serve();
     });
-    let mut session = session_at(&partner, millis(6_000));
+    let mut session = session_at(&partner, millis(12_000));
     while pinged.try_recv().is_err() {
         go_on(&mut session, millis(20));
     }
     stop.send(()).unwrap();
-    sleep(millis(4_300));
+    sleep(millis(8_300));
     answered.recv_timeout(PATIENCE).unwrap();
     assert_eq!(session.state(), None);
     let answer = session.call(Request::exists("/").within(PATIENCE));

@@ -185,7 +185,7 @@ fn a_silent_server_is_left_after_two_thirds_of_the_timeout() {
     let Some(mut other) = started() else { return };
     other.tell("create /ahead x");
     other.tell("set /ahead y");
-    let timeout = Duration::from_millis(6_000);
+    let timeout = Duration::from_millis(12_000); // so that a busy server is not left
     let session = SessionOptions::new(timeout)
         .shuffles(false)
         .open([silent.address, other.address])
@@ -214,7 +214,7 @@ fn a_silent_server_is_left_after_two_thirds_of_the_timeout() {
 #[test]
 fn a_write_is_lost_with_its_connection() {
     let Some(mut server) = started() else { return };
-    let session = session_at(&server, 6_000);
+    let session = session_at(&server, 9_000);
     session.exists("/").unwrap();
     server.tell("mute");
     let read = session.ask(Request::exists("/"));
@@ -231,10 +231,10 @@ fn a_write_is_lost_with_its_connection() {
 #[test]
 fn an_idle_session_goes_on_by_pings() {
     let Some(server) = started() else { return };
-    let session = session_at(&server, 6_000);
+    let session = session_at(&server, 18_000); // of which two thirds are silent without pings: a busy server may take a third
     session.watch("/").unwrap();
     take_events(&session);
-    let until = Instant::now() + Duration::from_millis(5_000);
+    let until = Instant::now() + Duration::from_millis(13_000);
     let event = session.next_event(Some(until)).unwrap();
     assert_eq!(event, None, "the connection goes on");
 }

@@ -55,14 +55,14 @@ fn a_server_that_reads_a_byte_a_second_holds_nobody_up() {
 #[test]
 fn a_connection_on_which_a_frame_is_not_written_in_time_is_left() {
     let partner = Partner::start(|number, mut line| {
-        line.admit(3_000);
+        line.admit(9_000);
         if number == 0 {
             thread::spawn(move || read_slowly(line));
         } else {
             line.serve();
         }
     });
-    let session = Session::open(partner.address, Duration::from_secs(3)).unwrap();
+    let session = Session::open(partner.address, Duration::from_secs(9)).unwrap();
     partner.dial();
     let data = vec![7; LARGE];
     let asked = (0..MANY).map(|_| session.ask(Request::set("/a", &data, -1)));

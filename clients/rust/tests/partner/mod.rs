@@ -150,18 +150,19 @@ impl Partner {
         Partner { address, dials }
     }
 
-    /// A server that admits each session, with a timeout of ten seconds, and has each request answered so.
+    /// A server that admits each session, and has each request answered so. The timeout is a minute: so no ping comes between the calls of a test,
+    /// also on a busy machine.
     pub fn answering(mut answer: impl FnMut(&mut Line, Request) + Send + 'static) -> Partner {
         Partner::start(move |_, mut line| {
-            line.admit(10_000);
+            line.admit(60_000);
             line.each(&mut answer);
         })
     }
 
-    /// A server that admits each session, with a timeout of ten seconds, and answers all that comes.
+    /// A server that admits each session, with a timeout of a minute, and answers all that comes.
     pub fn serving() -> Partner {
         Partner::start(|_, mut line| {
-            line.admit(10_000);
+            line.admit(60_000);
             line.serve();
         })
     }
