@@ -27,7 +27,7 @@ use Rattle.zk_agent.specs.declared.action.Action.TheVariants as action
 use Rattle.zk_agent.specs.declared.agent.Agent.{Agent}
 use Rattle.zk_agent.specs.declared.input.AgentInput.{AgentInput}
 use Rattle.zk_agent.specs.declared.input.AgentInput.TheVariants as input
-use Rattle.zk_agent.specs.Agents.{Trail, Move, Hears, Hands, Renews, Follows, Unfollows, Asks, GivesUp, Tires, Opened, Ended, HungUp}
+use Rattle.zk_agent.specs.Agents.{Trail, Move, Hears, Hands, Renews, Follows, Unfollows, Asks, GivesUp, LeavesLate, Opened, Ended, HungUp}
 use Rattle.zk_agent.specs.Agents.{Closes, Addressed, Decides, Tends, Presents, Does, HearsSo, LeavesWhere}
 use Rattle.zk_agent.specs.Agents.{rises, DoubtsWhere}
 use Rattle.zk_agent.specs.Agents.{bytes_at, given_of, is_given, judging_in, leaves_with, left_at, moves_of, opened_at, papers_in, trail_of}
@@ -231,7 +231,7 @@ module _ {A : Type 0} where
     follows Renews old new does =
         followed_like ticket old.subjects new.subjects
         (ap (map key) does.subjects ∙ mapped_like due_again (λ subject. refl) old.subjects)
-    follows (Tires now) old new does =
+    follows (LeavesLate now) old new does =
         ap followed_in does.last ∙ heard_same now turns.Cut does.between does.after does.hears ∙ ap followed_in does.hangs
     follows (Presents judged frames) old new does = ap followed_in does
     follows (Asks its asked until) old new does = ap followed_in does.last

@@ -32,8 +32,9 @@ use Rattle.zk_agent.specs.declared.action.Action.{Action}
 use Rattle.zk_agent.specs.declared.agent.Agent.{Agent}
 use Rattle.zk_agent.specs.declared.input.AgentInput.{AgentInput}
 use Rattle.zk_agent.specs.declared.input.AgentInput.TheVariants as happens
-use Rattle.zk_agent.specs.Agents.{Trail, Move, Hears, Hands, Renews, Follows, Unfollows, Asks, GivesUp, Tires, Opened, Ended as Ends_at}
-use Rattle.zk_agent.specs.Agents.{HungUp, Closes, Addressed, Decides, Tends, Presents, Does, HearsSo, LeavesWhere, LetsGoWhere}
+use Rattle.zk_agent.specs.Agents.{Trail, Move, Hears, Hands, Renews, Follows, Unfollows, Asks, GivesUp, LeavesLate, Opened}
+use Rattle.zk_agent.specs.Agents.{Ended as Ends_at, HungUp}
+use Rattle.zk_agent.specs.Agents.{Closes, Addressed, Decides, Tends, Presents, Does, HearsSo, LeavesWhere, LetsGoWhere}
 use Rattle.zk_agent.specs.Agents.{rises, DoubtsWhere}
 use Rattle.zk_agent.specs.Agents.{bytes_at, given_of, is_given, judging_in, leaves_with, left_at, moves_of, opened_at, papers_in, trail_of}
 use Rattle.zk_agent.specs.Calls.{endings, tells_all}
@@ -306,8 +307,8 @@ module _ {A : Type 0} (timeout : ℤ) (base : List Output) (IsAsked : ℕ → Qu
         },
       )
 
-  by_tires : (now : ℕ) (old new : Trail A) → Does old (Tires now) new → (chapter : Chapter) → SitsIn old chapter
-      → Goes_so new (Tires now) chapter
+  by_tires : (now : ℕ) (old new : Trail A) → Does old (LeavesLate now) new → (chapter : Chapter) → SitsIn old chapter
+      → Goes_so new (LeavesLate now) chapter
   by_tires now old new does chapter sits =
       let made : List Turn = heard_turns now turns.Cut does.between does.after does.hears in
       let hung = stays old does.between _ does.hangs refl refl (told_more base old.told (HangsUp ∷ []) (λ before. refl)) chapter
@@ -389,7 +390,7 @@ module _ {A : Type 0} (timeout : ℤ) (base : List Output) (IsAsked : ℕ → Qu
   by_move (Hears now input) old new does chapter asks sits = by_hears now input old new does chapter asks sits
   by_move (Hands now ticket asked) old new does chapter asks sits = by_hands now ticket asked old new does chapter sits
   by_move Renews old new does chapter asks sits = by_renewal old new does chapter sits
-  by_move (Tires now) old new does chapter asks sits = by_tires now old new does chapter sits
+  by_move (LeavesLate now) old new does chapter asks sits = by_tires now old new does chapter sits
   by_move (Presents judged frames) old new does chapter asks sits = by_presents judged frames old new does chapter sits
   by_move (Asks ticket asked until) old new does chapter asks sits = by_asks ticket asked until old new does chapter asks sits
   by_move (GivesUp now) old new does chapter asks sits = by_gives_up now old new does chapter sits
@@ -504,7 +505,7 @@ module _ {A : Type 0} where
   told_first Renews old new does all =
       each_first old.told (endings ending.Expired old.line)
       (each_first (old.told ++ endings ending.Expired old.line) (Begins ∷ []) (subst AreToldBelow does.told all))
-  told_first (Tires now) old new does all =
+  told_first (LeavesLate now) old new does all =
       each_first old.told (HangsUp ∷ []) (told_like does.between _ does.hangs
       (hears_first now turns.Cut does.between does.after does.hears (told_like new _ does.last all)))
   told_first (Presents judged frames) old new does all =

@@ -39,7 +39,7 @@ use Rattle.zk_agent.specs.declared.action.Action.{Action}
 use Rattle.zk_agent.specs.declared.agent.Agent.{Agent}
 use Rattle.zk_agent.specs.declared.input.AgentInput.{AgentInput}
 use Rattle.zk_agent.specs.declared.input.AgentInput.TheVariants as happens
-use Rattle.zk_agent.specs.Agents.{Trail, Move, Hears, Hands, Renews, Follows, Unfollows, Asks, GivesUp, Tires, Opened, Ended, HungUp}
+use Rattle.zk_agent.specs.Agents.{Trail, Move, Hears, Hands, Renews, Follows, Unfollows, Asks, GivesUp, LeavesLate, Opened, Ended, HungUp}
 use Rattle.zk_agent.specs.Agents.{Closes, Addressed, Decides, Tends, Presents, Does, HearsSo, IsLed, LeavesWhere, LetsGoWhere, given_of}
 use Rattle.zk_agent.specs.Agents.{rises, DoubtsWhere}
 use Rattle.zk_agent.specs.Agents.{is_given, leaves_with, left_at, moves_of, opened_at, trail_of}
@@ -351,8 +351,8 @@ abbrev IsNoHearing : Move → Type 0
 IsNoHearing (Hears now input) = IsNoBytes input
 IsNoHearing _ = Unit {0}
 
-tired : {A : Type 0} (now : ℕ) (old new : Trail A) → Does old (Tires now) new → IsLed old.view → Calm old new
-tired now old new does led =
+leaves_late : {A : Type 0} (now : ℕ) (old new : Trail A) → Does old (LeavesLate now) new → IsLed old.view → Calm old new
+leaves_late now old new does led =
     let hung = stays old does.between _ does.hangs refl (λ e. (parted old.told (HangsUp ∷ []) e).0) led in
     let cut = heard now turns.Cut does.between does.after does.hears tt hung.led in
     joined old does.after new (joined old does.between does.after hung cut) (stays does.after new _ does.last refl (λ e. e) cut.led)
@@ -363,7 +363,7 @@ moved (Hears now input) old new does own led =
     (left does.hears.heard.is_lost now old does.between does.after does.leaves (heard now input old does.between does.hears own led))
 moved (Hands now ticket asked) old new does own led = heard now (turns.Call ticket asked) old new does tt led
 moved Renews old new does own led = renewed old new does
-moved (Tires now) old new does own led = tired now old new does led
+moved (LeavesLate now) old new does own led = leaves_late now old new does led
 moved (Follows ticket side path) old new does own led = stays old new _ does refl (λ e. e) led
 moved (Unfollows ticket) old new does own led = stays old new _ does refl (λ e. e) led
 moved (Asks ticket asked until) old new does own led = stays old new _ does.last refl (λ e. e) led
@@ -424,7 +424,7 @@ outside_own (Hears now input ∷ all) own = (own.0, outside_own all own.1)
 outside_own (Hands now ticket asked ∷ all) own = (tt, outside_own all own)
 outside_own (Renews ∷ all) own = (tt, outside_own all own)
 outside_own (GivesUp now ∷ all) own = (tt, outside_own all own)
-outside_own (Tires now ∷ all) own = (tt, outside_own all own)
+outside_own (LeavesLate now ∷ all) own = (tt, outside_own all own)
 outside_own (Decides now due ∷ all) own = (tt, outside_own all own)
 outside_own (Closes ∷ all) own = (tt, outside_own all own)
 outside_own (Tends one ∷ all) own = (tt, outside_own all own)

@@ -32,7 +32,8 @@ use Rattle.zk_dialler.specs.Dialling.{is_open}
 use Rattle.zk_follow.specs.Following.{outputs_in, read_of}
 use Rattle.zk_agent.specs.declared.agent.Agent.{Agent}
 use Rattle.zk_agent.specs.declared.input.AgentInput.{AgentInput}
-use Rattle.zk_agent.specs.Agents.{Advance, ByRenewal, ByTurn, Hands, Hears, IsAt, Move, Renews, Tires, how_many_ended, is_given, moves_of}
+use Rattle.zk_agent.specs.Agents.{Advance, ByRenewal, ByTurn, Hands, Hears, IsAt, LeavesLate, Move, Renews}
+use Rattle.zk_agent.specs.Agents.{how_many_ended, is_given, moves_of}
 use Rattle.zk_agent.specs.Agents.{rises}
 use Rattle.zk_agent.specs.Calls.{how_many}
 use Rattle.zk_agent.specs.Replies.{is_lost}
@@ -96,7 +97,7 @@ AreOf old (Hears now input) made =
     × AreAnew (rises (last_seen old.start old.items) (last_seen old.start (with_turns (heard ++ after) old.items))) now anew
     × (made ≡ (heard ++ after) ++ anew)
 AreOf old (Hands now ticket asked) made = AreHeard now (turns.Call ticket asked) made
-AreOf old (Tires now) made = AreHeard now turns.Cut made
+AreOf old (LeavesLate now) made = AreHeard now turns.Cut made
 AreOf old move made = made ≡ []
 
 -- After an expiry another session begins, which asks for this timeout. The last seen zxid is kept.

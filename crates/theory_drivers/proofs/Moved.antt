@@ -28,7 +28,7 @@ use Rattle.zk_calls.specs.declared.entry.Ending.TheVariants as ending
 use Rattle.zk_follow.specs.Following.{doubted}
 use Rattle.zk_agent.specs.Agents.{is_given, Addressed, Asks, Closes, Decides, Does, Ended, Follows, GivesUp, Hands, Hears, HearsSo, HungUp}
 use Rattle.zk_agent.specs.Agents.{Presents, Tends}
-use Rattle.zk_agent.specs.Agents.{rises, DoubtsWhere, LeavesWhere, Move, Opened, Renews, Tires, Trail, Unfollows}
+use Rattle.zk_agent.specs.Agents.{rises, DoubtsWhere, LeavesWhere, Move, Opened, Renews, LeavesLate, Trail, Unfollows}
 use Rattle.zk_agent.specs.Calls.{closings, endings}
 use Rattle.zk_agent.specs.Replies.{heard_in, is_lost}
 use Rattle.zk_agent.specs.Telling.{due_told, judged_told, Begins, Dials, HangsUp, Introduces, Says, TellsTree, Told}
@@ -179,8 +179,8 @@ module _ {A : Type 0} (channel : ChannelView) (held : List ℕ) (shown : Shown) 
     gone = λ up there. let e : false ≡ true = sym (ap is_up does.view) ∙ up in cc;
   }
 
-  tires_here : (now : ℕ) (old new : Trail A) (does : Does old (Tires now) new) → Here old → Here new
-  tires_here now old new does k =
+  leaves_late_here : (now : ℕ) (old new : Trail A) (does : Does old (LeavesLate now) new) → Here old → Here new
+  leaves_late_here now old new does k =
       same_here does.after new (ap (λ (t : Trail A). t.view) does.last) (ap (left_by channel) does.last)
       (hears_at channel now turns.Cut does.between does.after does.hears held held shown
       (hung_here old does.between (ap (λ (t : Trail A). t.view) does.hangs) (ap (λ (t : Trail A). t.told) does.hangs) k) tt refl)
@@ -206,7 +206,7 @@ module _ {A : Type 0} (channel : ChannelView) (held : List ℕ) (shown : Shown) 
       same_here old new (ap (λ (t : Trail A). t.view) does)
       (told_more old new (endings (ending.Late now) old.line) (ap (λ (t : Trail A). t.told) does)
       ∙ endings_keep (left_by channel old) (ending.Late now) old.line) k
-  move_here (Tires now) old new does plain later k = tires_here now old new does k
+  move_here (LeavesLate now) old new does plain later k = leaves_late_here now old new does k
   move_here (Opened now) old new does plain later k =
       same_here old new (ap (λ (t : Trail A). t.view) does.1) (ap (left_by channel) does.1) k
   move_here (Ended now) old new does plain later k =
@@ -286,9 +286,9 @@ module _ {A : Type 0} (channel : ChannelView) (held : List ℕ) (shown : Shown) 
       (hears_at channel now input old does.between does.hears held held shown k within (nothing_handed input held mute))
       (hears_idle now input old does.between does.hears within held (nothing_handed input held mute) k idle)
 
-  tires_idle : (now : ℕ) (old new : Trail A) (does : Does old (Tires now) new)
+  leaves_late_idle : (now : ℕ) (old new : Trail A) (does : Does old (LeavesLate now) new)
       → Here old → Idle old → Idle new
-  tires_idle now old new does k idle =
+  leaves_late_idle now old new does k idle =
       same_idle does.after new (ap (λ (t : Trail A). t.view) does.last) (ap (left_by channel) does.last)
       (hears_idle now turns.Cut does.between does.after does.hears tt held refl
       (hung_here old does.between (ap (λ (t : Trail A). t.view) does.hangs) (ap (λ (t : Trail A). t.told) does.hangs) k)
@@ -326,7 +326,7 @@ module _ {A : Type 0} (channel : ChannelView) (held : List ℕ) (shown : Shown) 
       same_idle old new (ap (λ (t : Trail A). t.view) does)
       (told_more old new (endings (ending.Late now) old.line) (ap (λ (t : Trail A). t.told) does)
       ∙ endings_keep (left_by channel old) (ending.Late now) old.line) idle
-  move_idle (Tires now) old new does plain k idle = tires_idle now old new does k idle
+  move_idle (LeavesLate now) old new does plain k idle = leaves_late_idle now old new does k idle
   move_idle (Opened now) old new does plain k idle =
       same_idle old new (ap (λ (t : Trail A). t.view) does.1) (ap (left_by channel) does.1) idle
   move_idle (Ended now) old new does plain k idle =
@@ -417,7 +417,7 @@ module _ {A : Type 0} (channel : ChannelView) (held : List ℕ) (shown : Shown) 
       same_tied old new (ap (λ (t : Trail A). t.view) does.last) (ap (λ (t : Trail A). t.dialler.phase) does.last) tied
   move_tied (GivesUp now) old new does free k tied =
       same_tied old new (ap (λ (t : Trail A). t.view) does) (ap (λ (t : Trail A). t.dialler.phase) does) tied
-  move_tied (Tires now) old new does free k tied =
+  move_tied (LeavesLate now) old new does free k tied =
       down_tied new (ap (λ (t : Trail A). is_up t.view) does.last
       ∙ hears_cut channel now does.between does.after does.hears held shown
       (hung_here old does.between (ap (λ (t : Trail A). t.view) does.hangs) (ap (λ (t : Trail A). t.told) does.hangs) k))
@@ -458,7 +458,7 @@ stays_by {A} (Follows ticket side path) old new does = ap (λ (t : Trail A). t.t
 stays_by {A} (Unfollows ticket) old new does = ap (λ (t : Trail A). t.timeout) does
 stays_by {A} (Asks ticket asked until) old new does = ap (λ (t : Trail A). t.timeout) does.last
 stays_by {A} (GivesUp now) old new does = ap (λ (t : Trail A). t.timeout) does
-stays_by {A} (Tires now) old new does =
+stays_by {A} (LeavesLate now) old new does =
     ap (λ (t : Trail A). t.timeout) does.last ∙ does.hears.timeout ∙ ap (λ (t : Trail A). t.timeout) does.hangs
 stays_by {A} (Opened now) old new does = ap (λ (t : Trail A). t.timeout) does.1
 stays_by {A} (Ended now) old new does = ap (λ (t : Trail A). t.timeout) does.1
@@ -485,7 +485,7 @@ met_through (Follows ticket side path ∷ moves) = ap (λ l. Follows ticket side
 met_through (Unfollows ticket ∷ moves) = ap (λ l. Unfollows ticket ∷ l) (met_through moves)
 met_through (Asks ticket asked until ∷ moves) = ap (λ l. Asks ticket asked until ∷ l) (met_through moves)
 met_through (GivesUp now ∷ moves) = met_through moves
-met_through (Tires now ∷ moves) = met_through moves
+met_through (LeavesLate now ∷ moves) = met_through moves
 met_through (Opened now ∷ moves) = ap (λ l. Opened now ∷ l) (met_through moves)
 met_through (Ended now ∷ moves) = ap (λ l. Ended now ∷ l) (met_through moves)
 met_through (HungUp ∷ moves) = ap (λ l. HungUp ∷ l) (met_through moves)

@@ -13,7 +13,8 @@ use Rattle.zk_follow.specs.declared.subject.Subject.{Subject}
 use Rattle.zk_follow.specs.Following.{doubted, Steps}
 use Rattle.zk_follow.specs.Following as follow
 use Rattle.zk_agent.specs.Agents.{Advance, ByTurn, ByRenewal, Advances, BreaksOff, Trail, Move, Hears, Hands, Renews, Follows, Unfollows}
-use Rattle.zk_agent.specs.Agents.{Asks, GivesUp, Tires, Opened, Ended, HungUp, Addressed, Decides, Closes, Tends, Presents, Does, Comes}
+use Rattle.zk_agent.specs.Agents.{Asks, GivesUp, LeavesLate, Opened, Ended, HungUp, Addressed}
+use Rattle.zk_agent.specs.Agents.{Decides, Closes, Tends, Presents, Does, Comes}
 use Rattle.zk_agent.specs.Agents.{HearsSo}
 use Rattle.zk_agent.specs.Agents.{rises, DoubtsWhere, LeavesWhere}
 use Rattle.zk_agent.specs.inner.Agents.{Acts}
@@ -80,7 +81,7 @@ went_by {A} (Follows ticket side path) old new does = stayed old.timeout old.vie
 went_by {A} (Unfollows ticket) old new does = stayed old.timeout old.view new.view (ap (λ (t : Trail A). t.view) does)
 went_by {A} (Asks ticket asked until) old new does = stayed old.timeout old.view new.view (ap (λ (t : Trail A). t.view) does.last)
 went_by {A} (GivesUp now) old new does = stayed old.timeout old.view new.view (ap (λ (t : Trail A). t.view) does)
-went_by {A} (Tires now) old new does =
+went_by {A} (LeavesLate now) old new does =
     subst (λ view. Went old.timeout old.view view) (sym (ap (λ (t : Trail A). t.view) does.last))
     (subst (λ view. Went old.timeout view does.after.view) (ap (λ (t : Trail A). t.view) does.hangs)
     (went_hears old.timeout now turns.Cut does.between does.after does.hears))

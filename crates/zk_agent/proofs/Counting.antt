@@ -28,7 +28,7 @@ use Rattle.zk_follow.proofs.Counting.{count_map}
 use Rattle.zk_agent.specs.declared.agent.Agent.{Agent}
 use Rattle.zk_agent.specs.declared.input.AgentInput.{AgentInput}
 use Rattle.zk_agent.specs.declared.input.AgentInput.TheVariants as happens
-use Rattle.zk_agent.specs.Agents.{Comes, Move, Hears, Hands, Renews, Follows, Unfollows, Asks, GivesUp, Tires, Opened, Ended as Over}
+use Rattle.zk_agent.specs.Agents.{Comes, Move, Hears, Hands, Renews, Follows, Unfollows, Asks, GivesUp, LeavesLate, Opened, Ended as Over}
 use Rattle.zk_agent.specs.Agents.{HungUp, Closes, Addressed, Decides, Tends, Presents, Does, HearsSo, LeavesWhere, LetsGoWhere, Trail}
 use Rattle.zk_agent.specs.Agents.{rises, DoubtsWhere}
 use Rattle.zk_agent.specs.Agents.{bytes_at}
@@ -79,7 +79,7 @@ asks_alone ticket [] = refl
 asks_alone ticket (Hands now its asked ∷ moves) = asks_alone ticket moves
 asks_alone ticket (Renews ∷ moves) = asks_alone ticket moves
 asks_alone ticket (GivesUp now ∷ moves) = asks_alone ticket moves
-asks_alone ticket (Tires now ∷ moves) = asks_alone ticket moves
+asks_alone ticket (LeavesLate now ∷ moves) = asks_alone ticket moves
 asks_alone ticket (Decides now due ∷ moves) = asks_alone ticket moves
 asks_alone ticket (Closes ∷ moves) = asks_alone ticket moves
 asks_alone ticket (Tends told ∷ moves) = asks_alone ticket moves
@@ -338,7 +338,7 @@ module _ {A : Type 0} (ticket : ℕ) where
       ap total does in
       let more = count_append (is_end_of ticket) old.told (endings (Late now) old.line) in
       let all = ended_or_left (Late now) old.line in omega (arith, same, more, all)
-  moved (Tires now) old new does =
+  moved (LeavesLate now) old new does =
       let same : total new ≡ total does.after = ap total does.last in
       let heard = heard_same now turns.Cut does.between does.after does.hears in
       let hung : total does.between

@@ -4,7 +4,7 @@ use Rattle.std.specs.Prelude.{All}
 use Rattle.zk_turns.specs.Turns as turns
 use Rattle.zk_turns.specs.View.{View}
 use Rattle.zk_dialler.specs.Dialling.{has_come, Ends}
-use Rattle.zk_agent.specs.Agents.{ends_of, HearsSo, Tires, Trail}
+use Rattle.zk_agent.specs.Agents.{ends_of, HearsSo, LeavesLate, Trail}
 use Rattle.zk_agent.specs.inner.Agents.{LeavesIfLate}
 use Rattle.zk_agent.specs.Calls.{IsAway, IsInTime}
 use Rattle.zk_agent.specs.Overlong.{with_too_long}
@@ -38,7 +38,7 @@ left_late {A} now old between after new late ends hangs hears last =
     let was_line : between.line ≡ old.line = ap (λ (t : Trail A). t.line) hangs in
     let was_view : between.view ≡ old.view = ap (λ (t : Trail A). t.view) hangs in
     record {
-      acts = one now (Tires now) old new refl refl refl
+      acts = one now (LeavesLate now) old new refl refl refl
           (record { late = late; between = between; ends = ends; hangs = hangs; after = after; hears = hears; last = last });
       limits = λ all.
           heard_still now between.line new.line (with_too_long between.line takes.given) (line ∙ takes.line)

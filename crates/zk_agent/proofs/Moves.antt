@@ -35,7 +35,7 @@ use Rattle.zk_calls.specs.declared.entry.Ending.TheVariants as ending
 use Rattle.zk_agent.specs.declared.agent.Agent.{Agent}
 use Rattle.zk_agent.specs.declared.input.AgentInput.{AgentInput}
 use Rattle.zk_agent.specs.declared.replies.Heard.{Heard}
-use Rattle.zk_agent.specs.Agents.{Trail, Move, Hears, Hands, Renews, Follows, Unfollows, Asks, GivesUp, Tires, Opened, Ended, HungUp}
+use Rattle.zk_agent.specs.Agents.{Trail, Move, Hears, Hands, Renews, Follows, Unfollows, Asks, GivesUp, LeavesLate, Opened, Ended, HungUp}
 use Rattle.zk_agent.specs.Agents.{Closes, Addressed, Decides, Tends, Presents, Does, IsAt, IsLed, IsShut, Comes, HearsSo, LeavesWhere}
 use Rattle.zk_agent.specs.Agents.{leaves_with, moves_with, rises, AddressesSo, DoubtsWhere, MayHear}
 use Rattle.zk_agent.specs.inner.Agents.{tended_in, tends_of, Acts, MayTake}
@@ -86,7 +86,7 @@ led_by {A} (Follows ticket side path) old new does led = subst IsLed (sym (ap (�
 led_by {A} (Unfollows ticket) old new does led = subst IsLed (sym (ap (λ (t : Trail A). t.view) does)) led
 led_by {A} (Asks ticket asked until) old new does led = subst IsLed (sym (ap (λ (t : Trail A). t.view) does.last)) led
 led_by {A} (GivesUp now) old new does led = subst IsLed (sym (ap (λ (t : Trail A). t.view) does)) led
-led_by {A} (Tires now) old new does led =
+led_by {A} (LeavesLate now) old new does led =
     subst IsLed (sym (ap (λ (t : Trail A). t.view) does.last))
     (led_hears now turns.Cut does.between does.after does.hears (subst IsLed (sym (ap (λ (t : Trail A). t.view) does.hangs)) led))
 led_by {A} (Opened now) old new does led = subst IsLed (sym (ap (λ (t : Trail A). t.view) does.1)) led
@@ -195,7 +195,7 @@ shut_by (Follows ticket side path) old new does shut = subst IsShut (sym does) s
 shut_by (Unfollows ticket) old new does shut = subst IsShut (sym does) shut
 shut_by (Asks ticket asked until) old new does shut = subst IsShut (sym does.last) shut
 shut_by (GivesUp now) old new does shut = subst IsShut (sym does) shut
-shut_by (Tires now) old new does shut =
+shut_by (LeavesLate now) old new does shut =
     subst IsShut (sym does.last)
     (shut_hears now turns.Cut does.between does.after does.hears
     (λ closed. ends_waiting old.dialler.phase old.view.saved.session.timeout now old.dialler does.between.dialler refl does.ends))
@@ -238,7 +238,7 @@ stays_by {A} (Follows ticket side path) old new does = ap (λ (t : Trail A). t.t
 stays_by {A} (Unfollows ticket) old new does = ap (λ (t : Trail A). t.timeout) does
 stays_by {A} (Asks ticket asked until) old new does = ap (λ (t : Trail A). t.timeout) does.last
 stays_by {A} (GivesUp now) old new does = ap (λ (t : Trail A). t.timeout) does
-stays_by {A} (Tires now) old new does =
+stays_by {A} (LeavesLate now) old new does =
     ap (λ (t : Trail A). t.timeout) does.last ∙ does.hears.timeout ∙ ap (λ (t : Trail A). t.timeout) does.hangs
 stays_by {A} (Opened now) old new does = ap (λ (t : Trail A). t.timeout) does.1
 stays_by {A} (Ended now) old new does = ap (λ (t : Trail A). t.timeout) does.1

@@ -18,7 +18,7 @@ use Rattle.zk_trees.specs.Tending.{TreeTold}
 use Rattle.zk_trees.specs.declared.tree.Trees.{Trees}
 use Rattle.zk_agent.specs.declared.agent.Agent.{Agent}
 use Rattle.zk_agent.specs.declared.input.AgentInput.{AgentInput}
-use Rattle.zk_agent.specs.Agents.{Trail, Move, Hears, Hands, Renews, Follows, Unfollows, Asks, GivesUp, Tires, Opened, Ended, HungUp}
+use Rattle.zk_agent.specs.Agents.{Trail, Move, Hears, Hands, Renews, Follows, Unfollows, Asks, GivesUp, LeavesLate, Opened, Ended, HungUp}
 use Rattle.zk_agent.specs.Agents.{Closes, Addressed, Decides, Tends, Presents, Does, HearsSo, LeavesWhere, LetsGoWhere, trail_of}
 use Rattle.zk_agent.specs.Agents.{rises, DoubtsWhere}
 use Rattle.zk_agent.specs.inner.Agents.{tended_in, tends_of, Acts}
@@ -127,7 +127,7 @@ module _ {A : Type 0} where
       still old new (told_more (old.told ++ endings ending.Expired old.line) (Begins ∷ []) new.told does.told refl
       ∙ told_more old.told (endings ending.Expired old.line) (old.told ++ endings ending.Expired old.line) refl
       (none_endings ending.Expired old.line))
-  tells_one (Tires now) old new does =
+  tells_one (LeavesLate now) old new does =
       still old new (like new _ does.last ∙ heard_told now turns.Cut does.between does.after does.hears ∙ like does.between _ does.hangs
       ∙ told_more old.told (HangsUp ∷ []) (old.told ++ HangsUp ∷ []) refl refl)
   tells_one (Presents judged frames) old new does =

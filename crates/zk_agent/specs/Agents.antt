@@ -75,7 +75,7 @@ pub data Move : Type 0 where
   Unfollows : (ticket : ℕ) → Move
   Asks : (ticket : ℕ) → Call → (until : Option ℕ) → Move
   GivesUp : (now : ℕ) → Move
-  Tires : (now : ℕ) → Move
+  LeavesLate : (now : ℕ) → Move
   Opened Ended : (now : ℕ) → Move
   HungUp Renews Closes : Move
   Addressed : (kept added : ℕ) → (is_listed : Bool) → Move
@@ -228,7 +228,7 @@ abbrev pub ends_of : {A : Type 0} → Trail A → Option ℕ
 ends_of trail = ends_at trail.view.saved.session.timeout trail.waits
 
 -- Where one has waited for so long, and not before, the connection is let go, the program is told so, and the client hears that it is over.
-pub record TiresSo {A : Type 0} (now : ℕ) (old new : Trail A) : Type 0 where
+pub record LeavesLateSo {A : Type 0} (now : ℕ) (old new : Trail A) : Type 0 where
   pub late : has_come now (ends_of old) ≡ true
   pub between : Trail A
   pub ends : Ends old.view.saved.session.timeout now old.dialler between.dialler
@@ -248,7 +248,7 @@ Does old (Unfollows ticket) new = new ≡ record old { subjects = unfollowed tic
 Does old (Asks ticket asked until) new = AsksSo ticket asked until old new
 Does old (GivesUp now) new =
     new ≡ record old { line = left (ending.Late now) old.line; told = old.told ++ endings (ending.Late now) old.line }
-Does old (Tires now) new = TiresSo now old new
+Does old (LeavesLate now) new = LeavesLateSo now old new
 Does old (Opened now) new =
     Opens old.view.saved.session.timeout now old.dialler new.dialler true × (new ≡ record old { dialler = new.dialler })
 Does old (Ended now) new = Ends old.view.saved.session.timeout now old.dialler new.dialler × (new ≡ record old { dialler = new.dialler })
@@ -277,7 +277,7 @@ abbrev pub is_given : Move → Bool
 is_given (Hands now ticket asked) = false
 is_given Renews = false
 is_given (GivesUp now) = false
-is_given (Tires now) = false
+is_given (LeavesLate now) = false
 is_given (Decides now due) = false
 is_given Closes = false
 is_given (Tends one) = false
@@ -288,7 +288,7 @@ abbrev pub IsAt : (now : ℕ) → Move → Type 0
 IsAt now (Hears its input) = its ≡ now
 IsAt now (Hands its ticket asked) = its ≡ now
 IsAt now (GivesUp its) = its ≡ now
-IsAt now (Tires its) = its ≡ now
+IsAt now (LeavesLate its) = its ≡ now
 IsAt now (Opened its) = its ≡ now
 IsAt now (Ended its) = its ≡ now
 IsAt now (Decides its due) = its ≡ now
