@@ -18,6 +18,7 @@ pub mod Among
 pub mod Paths
 pub mod Placing
 pub mod Moving
+pub mod Silent
 pub mod Skipping
 pub mod Counting
 pub mod Finding

@@ -8,7 +8,7 @@ use Rattle.std.proofs.lemmas.Bool.Decides.{Decides-eqb}
 use Rattle.std.proofs.lemmas.List.Folds.{list_any_at}
 use Rattle.zk_watches.specs.Lists.{Lists}
 use Rattle.zk_watches.specs.Parts.{parts}
-use Rattle.zk_conversation.specs.Pending.{Pending, Waiting, Part_waits, Call_waits, call_waits}
+use Rattle.zk_conversation.specs.Pending.{Pending, call_waits}
 use Rattle.zk_conversation.specs.Calls.{Call as Asked_call}
 use Rattle.zk_conversation.specs.Questions.{Close, question_of, watched_side}
 use Rattle.zk_conversation.specs.Arriving.{Arrived, Connected as Welcomed, Replied, Watches_set as Part_set, Notice, Pong as Ponged}
@@ -21,7 +21,7 @@ use Rattle.zk_turns.specs.Turns.{Bytes, Cut, Now, Call, Turn, signals_of}
 use Rattle.zk_turns.specs.Past.{Happening, Began, Took, Dropped, Lost, Asked, Accepted, Expiry, Replies, Watches_set}
 use Rattle.zk_turns.specs.Past.{parts_asked, pending_for}
 use Rattle.zk_turns.specs.View.{View}
-use Rattle.zk_turns.specs.Taken.{longest_of, phase_of, taken_of, reading, leaves_watch, refusal, caused, happenings, opens}
+use Rattle.zk_turns.specs.Taken.{longest_of, phase_of, taken_of, leaves_watch, refusal, caused, happenings, opens}
 use Rattle.zk_turns.specs.Taken.{of_cutting, cut, Cutting, Unfinished, Bad, Payload, comes}
 use Rattle.zk_turns.specs.Rule.{next, after_all, after_signals, Rule}
 use Rattle.zk_turns.proofs.Cases.{by_cond, by_open, by_due}

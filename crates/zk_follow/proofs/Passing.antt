@@ -1,6 +1,6 @@
 -- A moment at which nothing is due: a client that is told it says nothing, and only its moment is another one (`ticked`); told once
 -- more, it stays so. Subjects that are quiet are as they were after such a step, and there is nothing to tell of them.
-use Rattle.std.proofs.Common.{◌≡◌, ◌<◌, ◌++◌, ◌∷◌, ◌∙◌, ℕ, suc, Bool, true, false, cond, inl, List, [], length, get_or, map, refl, sym, ap}
+use Rattle.std.proofs.Common.{◌≡◌, ◌<◌, ◌++◌, ◌∷◌, ◌∙◌, ℕ, suc, true, false, cond, inl, List, [], length, get_or, map, refl, sym, ap}
 use Rattle.std.proofs.Common.{subst, arith}
 use Rattle.std.specs.Prelude.{max}
 use Rattle.std.specs.List.{flat_map}
@@ -8,7 +8,7 @@ use Rattle.zk_turns.specs.Turns.{Now, Output, Ticks}
 use Rattle.zk_turns.specs.Past.{Happening, Ticked}
 use Rattle.zk_turns.specs.View.{View}
 use Rattle.zk_turns.specs.Taken.{due, happenings, if_open, NothingIsDue}
-use Rattle.zk_turns.specs.Rule.{after_all, next, says_all, Rule}
+use Rattle.zk_turns.specs.Rule.{after_all, says_all, Rule}
 use Rattle.zk_follow.specs.declared.subject.Subject.{Subject}
 use Rattle.zk_follow.specs.Following.{is_among, is_quiet, news_in, reads_of, ticked, told_of, AreFollowed, AreQuiet, AreQuietBut, IsVisited}
 use Rattle.zk_follow.specs.Following.{Steps}
@@ -58,7 +58,7 @@ again now view goes_on nothing =
 
 -- ---- subjects that are quiet
 
-none_among : (k : ℕ) (places : List ℕ) → length places ≡ 0 → is_among k places ≡ false
+pub none_among : (k : ℕ) (places : List ℕ) → length places ≡ 0 → is_among k places ≡ false
 none_among k [] none = refl
 none_among k (place ∷ places) none = absurd (omega (arith, none))
 

@@ -1,5 +1,5 @@
 -- An index of some subjects has a bucket: where there is none, no place is found.
-use Rattle.std.proofs.Common.{◌≡◌, ◌<◌, ◌%◌, ◌∙◌, Bool, true, false, List, [], ◌∷◌, length, refl, sym, ap, subst, arith}
+use Rattle.std.proofs.Common.{◌≡◌, ◌<◌, ◌%◌, ◌∙◌, true, false, List, [], ◌∷◌, length, refl, sym, ap, subst, arith}
 use Rattle.std.specs.Prelude.{Vec, ℕ}
 use Rattle.zk_follow.specs.declared.index.Index.{Index}
 use Rattle.zk_follow.specs.declared.subject.Subject.{Subject}

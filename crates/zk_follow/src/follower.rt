@@ -31,7 +31,7 @@ use crate::index::{Index, fit_all};
 use crate::leaving::{awake_left, index_of};
 use crate::news::{News, tell_all};
 use crate::progress::Progress;
-use crate::queue::{is_room_left, pour, stir, take_first, take_rest};
+use crate::queue::{is_nobody, is_over, is_room_left, pour, stir, take_first, take_rest};
 use crate::refusing::refuse_all;
 use crate::stop::FollowerStop;
 use crate::subject::Subject;
@@ -189,6 +189,9 @@ fn visit_due<A: Allocator + Copy>(
         (how_many_reading subjects.new)) }
     ensures broke { OnErr result (BreaksOff (view_of client.old) (view_of client.new)) }
 {
+    if is_nobody(places.as_slice(), waiting) {
+        return Ok(());
+    }
     take_first(subjects, client, reads, waiting, places)?;
     let reads = visit_each(alloc, subjects, places.as_slice(), client, now, reads, made)?;
     if !is_room_left(client, reads, waiting) {
@@ -294,6 +297,9 @@ fn advance_all<A: Allocator + Copy>(
         return Err(FollowerStop::Halted);
     };
     let heard = outputs.as_slice();
+    if is_over(heard, awake.as_slice(), waiting) {
+        return Ok(());
+    }
     stir(is_foreign, heard, subjects.len(), waiting, awake)?;
     let mut places = index.with_those_about(alloc, is_foreign, subjects, awake.as_slice(), heard)?;
     let mut made = Vec::new(alloc);

@@ -245,6 +245,17 @@ fn awake_among<A: Allocator + Copy>(
     Ok(awake)
 }
 
+/// Whether no place is awake, and nothing was said.
+fn is_silent<A: Allocator>(awake: &[usize], outputs: &[Output<A>]) -> bool
+    ensures awake { result ≡ true → length awake.now ≡ 0 }
+    ensures outputs { result ≡ true → length outputs.now ≡ 0 }
+{
+    if !outputs.is_empty() {
+        return false;
+    }
+    awake.is_empty()
+}
+
 /// Adds what there is to tell of each subject, with its ticket, in order. These outputs were made since the call before this one. Those
 /// that are not awake are still, before and after it, and those that do not wait either are quiet.
 pub(crate) fn tell_all<A: Allocator + Copy>(
@@ -270,6 +281,9 @@ pub(crate) fn tell_all<A: Allocator + Copy>(
         return Ok(());
     }
     fit_all(alloc, subjects, index, awake)?;
+    if is_silent(awake.as_slice(), outputs) {
+        return Ok(());
+    }
     let places = index.with_named(alloc, subjects, awake.as_slice(), outputs)?;
     tell_each(alloc, subjects, places.as_slice(), client, outputs, all)?;
     *awake = awake_among(alloc, subjects, places.as_slice(), client, waiting)?;

@@ -46,6 +46,13 @@ pub(crate) fn put_last<A: Allocator + Copy>(
     }
 }
 
+/// Whether there is none in a queue.
+fn is_unused<A: Allocator + Copy>(waiting: &VecDeque<usize, A>) -> bool
+    ensures { result ≡ true → waiting.now.items ≡ [] }
+{
+    waiting.is_empty()
+}
+
 /// Whether a queue is so long that it has places twice.
 fn is_long<A: Allocator + Copy>(waiting: &VecDeque<usize, A>, count: usize) -> bool
     ensures { (result ≡ true) ⊎ (result ≡ false) }
@@ -68,6 +75,9 @@ pub(crate) fn stir<A: Allocator + Copy>(
     ensures stirred { OnOk result (list_any (may_show_any is_foreign) (said outputs.now) ≡ true → (at : ℕ) → at < count
         → (is_among at awake.old.items || is_among at waiting.old.items) ≡ true → is_among at awake.new.items ≡ true) }
 {
+    if is_unused(waiting) {
+        return Ok(());
+    }
     if has_one_showing_any(is_foreign, outputs) {
         return pour(waiting, count, awake);
     }
@@ -160,6 +170,33 @@ pub(crate) fn is_room_left<A: Allocator + Copy>(
         return false;
     }
     has_room(client, reads)
+}
+
+/// Whether there is no place among these, and none waits.
+pub(crate) fn is_nobody<A: Allocator + Copy>(places: &[usize], waiting: &VecDeque<usize, A>) -> bool
+    ensures places { result ≡ true → length places.now ≡ 0 }
+    ensures waiting { result ≡ true → waiting.now.items ≡ [] }
+{
+    if !is_unused(waiting) {
+        return false;
+    }
+    places.is_empty()
+}
+
+/// Whether nothing was said, no place is awake, and none waits: then a step visits nobody.
+pub(crate) fn is_over<A: Allocator + Copy>(
+    heard: &[Output<A>],
+    awake: &[usize],
+    waiting: &VecDeque<usize, A>,
+) -> bool
+    ensures heard { result ≡ true → length heard.now ≡ 0 }
+    ensures awake { result ≡ true → length awake.now ≡ 0 }
+    ensures waiting { result ≡ true → waiting.now.items ≡ [] }
+{
+    if !heard.is_empty() {
+        return false;
+    }
+    is_nobody(awake, waiting)
 }
 
 /// Whether a place is one of these.

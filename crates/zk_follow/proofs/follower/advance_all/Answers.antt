@@ -1,7 +1,7 @@
 -- After the client's step each subject counts as it did, once it has heard the outputs; who is not visited is still (`still_stays`), and
 -- quiet if it does not wait (`quiet_stays`), and so after the visits of others (`after_visits`).
 use Rattle.std.proofs.lemmas.List.{map-append}
-use Rattle.std.proofs.Common.{◌≡◌, ◌<◌, ◌∙◌, ◌++◌, ℕ, true, ap, arith, get_or, sym, subst}
+use Rattle.std.proofs.Common.{◌≡◌, ◌<◌, ◌∙◌, ◌++◌, ℕ, true, ap, arith, get_or, length, sym, subst}
 use Rattle.std.specs.Prelude.{All}
 use Rattle.std.specs.List.{list_any}
 use Rattle.zk_client.specs.Clients.{view_of}
@@ -13,6 +13,8 @@ use Rattle.zk_follow.specs.inner.Resting.{is_about, is_beside, AreLeft}
 use Rattle.zk_follow.proofs.Visiting.{all_ahead, all_counted, going_at, steps}
 use Rattle.zk_follow.proofs.Finding.{after_visits, awake_also, found_visited, left_by, quiet_stays, still_stays, stirred_quiet}
 use Rattle.zk_follow.proofs.Resting.{quiet_parts}
+use Rattle.zk_follow.proofs.Silent.{none_of_both, none_said, silent_ahead, silent_counted, silent_followed, silent_quiet, silent_steps}
+use Rattle.zk_follow.proofs.Silent.{silent_still}
 use Rattle.zk_follow.proofs.Still.{among_all, among_first, among_left, quiet_on, still_on}
 use Rattle.zk_follow.proofs.Breaking.{after_step, after_turns, beside, err_always, within_step}
 use Rattle.zk_follow.proofs.follower.advance_all.Goals as goal
@@ -64,7 +66,7 @@ visit_all-requires-clause-left g c =
     let here = view_of c.step_at_into.new.self in
     let turn = turn_of c.args.input c.step_at_into.new.outputs.items in
     let had = subst (λ some. (at : ℕ) → at < index.count → is_among at some ≡ true → is_among at places ≡ true)
-    c.as_slice.ensures.value c.in_ok-places.ensures.had in
+    c.as_slice-2.ensures.value c.in_ok-places.ensures.had in
     let about = subst (λ outputs. HasEach (λ s. list_any (is_about c.args.is_foreign first s.ticket s.path) (said outputs))
     index.count first places)
     c.as_slice-heard.ensures.value c.in_ok-places.ensures.about in
@@ -98,7 +100,7 @@ visit_all-requires-clause-rest g c =
     let here = view_of c.step_at_into.new.self in
     let turn = turn_of c.args.input c.step_at_into.new.outputs.items in
     let had = subst (λ some. (at : ℕ) → at < index.count → is_among at some ≡ true → is_among at places ≡ true)
-    c.as_slice.ensures.value c.in_ok-places.ensures.had in
+    c.as_slice-2.ensures.value c.in_ok-places.ensures.had in
     let about = subst (λ outputs. HasEach (λ s. list_any (is_about c.args.is_foreign first s.ticket s.path) (said outputs))
     index.count first places)
     c.as_slice-heard.ensures.value c.in_ok-places.ensures.about in
@@ -135,7 +137,7 @@ returns-in-Ok-append-clause-still g c =
     let here = view_of c.step_at_into.new.self in
     let turn = turn_of c.args.input c.step_at_into.new.outputs.items in
     let had = subst (λ some. (at : ℕ) → at < index.count → is_among at some ≡ true → is_among at places ≡ true)
-    c.as_slice.ensures.value c.in_ok-places.ensures.had in
+    c.as_slice-2.ensures.value c.in_ok-places.ensures.had in
     let about = subst (λ outputs. HasEach (λ s. list_any (is_about c.args.is_foreign first s.ticket s.path) (said outputs))
     index.count first places)
     c.as_slice-heard.ensures.value c.in_ok-places.ensures.about in
@@ -172,7 +174,7 @@ returns-in-Ok-append-clause-rest g c =
     let here = view_of c.step_at_into.new.self in
     let turn = turn_of c.args.input c.step_at_into.new.outputs.items in
     let had = subst (λ some. (at : ℕ) → at < index.count → is_among at some ≡ true → is_among at places ≡ true)
-    c.as_slice.ensures.value c.in_ok-places.ensures.had in
+    c.as_slice-2.ensures.value c.in_ok-places.ensures.had in
     let about = subst (λ outputs. HasEach (λ s. list_any (is_about c.args.is_foreign first s.ticket s.path) (said outputs))
     index.count first places)
     c.as_slice-heard.ensures.value c.in_ok-places.ensures.about in
@@ -233,3 +235,81 @@ returns-clause-broke g c =
     let new = view_of c.visit_all.new.client in
     after_step c.args.now (view_of c.args.client.now) (turn_of c.args.input c.step_at_into.new.outputs.items) here new
     c.in-Ok.ensures.rule (after_turns reads.calls here new new reads.chain (beside new))
+
+pub returns-then-is_over-clause-followed : goal.returns-then-is_over-clause-followed
+returns-then-is_over-clause-followed g c =
+    silent_followed c.args.index.now c.args.subjects.now c.requires.count c.args.is_foreign c.args.now (view_of c.args.client.now)
+    (input_view c.args.input) (said c.step_at_into.new.outputs.items) (view_of c.step_at_into.new.self) c.in-Ok.ensures.rule
+    c.requires.asks c.requires.own
+    (none_said c.as_slice-heard.result.now c.step_at_into.new.outputs.items c.as_slice-heard.ensures.value
+    (c.is_over.ensures.heard c.if-is_over.true))
+    (c.args.awake.now.items ++ c.args.waiting.now.items)
+    (none_of_both c.args.awake.now.items c.args.waiting.now.items
+    (subst (λ its. length its ≡ 0) c.as_slice.ensures.value (c.is_over.ensures.awake c.if-is_over.true))
+    (c.is_over.ensures.waiting c.if-is_over.true))
+    c.requires.rest
+
+pub returns-then-is_over-clause-counted : goal.returns-then-is_over-clause-counted
+returns-then-is_over-clause-counted g c =
+    silent_counted c.args.index.now c.args.subjects.now c.requires.count c.args.is_foreign c.args.now (view_of c.args.client.now)
+    (input_view c.args.input) (said c.step_at_into.new.outputs.items) (view_of c.step_at_into.new.self) c.in-Ok.ensures.rule
+    c.requires.asks c.requires.own
+    (none_said c.as_slice-heard.result.now c.step_at_into.new.outputs.items c.as_slice-heard.ensures.value
+    (c.is_over.ensures.heard c.if-is_over.true))
+    (c.args.awake.now.items ++ c.args.waiting.now.items)
+    (none_of_both c.args.awake.now.items c.args.waiting.now.items
+    (subst (λ its. length its ≡ 0) c.as_slice.ensures.value (c.is_over.ensures.awake c.if-is_over.true))
+    (c.is_over.ensures.waiting c.if-is_over.true))
+    c.requires.rest c.requires.counted
+
+pub returns-then-is_over-clause-still : goal.returns-then-is_over-clause-still
+returns-then-is_over-clause-still g c =
+    silent_still c.args.index.now c.args.subjects.now c.requires.count c.args.is_foreign c.args.now (view_of c.args.client.now)
+    (input_view c.args.input) (said c.step_at_into.new.outputs.items) (view_of c.step_at_into.new.self) c.in-Ok.ensures.rule
+    c.requires.asks c.requires.own
+    (none_said c.as_slice-heard.result.now c.step_at_into.new.outputs.items c.as_slice-heard.ensures.value
+    (c.is_over.ensures.heard c.if-is_over.true))
+    (c.args.awake.now.items ++ c.args.waiting.now.items)
+    (none_of_both c.args.awake.now.items c.args.waiting.now.items
+    (subst (λ its. length its ≡ 0) c.as_slice.ensures.value (c.is_over.ensures.awake c.if-is_over.true))
+    (c.is_over.ensures.waiting c.if-is_over.true))
+    c.requires.rest c.args.awake.now.items
+
+pub returns-then-is_over-clause-rest : goal.returns-then-is_over-clause-rest
+returns-then-is_over-clause-rest g c =
+    silent_quiet c.args.index.now c.args.subjects.now c.requires.count c.args.is_foreign c.args.now (view_of c.args.client.now)
+    (input_view c.args.input) (said c.step_at_into.new.outputs.items) (view_of c.step_at_into.new.self) c.in-Ok.ensures.rule
+    c.requires.asks c.requires.own
+    (none_said c.as_slice-heard.result.now c.step_at_into.new.outputs.items c.as_slice-heard.ensures.value
+    (c.is_over.ensures.heard c.if-is_over.true))
+    (c.args.awake.now.items ++ c.args.waiting.now.items)
+    (none_of_both c.args.awake.now.items c.args.waiting.now.items
+    (subst (λ its. length its ≡ 0) c.as_slice.ensures.value (c.is_over.ensures.awake c.if-is_over.true))
+    (c.is_over.ensures.waiting c.if-is_over.true))
+    c.requires.rest (c.args.awake.now.items ++ c.args.waiting.now.items)
+
+pub returns-then-is_over-clause-ahead : goal.returns-then-is_over-clause-ahead
+returns-then-is_over-clause-ahead g c =
+    silent_ahead c.args.index.now c.args.subjects.now c.requires.count c.args.is_foreign c.args.now (view_of c.args.client.now)
+    (input_view c.args.input) (said c.step_at_into.new.outputs.items) (view_of c.step_at_into.new.self) c.in-Ok.ensures.rule
+    c.requires.asks c.requires.own
+    (none_said c.as_slice-heard.result.now c.step_at_into.new.outputs.items c.as_slice-heard.ensures.value
+    (c.is_over.ensures.heard c.if-is_over.true))
+    (c.args.awake.now.items ++ c.args.waiting.now.items)
+    (none_of_both c.args.awake.now.items c.args.waiting.now.items
+    (subst (λ its. length its ≡ 0) c.as_slice.ensures.value (c.is_over.ensures.awake c.if-is_over.true))
+    (c.is_over.ensures.waiting c.if-is_over.true))
+    c.requires.rest c.ranges.now.fits
+
+pub returns-then-is_over-clause-steps : goal.returns-then-is_over-clause-steps
+returns-then-is_over-clause-steps g c =
+    silent_steps c.args.index.now c.args.subjects.now c.requires.count c.args.is_foreign c.args.now (view_of c.args.client.now)
+    (input_view c.args.input) (said c.step_at_into.new.outputs.items) (view_of c.step_at_into.new.self) c.in-Ok.ensures.rule
+    c.requires.asks c.requires.own
+    (none_said c.as_slice-heard.result.now c.step_at_into.new.outputs.items c.as_slice-heard.ensures.value
+    (c.is_over.ensures.heard c.if-is_over.true))
+    (c.args.awake.now.items ++ c.args.waiting.now.items)
+    (none_of_both c.args.awake.now.items c.args.waiting.now.items
+    (subst (λ its. length its ≡ 0) c.as_slice.ensures.value (c.is_over.ensures.awake c.if-is_over.true))
+    (c.is_over.ensures.waiting c.if-is_over.true))
+    c.requires.rest

@@ -1,5 +1,5 @@
 -- Who has heard all, and is awake, has taken what was said: `taken_by`. Of others nothing is said, and none was refused: `unwoken`.
-use Rattle.std.proofs.Common.{◌≡◌, ◌<◌, ◌∙◌, length, refl, subst, sym}
+use Rattle.std.proofs.Common.{◌<◌, ◌∙◌, length, refl, subst, sym}
 use Rattle.std.specs.Prelude.{All}
 use Rattle.std.proofs.lemmas.Bool.Decides.{Decides-eqb}
 use Rattle.zk_client.specs.Views.{said}

@@ -11,15 +11,16 @@ use Rattle.zk_follow.specs.Places.{AreFound}
 use Rattle.zk_follow.specs.inner.Places.{IsAscending}
 use Rattle.zk_follow.specs.inner.Resting.{AreTold}
 use Rattle.zk_follow.proofs.Finding.{found_told, told_but, told_by}
+use Rattle.zk_follow.proofs.Silent.{nothing_new}
 use Rattle.zk_follow.proofs.Still.{among_both, among_or, among_told}
 use Rattle.zk_follow.proofs.news.tell_all.Goals as goal
 
 pub tell_each-requires-clause-ascend : goal.tell_each-requires-clause-ascend
-tell_each-requires-clause-ascend g c = subst IsAscending (sym c.as_slice-2.ensures.value) c.in_ok-places.ensures.ascend
+tell_each-requires-clause-ascend g c = subst IsAscending (sym c.as_slice-3.ensures.value) c.in_ok-places.ensures.ascend
 
 pub tell_each-requires-clause-below : goal.tell_each-requires-clause-below
 tell_each-requires-clause-below g c =
-    subst (All (λ at. at < length c.args.subjects.now)) (sym c.as_slice-2.ensures.value)
+    subst (All (λ at. at < length c.args.subjects.now)) (sym c.as_slice-3.ensures.value)
     (subst (λ count. All (λ at. at < count) c.in_ok-places.places.items) c.in_ok-fit_all.ensures.count c.in_ok-places.ensures.below)
 
 pub tell_each-requires-clause-told : goal.tell_each-requires-clause-told
@@ -28,14 +29,14 @@ tell_each-requires-clause-told g c =
     let index = c.fit_all.new.index in
     let view = view_of c.args.client.now in
     let had = subst (λ some. (at : ℕ) → at < index.count → is_among at some ≡ true → is_among at places ≡ true)
-    c.as_slice.ensures.value c.in_ok-places.ensures.had in
+    c.as_slice-2.ensures.value c.in_ok-places.ensures.had in
     let told = told_by index c.args.subjects.now c.in_ok-fit_all.ensures.count view c.args.outputs.now c.fit_all.new.awake.items places
     (c.in_ok-fit_all.ensures.still view c.requires.still) had c.in_ok-places.ensures.named in
-    subst (AreTold view (said c.args.outputs.now) c.args.subjects.now) (sym c.as_slice-2.ensures.value) told
+    subst (AreTold view (said c.args.outputs.now) c.args.subjects.now) (sym c.as_slice-3.ensures.value) told
 
 pub awake_among-requires : goal.awake_among-requires
 awake_among-requires g c =
-    subst (All (λ at. at < length c.tell_each.new.subjects)) (sym c.as_slice-3.ensures.value)
+    subst (All (λ at. at < length c.tell_each.new.subjects)) (sym c.as_slice-4.ensures.value)
     (subst (λ count. All (λ at. at < count) c.in_ok-places.places.items)
     (c.in_ok-fit_all.ensures.count ∙ sym c.tell_each.auto.subjects) c.in_ok-places.ensures.below)
 
@@ -50,7 +51,7 @@ returns-clause-still g c =
     let index = c.fit_all.new.index in
     let view = view_of c.args.client.now in
     let had = subst (λ some. (at : ℕ) → at < index.count → is_among at some ≡ true → is_among at places ≡ true)
-    c.as_slice.ensures.value c.in_ok-places.ensures.had in
+    c.as_slice-2.ensures.value c.in_ok-places.ensures.had in
     let told = told_by index c.args.subjects.now c.in_ok-fit_all.ensures.count view c.args.outputs.now c.fit_all.new.awake.items places
     (c.in_ok-fit_all.ensures.still view c.requires.still) had c.in_ok-places.ensures.named in
     let awake = c.in_ok-awake.field-0.items in
@@ -58,7 +59,7 @@ returns-clause-still g c =
     c.fit_all.new.awake.items awake c.in_ok-fit_all.ensures.count c.in_ok-tell_each.ensures.told told
     (λ at fits e. among_or at places awake (had at fits e))
     (c.in_ok-fit_all.ensures.still view c.requires.still)
-    (λ k d within among none. c.in_ok-awake.ensures.still k d within (ap (is_among k) c.as_slice-3.ensures.value ∙ among) none)
+    (λ k d within among none. c.in_ok-awake.ensures.still k d within (ap (is_among k) c.as_slice-4.ensures.value ∙ among) none)
 
 pub returns-clause-rest : goal.returns-clause-rest
 returns-clause-rest g c =
@@ -66,7 +67,7 @@ returns-clause-rest g c =
     let index = c.fit_all.new.index in
     let view = view_of c.args.client.now in
     let had = subst (λ some. (at : ℕ) → at < index.count → is_among at some ≡ true → is_among at places ≡ true)
-    c.as_slice.ensures.value c.in_ok-places.ensures.had in
+    c.as_slice-2.ensures.value c.in_ok-places.ensures.had in
     let told = told_by index c.args.subjects.now c.in_ok-fit_all.ensures.count view c.args.outputs.now c.fit_all.new.awake.items places
     (c.in_ok-fit_all.ensures.still view c.requires.still) had c.in_ok-places.ensures.named in
     let awake = c.in_ok-awake.field-0.items in
@@ -77,7 +78,7 @@ returns-clause-rest g c =
     (old ++ waiting) (awake ++ last) c.in_ok-fit_all.ensures.count c.in_ok-tell_each.ensures.told told
     (λ at fits e. among_told at old waiting awake last places (had at fits) (c.in_ok-awake.ensures.kept at) e)
     (c.in_ok-fit_all.ensures.rest view waiting c.requires.rest)
-    (λ k d within among none. c.in_ok-awake.ensures.quiet k d within (ap (is_among k) c.as_slice-3.ensures.value ∙ among)
+    (λ k d within among none. c.in_ok-awake.ensures.quiet k d within (ap (is_among k) c.as_slice-4.ensures.value ∙ among)
     (sym (among_both k awake last) ∙ none))
 
 pub returns-then-is_empty-clause-news : goal.returns-then-is_empty-clause-news
@@ -98,3 +99,30 @@ pub fit_all-requires-clause-some : goal.fit_all-requires-clause-some
 fit_all-requires-clause-some g c =
     let some : (length c.args.subjects.now == 0) ≡ false = sym c.is_empty.ensures ∙ c.if-is_empty.false in
     grind (arith, nat_tests)
+
+pub returns-then-is_silent-clause-news : goal.returns-then-is_silent-clause-news
+returns-then-is_silent-clause-news g c =
+    let view = view_of c.args.client.now in
+    let index = c.fit_all.new.index in
+    let silent = nothing_new index c.args.subjects.now c.in_ok-fit_all.ensures.count view c.args.outputs.now
+    (nil_from_length c.args.outputs.now (c.is_silent.ensures.outputs c.if-is_silent.true)) c.fit_all.new.awake.items
+    (subst (λ its. length its ≡ 0) c.as_slice.ensures.value (c.is_silent.ensures.awake c.if-is_silent.true))
+    (c.in_ok-fit_all.ensures.still view c.requires.still) in
+    sym (ap (λ news. c.args.all.now.items ++ news) silent.1 ∙ append-nil c.args.all.now.items)
+
+pub returns-then-is_silent-clause-told : goal.returns-then-is_silent-clause-told
+returns-then-is_silent-clause-told g c =
+    let view = view_of c.args.client.now in
+    let index = c.fit_all.new.index in
+    let silent = nothing_new index c.args.subjects.now c.in_ok-fit_all.ensures.count view c.args.outputs.now
+    (nil_from_length c.args.outputs.now (c.is_silent.ensures.outputs c.if-is_silent.true)) c.fit_all.new.awake.items
+    (subst (λ its. length its ≡ 0) c.as_slice.ensures.value (c.is_silent.ensures.awake c.if-is_silent.true))
+    (c.in_ok-fit_all.ensures.still view c.requires.still) in
+    sym silent.0
+
+pub returns-then-is_silent-clause-still : goal.returns-then-is_silent-clause-still
+returns-then-is_silent-clause-still g c = c.in_ok-fit_all.ensures.still (view_of c.args.client.now) c.requires.still
+
+pub returns-then-is_silent-clause-rest : goal.returns-then-is_silent-clause-rest
+returns-then-is_silent-clause-rest g c =
+    c.in_ok-fit_all.ensures.rest (view_of c.args.client.now) c.args.waiting.now.items c.requires.rest

@@ -1,5 +1,6 @@
 -- Where all are moved, none is lost: `all_moved_to`. Where none is, by no output any may have become good.
-use Rattle.std.proofs.Common.{◌≡◌, ◌∙◌, sym, true, false}
+use Rattle.std.proofs.Common.{◌≡◌, ◌∙◌, ◌||◌, Bool, refl, subst, sym, true, false}
+use Rattle.zk_follow.specs.Following.{is_among}
 use Rattle.zk_follow.proofs.Moving.{all_moved_to}
 use Rattle.zk_follow.proofs.Rounds.{on_ok}
 use Rattle.zk_follow.proofs.queue.stir.Goals as goal
@@ -31,3 +32,12 @@ returns-clause-stirred g c = λ e. absurd (
     let t : true ≡ false = sym e ∙ sym c.has_one_showing_any.ensures ∙ c.if-has_one_showing_any.false in
     cc
     )
+
+or_none : (b : Bool) → (b || false) ≡ true → b ≡ true
+or_none true e = refl
+or_none false e = e
+
+pub returns-then-is_unused-clause-stirred : goal.returns-then-is_unused-clause-stirred
+returns-then-is_unused-clause-stirred g c = λ e at fits has.
+    let awake = is_among at c.args.awake.now.items in
+    or_none awake (subst (λ its. (awake || is_among at its) ≡ true) (c.is_unused.ensures c.if-is_unused.true) has)
