@@ -79,12 +79,11 @@ fn push_bytes<A: Allocator>(word: &mut String<A>, bytes: &[u8]) -> Result<(), Al
 pub fn text_to_word<A: Allocator>(alloc: A, text: &[u8]) -> Result<String<A>, AllocError>
     ensures { IfOk result (λ word. string_bytes word ≡ text_word (Some text.now)) }
 {
-    let mut word = String::new(alloc);
     if text.is_empty() {
-        word.push_str(EMPTY)?;
-    } else {
-        push_bytes(&mut word, text)?;
+        return String::from_str(alloc, EMPTY);
     }
+    let mut word = String::new(alloc);
+    push_bytes(&mut word, text)?;
     Ok(word)
 }
 
