@@ -49,11 +49,11 @@ impl<'a> Actions<'a> {
         Actions { machine }
     }
 
-    /// The next action, and none where all were told.
+    /// The next action, or `None` if all were told.
     ///
     /// # Errors
     ///
-    /// [`Fault::UnknownNumber`] alone, where the library is of another version than this crate.
+    /// [`Fault::UnknownNumber`] alone, if the library is of another version than this crate.
     #[allow(clippy::should_implement_trait)] // an iterator can't lend
     pub fn next(&mut self) -> Result<Option<Action<'_>>, Fault> {
         let Machine { handle, told, .. } = &mut *self.machine;
@@ -226,7 +226,7 @@ pub enum Action<'a> {
     Credential {
         /// Its place among those that were handed in, from 0 on.
         place: usize,
-        /// 0 where the server accepts it.
+        /// 0 if the server accepts it.
         code: Code,
     },
 }

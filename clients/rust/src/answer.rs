@@ -18,7 +18,7 @@ use std::mem;
 pub(crate) struct Answer {
     /// The zxid at which it holds.
     pub(crate) zxid: i64,
-    /// What is known of the node: zeros where the call does not ask for that.
+    /// What is known of the node: zeros if the call does not ask for that.
     pub(crate) stat: Stat,
     pub(crate) content: Content,
 }
@@ -80,7 +80,7 @@ impl Content {
         }
     }
 
-    /// The data, and none where they are null.
+    /// The data, or `None` if they are null.
     pub(crate) fn data(self) -> Option<Vec<u8>> {
         match self {
             Content::Data(data) => Some(data),

@@ -39,7 +39,7 @@ impl<'a> Barrier<'a> {
         }
     }
 
-    /// Puts the barrier up, where it is not. The nodes above it are made where they are not there.
+    /// Puts the barrier up, if it is not. The nodes above it are made if they are not there.
     ///
     /// # Errors
     ///
@@ -48,7 +48,7 @@ impl<'a> Barrier<'a> {
         self.session.ensure_path(&self.path)
     }
 
-    /// Takes the barrier away: whether it was there. Where an answer was lost, it may have been.
+    /// Takes the barrier away: whether it was there. If an answer was lost, it may have been.
     ///
     /// # Errors
     ///

@@ -7,7 +7,7 @@ use crate::numbers::kept;
 
 pub use crate::numbers::Mark;
 
-/// The mark of a number, and none where nothing is kept.
+/// The mark of a number, or `None` if nothing is kept.
 pub(crate) fn mark_of(number: i32) -> Result<Option<Mark>, UnknownNumber> {
     (number != 0).then(|| Mark::try_from(number)).transpose()
 }
@@ -66,7 +66,7 @@ pub enum DataAnswer {
     Known(DataStat),
     /// There is a node with these data.
     Full {
-        /// The data: none where they are null, which is another thing than no bytes.
+        /// The data: `None` if they are null, which is another thing than no bytes.
         data: Option<Vec<u8>>,
         /// The rest of what is known of the node.
         stat: DataStat,

@@ -15,7 +15,7 @@ pub(crate) struct Chroot {
 }
 
 impl Chroot {
-    /// The chroot of the end of a connection string: nothing, `/`, or a path. None where it is no path.
+    /// The chroot of the end of a connection string: nothing, `/`, or a path. `None` if it is no path.
     pub(crate) fn of(text: &str) -> Option<Chroot> {
         let prefix = String::from(if text == "/" { "" } else { text });
         let mut parts = prefix.split('/');
@@ -69,7 +69,7 @@ impl Chroot {
         }
     }
 
-    /// The same, of a path with which others begin: those of all nodes of the program where it is `/`.
+    /// The same, of a path with which others begin: those of all nodes of the program if it is `/`.
     pub(crate) fn checked_prefix(&self, path: &str) -> Result<String, Fault> {
         let outer = self.checked(path)?.into_owned();
         Ok(if path == "/" && outer != "/" {

@@ -62,7 +62,7 @@ pub trait Incoming: Send {
     ///
     /// # Errors
     ///
-    /// [`ErrorKind::WouldBlock`], [`ErrorKind::TimedOut`] or [`ErrorKind::Interrupted`] where nothing came in time; with another kind the
+    /// [`ErrorKind::WouldBlock`], [`ErrorKind::TimedOut`] or [`ErrorKind::Interrupted`] if nothing came in time; with another kind the
     /// connection is over.
     fn read(&mut self, room: &mut [u8], wait: Duration) -> io::Result<usize>;
 }
@@ -93,11 +93,11 @@ pub trait Incoming: Send {
 /// ```
 pub trait Outgoing: Send {
     /// Waits until there is room, for so long at most, and writes as many bytes as there is room for. The rest is handed in again; so are
-    /// the same bytes where there was no room in time.
+    /// the same bytes if there was no room in time.
     ///
     /// # Errors
     ///
-    /// [`ErrorKind::WouldBlock`], [`ErrorKind::TimedOut`] or [`ErrorKind::Interrupted`] where there was no room in time; with another
+    /// [`ErrorKind::WouldBlock`], [`ErrorKind::TimedOut`] or [`ErrorKind::Interrupted`] if there was no room in time; with another
     /// kind, and with `Ok(0)`, the connection is over.
     fn write(&mut self, bytes: &[u8], wait: Duration) -> io::Result<usize>;
 
@@ -268,7 +268,7 @@ impl Outgoing for TcpStream {
     }
 
     fn close(&mut self) {
-        // It fails where the server has closed it already.
+        // It fails if the server has closed it already.
         let _ = self.shutdown(Shutdown::Both);
     }
 }

@@ -5,10 +5,10 @@ use crate::fault::Code;
 use crate::request::Request;
 use crate::session::Session;
 
-/// A whole number that is changed by compare and set, by the node of kazoo's `Counter`, which is made where it is not there.
+/// A whole number that is changed by compare and set, by the node of kazoo's `Counter`, which is made if it is not there.
 ///
 /// Each change happens once, whoever else changes the number. Where the answer to one is lost it is looked for: if it has not happened, it
-/// is asked again; where that can not be told, the error [may have happened](Error::may_have_happened).
+/// is asked again; if that can not be told, the error [may have happened](Error::may_have_happened).
 ///
 /// ```no_run
 /// use dirwolleu::{Counter, Session};
@@ -39,7 +39,7 @@ impl<'a> Counter<'a> {
         }
     }
 
-    /// The number: 0 where the node has no data, or is not there.
+    /// The number: 0 if the node has no data, or is not there.
     ///
     /// # Errors
     ///
@@ -52,12 +52,12 @@ impl<'a> Counter<'a> {
     ///
     /// # Errors
     ///
-    /// As [`change`](Counter::change); [`ErrorKind::NotNumber`] too where the sum does not fit, and then nothing is changed.
+    /// As [`change`](Counter::change); [`ErrorKind::NotNumber`] too if the sum does not fit, and then nothing is changed.
     pub fn add(&self, number: i64) -> Result<i64, Error> {
         self.change_to(|before| before.checked_add(number))
     }
 
-    /// Sets the number to what a function makes of it, and gives that. The function is called again where another client was first.
+    /// Sets the number to what a function makes of it, and gives that. The function is called again if another client was first.
     ///
     /// # Errors
     ///
@@ -70,7 +70,7 @@ impl<'a> Counter<'a> {
         Error::about(Some(&self.path), ErrorKind::NotNumber)
     }
 
-    /// The number, and the version of the node, which is made where there is none.
+    /// The number, and the version of the node, which is made if there is none.
     fn read(&self) -> Result<(i64, i32), Error> {
         loop {
             let node = match self.session.get(&self.path) {

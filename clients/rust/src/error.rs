@@ -71,7 +71,7 @@ impl ErrorKind {
         )
     }
 
-    /// Whether the same read may be answered later: [`Code::is_passing`], and where the connection was lost, there is none, too much
+    /// Whether the same read may be answered later: [`Code::is_passing`], and if the connection was lost, there is none, too much
     /// waits, or a limit has passed. An expired session is no such kind: it is to be renewed.
     pub fn is_passing(&self) -> bool {
         match self {
@@ -94,7 +94,7 @@ impl ErrorKind {
         }
     }
 
-    /// What to do. Nothing where the reason says it.
+    /// What to do. Nothing if the reason says it.
     fn advice(&self) -> &'static str {
         match self {
             ErrorKind::Server(code) | ErrorKind::RolledBack { code, .. } => code.advice(),
@@ -189,7 +189,7 @@ pub(crate) fn refused_of_create(code: Code, path: &str) -> &str {
 
 /// Why a call of a [`Session`](crate::Session) does not give what was asked, and the path of the node that it was about.
 ///
-/// It prints the reason, the path, and what to do where the reason does not say it, on one line: `no node: /nope`,
+/// It prints the reason, the path, and what to do if the reason does not say it, on one line: `no node: /nope`,
 /// `/a//b is no path: an empty name`, `no server of zk1:2181 accepted the session in 3 s; last: 10.0.0.1:2181: connection refused`. So does
 /// its `Debug`, which a `main` prints that returns it.
 ///
@@ -243,7 +243,7 @@ impl Error {
         self
     }
 
-    /// The same error, of a create: where the parent is the reason, about the parent.
+    /// The same error, of a create: if the parent is the reason, about the parent.
     pub(crate) fn of_create(mut self) -> Error {
         if let (Some(code), Some(path)) = (self.code(), &self.path) {
             self.path = Some(String::from(refused_of_create(code, path)));
@@ -261,13 +261,13 @@ impl Error {
         self.kind
     }
 
-    /// The path of the node that the call was about; of a create that its parent prevents, the path of the parent. None where a call is
+    /// The path of the node that the call was about; of a create that its parent prevents, the path of the parent. `None` if a call is
     /// about no node.
     pub fn path(&self) -> Option<&str> {
         self.path.as_deref()
     }
 
-    /// The reason of the server, where it has refused the call.
+    /// The reason of the server, if it has refused the call.
     pub fn code(&self) -> Option<Code> {
         match self.kind {
             ErrorKind::Server(code) => Some(code),
@@ -275,7 +275,7 @@ impl Error {
         }
     }
 
-    /// Why there is no reply, where there is none.
+    /// Why there is no reply, if there is none.
     pub fn no_reply(&self) -> Option<NoReply> {
         match self.kind {
             ErrorKind::NoReply(reason) => Some(reason),

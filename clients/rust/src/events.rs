@@ -78,7 +78,7 @@ impl Events {
     }
 
     /// The next event, as [`Session::next_event`](crate::Session::next_event): none once the session has expired or is closed, and no event
-    /// waits. Where none waits, the waker of this context is woken when there may be one. It is the session's thread that wakes it, so it
+    /// waits. If none waits, the waker of this context is woken when there may be one. It is the session's thread that wakes it, so it
     /// serves under each runtime, or without one.
     ///
     /// ```no_run

@@ -77,7 +77,7 @@ pub enum Fault {
     NotPath {
         /// The text.
         path: String,
-        /// Why it is none. None where this crate sees no reason, and the library does.
+        /// Why it is none. `None` if this crate sees no reason, and the library does.
         reason: Option<PathFault>,
     },
     /// The timeout is not 1 to 2,147,483,647 milliseconds.
@@ -128,7 +128,7 @@ impl Fault {
         }
     }
 
-    /// The number that the library has for it. It has none where it is of another version, or the fault is not its own.
+    /// The number that the library has for it. It has none if it is of another version, or the fault is not its own.
     fn number(&self) -> Option<i32> {
         Some(match self {
             Fault::Halted => result::HALTED,
@@ -157,7 +157,7 @@ impl Fault {
         }
     }
 
-    /// What to do. Nothing where the reason says it.
+    /// What to do. Nothing if the reason says it.
     pub(crate) fn advice(&self) -> &'static str {
         match (self, self.number()) {
             (_, Some(number)) => advice::result(number),
@@ -173,7 +173,7 @@ impl Fault {
     }
 }
 
-/// It prints the reason, the path where it has one, and what to do: `/a//b is no path: an empty name`.
+/// It prints the reason, the path if it has one, and what to do: `/a//b is no path: an empty name`.
 impl fmt::Display for Fault {
     fn fmt(&self, f: &mut fmt::Formatter<'_>) -> fmt::Result {
         match self {
@@ -227,7 +227,7 @@ pub(crate) fn done_at(path: &str, code: i32) -> Result<(), Fault> {
     Err(fault_at(path, code))
 }
 
-/// The same where there is no path.
+/// The same if there is no path.
 #[inline]
 pub(crate) fn done(code: i32) -> Result<(), Fault> {
     done_at("", code)
@@ -288,13 +288,13 @@ impl Code {
         )
     }
 
-    /// What to do. Nothing where the reason says it.
+    /// What to do. Nothing if the reason says it.
     pub(crate) fn advice(self) -> &'static str {
         advice::code(self.0)
     }
 }
 
-/// The reason in words, or the number where this crate has no words for it.
+/// The reason in words, or the number if this crate has no words for it.
 impl fmt::Display for Code {
     fn fmt(&self, f: &mut fmt::Formatter<'_>) -> fmt::Result {
         match words::code(self.0) {

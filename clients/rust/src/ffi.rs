@@ -172,7 +172,7 @@ impl Drop for Handle {
     }
 }
 
-/// Fails where the library is not of the version that this crate was written for.
+/// Fails if the library is not of the version that this crate was written for.
 fn check_version() -> Result<(), Fault> {
     // SAFETY: it has no argument, and answers a constant.
     let library = unsafe { dw_version() };
@@ -303,7 +303,7 @@ impl Handle {
         done(unsafe { dw_session_close(self.pointer(), now, call.ticket, until) })
     }
 
-    /// Writes the next output of the last step there, and tells whether there was one: none where all were told.
+    /// Writes the next output of the last step there, and tells whether there was one: false if all were told.
     pub(crate) fn next(&mut self, output: &mut Output) -> Result<bool, Fault> {
         // SAFETY: as `Handle` says.
         let code = unsafe { dw_session_next(self.pointer(), output) };
@@ -385,7 +385,7 @@ impl Handle {
         unsafe { dw_session_forget(self.pointer()) };
     }
 
-    /// The moment that this function of the library tells, where there is one.
+    /// The moment that this function of the library tells, if there is one.
     fn moment_by(&self, look: LookOut) -> Option<Moment> {
         let mut millis = 0;
         // SAFETY: as `Handle` says.
@@ -654,7 +654,7 @@ impl Handle {
         done(unsafe { dw_session_give_up(self.pointer(), now.as_millis(), ticket) })
     }
 
-    /// The token by which a contender holds, where it does.
+    /// The token by which a contender holds, if it does.
     pub(crate) fn held(&self, ticket: u64) -> Option<i64> {
         let mut token = 0;
         // SAFETY: as `Handle` says.
@@ -662,7 +662,7 @@ impl Handle {
         (code == result::OK).then_some(token)
     }
 
-    /// Copies the path of the place of a contender, and tells how many bytes it has: 0 where it is not known.
+    /// Copies the path of the place of a contender, and tells how many bytes it has: 0 if it is not known.
     pub(crate) fn place(&self, ticket: u64, room: &mut [u8]) -> usize {
         let mut count = 0;
         let (out, room) = (room.as_mut_ptr(), room.len());
@@ -671,7 +671,7 @@ impl Handle {
         count
     }
 
-    /// When the server was heard last, where it was.
+    /// When the server was heard last, if it was.
     pub(crate) fn heard_at(&self) -> Option<Moment> {
         self.moment_by(dw_session_heard_at)
     }

@@ -27,7 +27,7 @@ use std::task::{Context, Poll};
 /// ```
 #[derive(Clone, Debug, PartialEq, Eq)]
 pub struct KeptNode {
-    /// The data: none where they are null, which is another thing than no bytes.
+    /// The data: `None` if they are null, which is another thing than no bytes.
     pub data: Option<Vec<u8>>,
     /// What is known of the node, and changes with its data alone.
     pub stat: DataStat,
@@ -36,7 +36,7 @@ pub struct KeptNode {
 /// What is told of a node.
 type FollowedNode = Result<Option<KeptNode>, Error>;
 
-/// What a node holds, at first and at each change, and none where there is no node: of [`Session::follow`]. It is an iterator, which
+/// What a node holds, at first and at each change, or `None` if there is no node: of [`Session::follow`]. It is an iterator, which
 /// waits, and by [`poll_next`](Follow::poll_next) a stream of no runtime. The node is followed until this is dropped.
 ///
 /// ```no_run
@@ -73,7 +73,7 @@ impl<'a> Follow<'a> {
         }
     }
 
-    /// The ticket by which the node is followed, from the first time on that this is asked. Where it can't be, it is over.
+    /// The ticket by which the node is followed, from the first time on that this is asked. If it can't be, it is over.
     fn begin(&mut self) -> Result<u64, Error> {
         if let Some(ticket) = self.ticket {
             return Ok(ticket);
@@ -84,7 +84,7 @@ impl<'a> Follow<'a> {
         followed.map_err(|fault| Error::about(Some(&self.path), fault.into()))
     }
 
-    /// What is new of the node of this ticket, where something is; why the session is over, or none where it is closed.
+    /// What is new of the node of this ticket, if something is; why the session is over, or `None` if it is closed.
     fn take(&mut self, ticket: u64, engine: &mut Engine) -> Poll<Option<FollowedNode>> {
         let about = |kind| Error::about(Some(&self.path), kind);
         if let Some(found) = engine.take_update(ticket) {
@@ -97,7 +97,7 @@ impl<'a> Follow<'a> {
         Poll::Ready(engine.fault_of_end().map(|kind| Err(about(kind))))
     }
 
-    /// What the node holds, where it is another thing than before; none where the session is closed. Else the waker of this context is woken
+    /// What the node holds, if it is another thing than before; `None` if the session is closed. Else the waker of this context is woken
     /// when it is to be polled again: by the thread of the session, so it serves under each runtime, or without one.
     ///
     /// ```no_run

@@ -31,7 +31,7 @@ pub(crate) struct Host {
 
 /// The hosts of an ensemble, and the path below which a session has its nodes: what ZooKeeper calls a connection string.
 ///
-/// It is a list of `HOST:PORT`, of which the port may be left out where it is 2181, and an IPv6 address is in brackets. A path after the
+/// It is a list of `HOST:PORT`, of which the port may be left out if it is 2181, and an IPv6 address is in brackets. A path after the
 /// list is the chroot: the paths that a program names, and those that it is told, begin there. It has to be there at the servers.
 ///
 /// A name is looked up at each attempt to connect to it. [`Session::open`](crate::Session::open) takes a text as it is; addresses do too.
@@ -87,7 +87,7 @@ impl From<Infallible> for HostsFault {
 }
 
 impl Host {
-    /// The host of a text. None where it is none.
+    /// The host of a text. `None` if it is none.
     fn of(text: &str) -> Option<Host> {
         let (name, port) = match text.strip_prefix('[') {
             Some(rest) => rest.split_once(']')?,
@@ -124,7 +124,7 @@ impl fmt::Display for Host {
 }
 
 impl Hosts {
-    /// The path below which a session has its nodes, and nothing where it has all.
+    /// The path below which a session has its nodes, and nothing if it has all.
     pub fn chroot(&self) -> &str {
         self.chroot.as_str()
     }
@@ -238,7 +238,7 @@ pub(crate) enum DialOrder {
 }
 
 /// Which host is at which place. The machine wants those first that were listed before; it names places in a random order, one after the
-/// other, and always in the same one. So where the hosts are to be dialled as the list has them, each place gets the next host when it is
+/// other, and always in the same one. So if the hosts are to be dialled as the list has them, each place gets the next host when it is
 /// named first.
 #[derive(Debug)]
 pub(crate) struct Places {
@@ -288,7 +288,7 @@ impl Places {
     }
 }
 
-/// The addresses of hosts. Where a name has several, each is dialled in turn.
+/// The addresses of hosts. If a name has several, each is dialled in turn.
 #[derive(Debug)]
 pub(crate) struct Addresses {
     order: DialOrder,

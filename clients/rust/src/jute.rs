@@ -77,7 +77,7 @@ impl Writer {
     }
 }
 
-/// Reads fields, one after the other. None where there is no such field.
+/// Reads fields, one after the other. `None` if there is no such field.
 pub(crate) struct Reader<'a> {
     bytes: &'a [u8],
 }
@@ -162,7 +162,7 @@ impl<'a> Reader<'a> {
         })
     }
 
-    /// The result of an operation, which `read` reads where the number of its `MultiHeader` is this one, or the code with which it was refused.
+    /// The result of an operation, which `read` reads if the number of its `MultiHeader` is this one, or the code with which it was refused.
     pub(crate) fn multi_result<T>(
         &mut self,
         number: i32,

@@ -11,7 +11,7 @@
 //! let session = SessionOptions::new(Duration::from_secs(10)).renews(true).open("127.0.0.1:2181")?;
 //! for node in session.follow("/config") {
 //!     match node {
-//!         Ok(node) => println!("{:?}", node.map(|node| node.data)), // none where there is no node
+//!         Ok(node) => println!("{:?}", node.map(|node| node.data)), // none if there is no node
 //!         Err(error) => eprintln!("{error}"),                       // it is read again
 //!     }
 //! }

@@ -83,7 +83,7 @@ impl LocalLock {
     /// # Errors
     ///
     /// Why it is given up: [`ErrorKind::LockLost`](crate::ErrorKind::LockLost),
-    /// [`ErrorKind::MixedNames`](crate::ErrorKind::MixedNames) where a place has other names,
+    /// [`ErrorKind::MixedNames`](crate::ErrorKind::MixedNames) if a place has other names,
     /// [`ErrorKind::NumbersUsedUp`](crate::ErrorKind::NumbersUsedUp), those of calls that do not pass, and why the session is over.
     pub fn held(&self) -> Result<Option<i64>, Error> {
         let held = self.look(|engine| engine.look_for_token(self.ticket));
@@ -111,7 +111,7 @@ impl LocalLock {
             .unwrap_or(false)
     }
 
-    /// The path of its place, and none where that is not known: [`exists`](LocalSession::exists) of it asks a server.
+    /// The path of its place, or `None` if that is not known: [`exists`](LocalSession::exists) of it asks a server.
     #[must_use]
     pub fn place(&self) -> Option<String> {
         self.look(|engine| engine.place(self.ticket)).flatten()

@@ -41,7 +41,7 @@ const PATIENCE: Duration = Duration::from_secs(1);
 pub enum Sharing {
     /// With nobody: kazoo's `Lock`, Curator's `InterProcessMutex`.
     Exclusive,
-    /// With nobody, where others share it: kazoo's `WriteLock`, the writing half of Curator's `InterProcessReadWriteLock`.
+    /// With nobody, in a lock that others share: kazoo's `WriteLock`, the writing half of Curator's `InterProcessReadWriteLock`.
     Writing,
     /// With others that share it: kazoo's `ReadLock`, the reading half of Curator's `InterProcessReadWriteLock`.
     Shared,
@@ -63,7 +63,7 @@ pub enum Sharing {
 /// ```
 #[derive(Clone, Copy, Debug, Default, PartialEq, Eq, Hash)]
 pub enum LockNames {
-    /// Those of kazoo, and of the clients of this library for C and Python where nothing else is said.
+    /// Those of kazoo, and of the clients of this library for C and Python if nothing else is said.
     #[default]
     Kazoo,
     /// Those of Curator.
@@ -103,7 +103,7 @@ fn new_guid(naming: Naming) -> String {
     }
 }
 
-/// How a lock is taken, where [`Lock::acquire`] does not do.
+/// How a lock is taken, if [`Lock::acquire`] does not do.
 ///
 /// ```no_run
 /// use dirwolleu::{LockNames, LockOptions, Session, Sharing};
@@ -179,14 +179,14 @@ impl<'d> LockOptions<'d> {
             .and_then(|limit| Instant::now().checked_add(limit))
     }
 
-    /// Waits until the lock is held. The node of the lock is made where it is not there. A place that is taken away, or has gone with a session
+    /// Waits until the lock is held. The node of the lock is made if it is not there. A place that is taken away, or has gone with a session
     /// that renews itself, is made again.
     ///
     /// # Errors
     ///
-    /// [`ErrorKind::LockTimeout`] where it is not held in time, [`ErrorKind::MixedNames`] where a place has other names,
+    /// [`ErrorKind::LockTimeout`] if it is not held in time, [`ErrorKind::MixedNames`] if a place has other names,
     /// [`ErrorKind::NumbersUsedUp`], those of calls that do not pass, and why the session is over. The contender is given up then, and the
-    /// session deletes its place, on the next connection where that is needed.
+    /// session deletes its place, on the next connection if that is needed.
     pub fn acquire<'s>(self, session: &'s Session, path: &str) -> Result<Lock<'s>, Error> {
         let until = self.until();
         self.contend(session, path)?.wait_until(until)
@@ -215,7 +215,7 @@ impl<'d> LockOptions<'d> {
         contending.wait_until(Some(Instant::now())).map(Some)
     }
 
-    /// Contends for the lock, and does not wait: what this gives is a future of no runtime. It is given up where that is dropped, and
+    /// Contends for the lock, and does not wait: what this gives is a future of no runtime. It is given up when that is dropped, and
     /// [`within`](LockOptions::within) says nothing.
     ///
     /// ```no_run
@@ -261,7 +261,7 @@ impl<'d> LockOptions<'d> {
     }
 }
 
-/// A contender of a session, which is given up where this is dropped.
+/// A contender of a session, which is given up when this is dropped.
 #[derive(Debug)]
 struct Stake<'s> {
     session: &'s Session,
@@ -276,7 +276,7 @@ impl<'s> Stake<'s> {
         }
     }
 
-    /// The same contender, which is given up where that is dropped, and no longer where this is.
+    /// The same contender, which is given up when that is dropped, and no longer when this is.
     fn hand_on(&mut self) -> Stake<'s> {
         Stake {
             session: self.session,
@@ -410,7 +410,7 @@ impl<'a> Lock<'a> {
         }
     }
 
-    /// Waits until the lock is held, by the names of kazoo. [`LockOptions`] takes one otherwise. The node of the lock is made where it is
+    /// Waits until the lock is held, by the names of kazoo. [`LockOptions`] takes one otherwise. The node of the lock is made if it is
     /// not there, and its places have these data.
     ///
     /// # Errors
@@ -476,7 +476,7 @@ impl<'a> Lock<'a> {
     ///
     /// # Errors
     ///
-    /// Why the node is left, whose path the error has: [`ErrorKind::TimedOut`] where the servers were not reached; or why they refuse it. The
+    /// Why the node is left, whose path the error has: [`ErrorKind::TimedOut`] if the servers were not reached; or why they refuse it. The
     /// session deletes it still, and it goes with the session at the latest.
     pub fn release(mut self) -> Result<(), Error> {
         let (session, ticket) = (self.stake.session, self.stake.ticket);
@@ -546,7 +546,7 @@ const OF_CANDIDATES: Markers<'_> = Markers {
 const AFTER_ALL: &str = "__lock__9999999999";
 
 impl<'a> Election<'a> {
-    /// The election at this node, which is made where it is not there, by the names of kazoo.
+    /// The election at this node, which is made if it is not there, by the names of kazoo.
     #[must_use]
     pub fn new(session: &'a Session, path: &str) -> Election<'a> {
         Election {
@@ -604,7 +604,7 @@ impl<'a> Election<'a> {
         }
     }
 
-    /// What the one that leads has said of itself, and none where there is no candidate.
+    /// What the one that leads has said of itself, or `None` if there is no candidate.
     ///
     /// # Errors
     ///

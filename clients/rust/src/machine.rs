@@ -30,11 +30,11 @@ impl State {
 /// addresses, and decides nothing: it hands in what happened, does what the [`Actions`] say, and wakes at the latest at the
 /// [`deadline`](Machine::deadline). [`Session`](crate::Session) is such a program.
 ///
-/// It gives a connection up on which nothing at all is heard for two thirds of the timeout, and where a call or a ping has no answer for as
+/// It gives a connection up on which nothing at all is heard for two thirds of the timeout, and if a call or a ping has no answer for as
 /// long, and for a second at least, whatever else the server sends.
 ///
-/// Each step forgets the actions of the step before. It fails with [`Fault::Halted`] where memory ran out within it: then
-/// [`resume`](Machine::resume) what it has [`saved`](Machine::saved). It fails with [`Fault::UnknownNumber`] where the library is of
+/// Each step forgets the actions of the step before. It fails with [`Fault::Halted`] if memory ran out within it: then
+/// [`resume`](Machine::resume) what it has [`saved`](Machine::saved). It fails with [`Fault::UnknownNumber`] if the library is of
 /// another version than this crate, and with the faults that it names besides; these leave the machine as it was.
 ///
 /// A machine may be moved, and handed to another thread. It is used by one thread at a time:
@@ -112,7 +112,7 @@ impl Machine {
     ///
     /// # Errors
     ///
-    /// [`Fault::BadTimeout`], [`Fault::NoMemory`], [`Fault::UnknownNumber`], and [`Fault::OtherVersion`] where the library that is linked
+    /// [`Fault::BadTimeout`], [`Fault::NoMemory`], [`Fault::UnknownNumber`], and [`Fault::OtherVersion`] if the library that is linked
     /// is not this crate's.
     pub fn open(timeout: Duration, addresses: usize, seed: u64) -> Result<Machine, Fault> {
         Machine::open_with_limits(timeout, addresses, seed, Limits::default())
@@ -223,7 +223,7 @@ impl Machine {
         })
     }
 
-    /// Takes a step. The state is noted, also where the step has failed.
+    /// Takes a step. The state is noted, even if the step has failed.
     #[inline]
     fn step(
         &mut self,
@@ -300,9 +300,9 @@ impl Machine {
         self.step(|handle| handle.unfollow(now, ticket))
     }
 
-    /// Follows all nodes at and below a path, of which no more are taken on where there are more than `most`. The data of its root have the
+    /// Follows all nodes at and below a path, of which no more are taken on if there are more than `most`. The data of its root have the
     /// ticket, and all else has tickets from 2^63 on, which are used for nothing else. What becomes of it is told by
-    /// [`Action::MemberAdded`](crate::Action::MemberAdded) and those after it. Where there is no root, that is [shown](crate::Action::Shown), and
+    /// [`Action::MemberAdded`](crate::Action::MemberAdded) and those after it. If there is no root, that is [shown](crate::Action::Shown), and
     /// its making is waited for.
     ///
     /// # Errors
@@ -319,7 +319,7 @@ impl Machine {
         self.step(|handle| handle.follow_tree(call, most))
     }
 
-    /// The tree of this ticket is followed no more, nor is any node that was taken on for it. Where there is none, the moment alone is
+    /// The tree of this ticket is followed no more, nor is any node that was taken on for it. If there is none, the moment alone is
     /// noticed.
     ///
     /// # Errors
@@ -349,7 +349,7 @@ impl Machine {
     ///
     /// # Errors
     ///
-    /// [`Fault::NotPath`], also where no place in the directory has a path, and [`Fault::NoMemory`]: then nothing has happened.
+    /// [`Fault::NotPath`], also if no place in the directory has a path, and [`Fault::NoMemory`]: then nothing has happened.
     /// [`Fault::Halted`] and [`Fault::UnknownNumber`].
     pub fn contend(
         &mut self,
@@ -361,7 +361,7 @@ impl Machine {
     }
 
     /// The contender of this ticket is given up: its places are deleted, through any number of connections, and
-    /// [`Action::GivenUp`](crate::Action::GivenUp) is told once none is left. Where there is no such contender, the moment alone is noticed.
+    /// [`Action::GivenUp`](crate::Action::GivenUp) is told once none is left. If there is no such contender, the moment alone is noticed.
     ///
     /// # Errors
     ///
@@ -370,7 +370,7 @@ impl Machine {
         self.step(|handle| handle.give_up(now, ticket))
     }
 
-    /// Introduces the session by a credential, of a scheme as `digest` and a secret as `user:password`: at once where there is a
+    /// Introduces the session by a credential, of a scheme as `digest` and a secret as `user:password`: at once if there is a
     /// connection, and on each later one right after the request that opens it, in the order in which credentials were handed in. What a
     /// server says of it is told by [`Action::Credential`](crate::Action::Credential). Two equal ones are two. The machine keeps it for as
     /// long as it lives, and overwrites it then. The bytes of the secret are in the frames that are said, too.
@@ -394,7 +394,7 @@ impl Machine {
     }
 }
 
-/// A call, which waits to the last moment of all where it has no limit.
+/// A call, which waits to the last moment of all if it has no limit.
 fn call(now: Moment, ticket: u64, until: Option<Moment>, path: &str) -> Call<'_> {
     let until = until.unwrap_or(Moment::from_millis(u64::MAX));
     Call {
@@ -429,7 +429,7 @@ macro_rules! calls {
 }
 
 /// Steps: calls. Each waits in one line until a server has accepted the connection and fewer than 1,024 are on their way, until a moment at
-/// most, where there is one. It is answered once, or times out once. A read that is lost with its connection is asked again, in its place;
+/// most, if there is one. It is answered once, or times out once. A read that is lost with its connection is asked again, in its place;
 /// a write is answered [`ConnectionLoss`](crate::NoReply::ConnectionLoss). No other call or subject has or had the ticket. What is to be
 /// kept good is [followed](Machine::follow).
 impl Machine {
@@ -437,10 +437,10 @@ impl Machine {
         /// Asks whether there is a node, and what is known of it.
         exists(watch: Watch);
 
-        /// Asks for the data of a node. Where there is no node it leaves no watch: [`exists`](Self::exists) does.
+        /// Asks for the data of a node. If there is no node it leaves no watch: [`exists`](Self::exists) does.
         get_data(watch: Watch);
 
-        /// Asks for the names of the children of a node. Where there is no node it leaves no watch.
+        /// Asks for the names of the children of a node. If there is no node it leaves no watch.
         get_children(watch: Watch);
 
         /// Asks to set the data of a node: none are null data. The version is the one that the node has to have, or

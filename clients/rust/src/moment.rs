@@ -42,18 +42,18 @@ impl Moment {
         self.0
     }
 
-    /// The moment that is so much later, in whole milliseconds, and the last one there is where it would be after that.
+    /// The moment that is so much later, in whole milliseconds, and the last one there is if it would be after that.
     #[must_use]
     pub fn saturating_add(self, duration: Duration) -> Moment {
         Moment(self.0.saturating_add(millis(duration)))
     }
 
-    /// The moment a millisecond before it, and the first one where there is none.
+    /// The moment a millisecond before it, and the first one if there is none.
     pub(crate) const fn before(self) -> Moment {
         Moment(self.0.saturating_sub(1))
     }
 
-    /// How long it is after another moment: zero where it is not after it.
+    /// How long it is after another moment: zero if it is not after it.
     pub const fn saturating_duration_since(self, earlier: Moment) -> Duration {
         Duration::from_millis(self.0.saturating_sub(earlier.0))
     }

@@ -77,7 +77,7 @@ pub(crate) fn spell(reads: &[Read], spelled: &mut Writer, root: &Chroot) -> Resu
     Ok(())
 }
 
-/// What each has brought, or with which code it was refused. None where that does not read.
+/// What each has brought, or with which code it was refused. `None` if that does not read.
 pub(crate) fn read(
     reads: &[Read],
     reply: &mut Reader<'_>,

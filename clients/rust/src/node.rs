@@ -24,7 +24,7 @@ pub struct Stat {
     pub ctime: i64,
     /// When its data were changed last, in milliseconds since 1970, by the server's clock.
     pub mtime: i64,
-    /// The session with which the node goes, and 0 where it is not ephemeral.
+    /// The session with which the node goes, and 0 if it is not ephemeral.
     pub ephemeral_owner: i64,
     /// The zxid of the transaction that changed the set of its children last.
     pub pzxid: i64,
@@ -40,7 +40,7 @@ pub struct Stat {
     pub num_children: i32,
 }
 
-/// The fields of a [`Stat`] that change only where a watch on the data fires: those that are kept.
+/// The fields of a [`Stat`] that change only if a watch on the data fires: those that are kept.
 ///
 /// ```
 /// use dirwolleu::{DataAnswer, DataStat};
@@ -63,7 +63,7 @@ pub struct DataStat {
     pub ctime: i64,
     /// When its data were changed last, in milliseconds since 1970, by the server's clock.
     pub mtime: i64,
-    /// The session with which the node goes, and 0 where it is not ephemeral.
+    /// The session with which the node goes, and 0 if it is not ephemeral.
     pub ephemeral_owner: i64,
     /// How often its data were changed.
     pub version: i32,
@@ -84,7 +84,7 @@ pub struct DataStat {
 /// ```
 #[derive(Clone, Debug, PartialEq, Eq)]
 pub struct Node {
-    /// The data: none where they are null, which is another thing than no bytes.
+    /// The data: `None` if they are null, which is another thing than no bytes.
     pub data: Option<Vec<u8>>,
     /// The rest of what is known of it.
     pub stat: Stat,

@@ -57,7 +57,7 @@ impl Held {
         self.waiting() == 0 && !self.is_over
     }
 
-    /// How the writes have ended where something is left to be done, unless this thread writes on.
+    /// How the writes have ended if something is left to be done, unless this thread writes on.
     #[cold]
     fn written(&mut self, writer: Writer, done: io::Result<()>, is_last: bool) -> Option<Written> {
         let is_full = done.is_err() || self.left > 0 || is_last;
@@ -128,7 +128,7 @@ impl Outbox {
         self.held.lock().unwrap_or_else(PoisonError::into_inner)
     }
 
-    /// These frames are to be written, after those that wait. They are copied only where some do. How many bytes wait then.
+    /// These frames are to be written, after those that wait. They are copied only if some do. How many bytes wait then.
     #[inline]
     pub(crate) fn put(&self, frames: &mut Vec<u8>) -> usize {
         let mut held = self.held();
@@ -166,7 +166,7 @@ impl Outbox {
         }
     }
 
-    /// Takes what is to be written, where nobody else writes.
+    /// Takes what is to be written, if nobody else writes.
     fn begin(&self, writer: Writer) -> Option<Box<Line>> {
         let mut held = self.held();
         if held.is_helped && writer != Writer::Helper {

@@ -86,7 +86,7 @@ pub enum Brought<'a> {
     Stat(Stat),
     /// To [`get_data`](crate::Machine::get_data).
     Data {
-        /// The data: none where they are null, which is another thing than no bytes.
+        /// The data: `None` if they are null, which is another thing than no bytes.
         data: Option<Bytes<'a>>,
         /// What is known of the node.
         stat: Stat,
@@ -98,7 +98,7 @@ pub enum Brought<'a> {
         /// What is known of the node.
         stat: Stat,
     },
-    /// To [`create`](crate::Machine::create): the path of the node, which ends in ten digits more where it is sequential.
+    /// To [`create`](crate::Machine::create): the path of the node, which ends in ten digits more if it is sequential.
     Created(Text<'a>),
     /// To [`delete`](crate::Machine::delete) and [`close_session`](crate::Machine::close_session): it is done.
     Done,
@@ -317,7 +317,7 @@ impl<'a> Names<'a> {
     ///
     /// # Errors
     ///
-    /// [`Fault::NoMemory`] where the library has no memory for them.
+    /// [`Fault::NoMemory`] if the library has no memory for them.
     pub fn to_vec(&self) -> Result<Vec<String>, Fault> {
         Ok(self.spelled()?.texts())
     }
@@ -427,7 +427,7 @@ impl GivenUp<'_> {
     ///
     /// # Errors
     ///
-    /// [`Fault::NoMemory`] where there is no memory for them.
+    /// [`Fault::NoMemory`] if there is no memory for them.
     pub fn words(&self) -> Result<String, Fault> {
         let handle = self.code.bytes.handle;
         copy_whole(|room| handle.words(room)).map(text_of)

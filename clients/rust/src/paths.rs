@@ -10,7 +10,7 @@ use crate::session_methods::Caller;
 /// How often a request is asked again whose answer was lost: to make, or to delete, what is so already does no harm.
 const MOST_LOSSES: usize = 8;
 
-/// Asks, and again where the answer is lost.
+/// Asks, and again if the answer is lost.
 fn surely<T>(session: &mut impl Caller, request: &Request<T>) -> Result<T, Error> {
     for _ in 0..MOST_LOSSES {
         match session.answer(request.clone()) {

@@ -10,7 +10,7 @@ use crate::request::Request;
 use crate::session::Session;
 use std::time::{Duration, Instant};
 
-/// The priority of an entry where nothing else is said.
+/// The priority of an entry if nothing else is said.
 const USUAL_PRIORITY: u16 = 100;
 
 /// The greatest priority, which is taken last.
@@ -22,7 +22,7 @@ const DIGITS: usize = 10;
 /// A queue: entries go out by priority, and then in the order in which they were made, each to one of those that take them. Its nodes have the
 /// names of kazoo's `Queue`, with a tag more.
 ///
-/// An entry that was put is there once, also where an answer was lost. It is deleted before it is worked on: where its taker ends then, nobody
+/// An entry that was put is there once, even if an answer was lost. It is deleted before it is worked on: if its taker ends then, nobody
 /// works on it.
 ///
 /// ```no_run
@@ -45,7 +45,7 @@ pub struct Queue<'a> {
     path: String,
 }
 
-/// The priority and the number of an entry, where the name is that of one.
+/// The priority and the number of an entry, if the name is that of one.
 fn order_of(name: &str) -> Option<(u16, &str)> {
     let rest = name.strip_prefix("entry-")?;
     let (priority, rest) = (rest.get(..3)?, rest.get(3..)?);
@@ -64,7 +64,7 @@ fn in_turn(mut names: Vec<String>) -> Vec<String> {
 }
 
 impl<'a> Queue<'a> {
-    /// The queue at this node, which is made where it is not there.
+    /// The queue at this node, which is made if it is not there.
     #[must_use]
     pub fn new(session: &'a Session, path: &str) -> Queue<'a> {
         Queue {
@@ -77,7 +77,7 @@ impl<'a> Queue<'a> {
     ///
     /// # Errors
     ///
-    /// Those of calls. Where it [may have happened](Error::may_have_happened), the entry may be there.
+    /// Those of calls. If it [may have happened](Error::may_have_happened), the entry may be there.
     pub fn put(&self, data: &[u8]) -> Result<String, Error> {
         self.put_with_priority(data, USUAL_PRIORITY)
     }
@@ -121,12 +121,12 @@ impl<'a> Queue<'a> {
     ///
     /// # Errors
     ///
-    /// Those of calls. Where it [may have happened](Error::may_have_happened), the entry of the path of the error may be gone.
+    /// Those of calls. If it [may have happened](Error::may_have_happened), the entry of the path of the error may be gone.
     pub fn take(&self) -> Result<Option<Vec<u8>>, Error> {
         self.take_until(None)
     }
 
-    /// The same, and waits for so long at most: none where there was no entry. A limit of nothing tries once. The answer to the delete of an
+    /// The same, and waits for so long at most: `None` if there was no entry. A limit of nothing tries once. The answer to the delete of an
     /// entry is waited for all the same, as that of any call.
     ///
     /// # Errors
@@ -160,7 +160,7 @@ impl<'a> Queue<'a> {
         }
     }
 
-    /// Deletes an entry: its data, and none where another one was faster.
+    /// Deletes an entry: its data, or `None` if another one was faster.
     fn claim(&self, path: &str) -> Result<Option<Vec<u8>>, Error> {
         let is_gone =
             |error: &Error| matches!(error.code(), Some(Code::NO_NODE | Code::BAD_VERSION));

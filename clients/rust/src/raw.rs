@@ -29,7 +29,7 @@ use std::time::Duration;
 #[repr(i32)]
 pub enum RawOperation {
     /// The ACL of a node. It changes nothing, as [`Sync`](RawOperation::Sync) and those from [`MultiRead`](RawOperation::MultiRead) on: these
-    /// are asked again where they are lost.
+    /// are asked again if they are lost.
     GetAcl = operation::GET_ACL,
     /// Sets the ACL of a node.
     SetAcl = operation::SET_ACL,
@@ -92,7 +92,7 @@ impl Lifetime {
         }
     }
 
-    /// The flags, and after them the time to live in milliseconds where there is one. No node that goes with its session has one.
+    /// The flags, and after them the time to live in milliseconds if there is one. No node that goes with its session has one.
     fn spell(self, spelled: &mut Writer) -> Result<(), Fault> {
         match self {
             Lifetime::Mode(mode) => {
@@ -200,7 +200,7 @@ impl RawCall {
         Ok(spelled.into_bytes())
     }
 
-    /// What stands after the header of its reply. None where that does not read.
+    /// What stands after the header of its reply. `None` if that does not read.
     pub(crate) fn read(&self, body: &[u8], root: &Chroot) -> Option<Outcome> {
         let mut reply = Reader::new(body);
         let (mut found, mut records) = (Answer::default(), RawAnswer::default());

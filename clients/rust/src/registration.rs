@@ -16,11 +16,11 @@ use std::time::{Duration, Instant};
 /// The time from a refusal that passes to the next try.
 const BETWEEN_REFUSALS: Duration = Duration::from_secs(1);
 
-/// A registration: an ephemeral node of these data, which a thread makes, and makes again where it has gone, as with a session that has
-/// [renewed](crate::SessionOptions::renews) itself. It is given up with [`end`](Registration::end), or where this is dropped, or the
+/// A registration: an ephemeral node of these data, which a thread makes, and makes again if it has gone, as with a session that has
+/// [renewed](crate::SessionOptions::renews) itself. It is given up with [`end`](Registration::end), or when this is dropped, or the
 /// session is over.
 ///
-/// Where a process has begun again before its old session has expired, the node of that one is there still: it is waited for.
+/// If a process has begun again before its old session has expired, the node of that one is there still: it is waited for.
 ///
 /// ```no_run
 /// use dirwolleu::{Registration, SessionOptions};
@@ -77,7 +77,7 @@ impl Registration {
             .view(|view| self.registrar.is_mine(view))
     }
 
-    /// Gives the registration up: the node is deleted, where it is of this session.
+    /// Gives the registration up: the node is deleted, if it is of this session.
     ///
     /// # Errors
     ///
@@ -133,7 +133,7 @@ impl Registrar {
         self.session.wait_until(until, |_| !self.is_over());
     }
 
-    /// Makes the node where there is none, and else waits for a change of it.
+    /// Makes the node if there is none, and else waits for a change of it.
     fn go_on(&self) -> Result<(), Error> {
         if self.session.watch(&self.path)?.is_none() {
             let made = self.session.create(&self.path, &self.data, Mode::Ephemeral);
@@ -149,7 +149,7 @@ impl Registrar {
         Ok(())
     }
 
-    /// Deletes the node, where it is of this session. What is kept may be of before the node was made.
+    /// Deletes the node, if it is of this session. What is kept may be of before the node was made.
     fn give_up(&self) -> Result<(), Error> {
         if self.session.data_mark(&self.path)? != Some(Mark::Good) {
             match self.session.watch(&self.path) {

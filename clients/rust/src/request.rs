@@ -130,7 +130,7 @@ pub(crate) struct Asking<'a> {
     /// Those of a call of the core.
     pub(crate) data: &'a [u8],
     pub(crate) call: LentCall<'a>,
-    /// How long it waits at most, where it says so itself.
+    /// How long it waits at most, if it says so itself.
     pub(crate) limit: Option<Duration>,
 }
 
@@ -158,7 +158,7 @@ pub struct Request<T> {
     /// Those of a call of the core: none of another one.
     pub(crate) data: Vec<u8>,
     pub(crate) call: Call,
-    /// How long it waits at most, where it says so itself.
+    /// How long it waits at most, if it says so itself.
     pub(crate) limit: Option<Duration>,
     pub(crate) read: fn(CallResult) -> Result<T, Error>,
 }
@@ -178,7 +178,7 @@ impl<T> Request<T> {
         }
     }
 
-    /// How long it waits at most, with all the time that it waits for a connection and that it is asked again after a lost one. Where the
+    /// How long it waits at most, with all the time that it waits for a connection and that it is asked again after a lost one. If the
     /// limit has come it fails as [`Session::call`](crate::Session::call) says.
     ///
     /// ```no_run
@@ -218,7 +218,7 @@ impl<T> Request<T> {
         }
     }
 
-    /// Whether it only reads. A read is safe to be asked again, whatever became of it; a write is where it was not sent or was refused.
+    /// Whether it only reads. A read is safe to be asked again, whatever became of it; a write is safe if it was not sent or was refused.
     pub fn is_read(&self) -> bool {
         self.call.is_read()
     }
@@ -343,12 +343,12 @@ impl<'a> LentRequest<'a, ()> {
 }
 
 impl Request<Option<Stat>> {
-    /// What is known of a node, and none where there is none.
+    /// What is known of a node, or `None` if there is none.
     pub fn exists(path: &str) -> Request<Option<Stat>> {
         LentRequest::exists(path).into()
     }
 
-    /// The same, and a watch is left, also where there is no node.
+    /// The same, and a watch is left, even if there is no node.
     pub fn watched(mut self) -> Request<Option<Stat>> {
         self.call = Call::Core(CoreCall::Exists(Watch::Yes));
         self
@@ -356,12 +356,12 @@ impl Request<Option<Stat>> {
 }
 
 impl Request<Node> {
-    /// The data of a node. Where there is none the answer is [`Code::NO_NODE`].
+    /// The data of a node. If there is none the answer is [`Code::NO_NODE`].
     pub fn get(path: &str) -> Request<Node> {
         LentRequest::get(path).into()
     }
 
-    /// The same, and a watch is left where there is a node.
+    /// The same, and a watch is left if there is a node.
     pub fn watched(mut self) -> Request<Node> {
         self.call = Call::Core(CoreCall::Data(Watch::Yes));
         self
@@ -369,13 +369,13 @@ impl Request<Node> {
 }
 
 impl Request<(Vec<String>, Stat)> {
-    /// The names of the children of a node, in an order that means nothing, and what is known of it. Where there is none the answer is
+    /// The names of the children of a node, in an order that means nothing, and what is known of it. If there is none the answer is
     /// [`Code::NO_NODE`].
     pub fn children(path: &str) -> Request<(Vec<String>, Stat)> {
         LentRequest::children(path).into()
     }
 
-    /// The same, and a watch is left where there is a node.
+    /// The same, and a watch is left if there is a node.
     pub fn watched(mut self) -> Request<(Vec<String>, Stat)> {
         self.call = Call::Core(CoreCall::Children(Watch::Yes));
         self
@@ -415,7 +415,7 @@ impl Request<(Vec<Acl>, Stat)> {
 }
 
 impl Request<String> {
-    /// Makes a node, and tells its path, which ends in ten digits more where it is sequential.
+    /// Makes a node, and tells its path, which ends in ten digits more if it is sequential.
     pub fn create(path: &str, data: &[u8], mode: Mode) -> Request<String> {
         LentRequest::create(path, data, mode).into()
     }
@@ -506,7 +506,7 @@ impl Request<Vec<String>> {
 }
 
 impl Request<i32> {
-    /// How many nodes are below a node, at all depths. Where there is no node the answer is [`Code::NO_NODE`]. ZooKeeper has it since version
+    /// How many nodes are below a node, at all depths. If there is no node the answer is [`Code::NO_NODE`]. ZooKeeper has it since version
     /// 3.6.
     pub fn all_children_number(path: &str) -> Request<i32> {
         Request::new(path, RawCall::AllChildrenNumber.into(), |ending| {

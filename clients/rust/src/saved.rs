@@ -25,12 +25,12 @@ pub struct SavedSession {
 }
 
 impl SavedSession {
-    /// The session of these bytes. Whether they are one is seen where it is resumed.
+    /// The session of these bytes. Whether they are one is seen when it is resumed.
     pub fn from_bytes(bytes: Vec<u8>) -> SavedSession {
         SavedSession { bytes }
     }
 
-    /// The number of the session, which its ephemeral nodes have as their owner: 0 before a server has admitted it. None where the bytes
+    /// The number of the session, which its ephemeral nodes have as their owner: 0 before a server has admitted it. `None` if the bytes
     /// are no session.
     pub fn id(&self) -> Option<i64> {
         let number = self.bytes.get(..8)?.try_into().ok()?;

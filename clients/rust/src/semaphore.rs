@@ -48,7 +48,7 @@ pub struct Semaphore<'a> {
 pub type Lease<'a> = Lock<'a>;
 
 impl<'a> Semaphore<'a> {
-    /// The semaphore at this node, which is made where it is not there, and says how many hold it at most: one at least.
+    /// The semaphore at this node, which is made if it is not there, and says how many hold it at most: one at least.
     #[must_use]
     pub fn new(session: &'a Session, path: &str, most: u32) -> Semaphore<'a> {
         Semaphore {
@@ -70,8 +70,8 @@ impl<'a> Semaphore<'a> {
     ///
     /// # Errors
     ///
-    /// As [`LockOptions::acquire`](crate::LockOptions::acquire); [`ErrorKind::OtherNumber`] where the node says another number, and
-    /// [`ErrorKind::MixedNames`] where it is that of a semaphore of kazoo's or Curator's.
+    /// As [`LockOptions::acquire`](crate::LockOptions::acquire); [`ErrorKind::OtherNumber`] if the node says another number, and
+    /// [`ErrorKind::MixedNames`] if it is that of a semaphore of kazoo's or Curator's.
     pub fn acquire(&self, data: &[u8]) -> Result<Lease<'a>, Error> {
         self.take(data, None)
     }

@@ -39,7 +39,7 @@ pub(crate) fn watch(session: &mut impl Caller, path: &str) -> Result<Option<Node
 /// The calls of a session. Each asks by `call` and waits.
 macro_rules! calls {
     ($this:ident: [$($receiver:tt)+] $asks:expr) => {
-        /// What is known of a node, and none where there is none.
+        /// What is known of a node, or `None` if there is none.
         ///
         /// # Errors
         ///
@@ -48,7 +48,7 @@ macro_rules! calls {
             $this.call_lent(LentRequest::exists(path))
         }
 
-        /// The data of a node. Where there is none it fails with [`Code::NO_NODE`](crate::Code::NO_NODE).
+        /// The data of a node. If there is none it fails with [`Code::NO_NODE`](crate::Code::NO_NODE).
         ///
         /// # Errors
         ///
@@ -57,7 +57,7 @@ macro_rules! calls {
             $this.call_lent(LentRequest::get(path))
         }
 
-        /// The names of the children of a node, in an order that means nothing, and what is known of it. Where there is no node it
+        /// The names of the children of a node, in an order that means nothing, and what is known of it. If there is no node it
         /// fails with [`Code::NO_NODE`](crate::Code::NO_NODE).
         ///
         /// # Errors
@@ -67,10 +67,10 @@ macro_rules! calls {
             $this.call_lent(LentRequest::children(path))
         }
 
-        /// The data of a node, and none where there is none. It leaves a watch on the path in both cases, so that the next change is
+        /// The data of a node, or `None` if there is none. It leaves a watch on the path in both cases, so that the next change is
         /// reported, whatever it is; and what it brings is kept.
         ///
-        /// Where there is a node, of which the server says that it has no data, they are read again after a second, until the two agree.
+        /// If there is a node, of which the server says that it has no data, they are read again after a second, until the two agree.
         ///
         /// # Errors
         ///
@@ -79,7 +79,7 @@ macro_rules! calls {
             watch($asks, path)
         }
 
-        /// The same as [`children`](Self::children), and it leaves a watch where there is a node; what it brings is kept then.
+        /// The same as [`children`](Self::children), and it leaves a watch if there is a node; what it brings is kept then.
         ///
         /// # Errors
         ///
@@ -97,11 +97,11 @@ macro_rules! calls {
             $this.call_lent(LentRequest::set(path, data, version))
         }
 
-        /// Makes a node, and tells its path, which ends in ten digits more where it is sequential.
+        /// Makes a node, and tells its path, which ends in ten digits more if it is sequential.
         ///
         /// # Errors
         ///
-        /// As [`call`](Self::call): of the server [`Code::NODE_EXISTS`](crate::Code::NODE_EXISTS), and where the parent is not there
+        /// As [`call`](Self::call): of the server [`Code::NODE_EXISTS`](crate::Code::NODE_EXISTS), and if the parent is not there
         /// [`Code::NO_NODE`](crate::Code::NO_NODE).
         pub fn create($($receiver)+, path: &str, data: &[u8], mode: Mode) -> Result<String, Error> {
             $this.call_lent(LentRequest::create(path, data, mode))
@@ -182,7 +182,7 @@ macro_rules! calls {
             $this.call(Request::ephemerals(prefix))
         }
 
-        /// How many nodes are below a node, at all depths. Where there is no node it fails with [`Code::NO_NODE`](crate::Code::NO_NODE).
+        /// How many nodes are below a node, at all depths. If there is no node it fails with [`Code::NO_NODE`](crate::Code::NO_NODE).
         ///
         /// # Errors
         ///
@@ -223,7 +223,7 @@ macro_rules! calls {
         ///
         /// # Errors
         ///
-        /// [`Code::AUTH_FAILED`](crate::Code::AUTH_FAILED) where a server does not take it: then the session is over, as
+        /// [`Code::AUTH_FAILED`](crate::Code::AUTH_FAILED) if a server does not take it: then the session is over, as
         /// [`SessionOptions::auth`](crate::SessionOptions::auth) says. Else as [`call`](Self::call).
         pub fn add_auth($($receiver)+, scheme: &str, credentials: &[u8]) -> Result<(), Error> {
             $this.call(Request::auth(scheme, credentials))
@@ -327,7 +327,7 @@ macro_rules! look_ups {
             self.view(|view| view.children_mark(path))
         }
 
-        /// What is kept of these nodes, and of the names below these parents, all of it of one moment, where all of it is kept and good;
+        /// What is kept of these nodes, and of the names below these parents, all of it of one moment, if all of it is kept and good;
         /// see [`View::snapshot`].
         ///
         /// # Errors

@@ -1,6 +1,6 @@
 //! Whether a session stands first in a directory: for locks and elections.
 
-/// How contenders are named: a name counts where it ends in ten digits, as that of a sequential node does, right after a marker.
+/// How contenders are named: a name counts if it ends in ten digits, as that of a sequential node does, right after a marker.
 ///
 /// ```
 /// use dirwolleu::Markers;

@@ -54,7 +54,7 @@ named! {
     Closed "closed",
     /// The server does not take the credentials of the session.
     CredentialsRefused "credentials_refused",
-    /// It was given up for another reason, as where memory ran out or the session was let go.
+    /// It was given up for another reason: memory ran out, or the session was let go.
     Dropped "dropped",
 }
 
@@ -190,9 +190,9 @@ pub enum Observation {
         path: Option<String>,
         /// What has come of it.
         outcome: CallOutcome,
-        /// The server's code, where it was refused.
+        /// The server's code, if it was refused.
         code: Option<Code>,
-        /// The zxid of its reply: 0 where there is none.
+        /// The zxid of its reply: 0 if there is none.
         zxid: i64,
         /// The time since it was asked.
         took: Duration,

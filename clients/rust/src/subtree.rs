@@ -18,7 +18,7 @@ use crate::node::{DataStat, Side};
 pub struct SubtreeNode {
     /// Its path.
     pub path: String,
-    /// The data: none where they are null, which is another thing than no bytes.
+    /// The data: `None` if they are null, which is another thing than no bytes.
     pub data: Option<Vec<u8>>,
     /// What is known of it.
     pub stat: DataStat,
@@ -27,7 +27,7 @@ pub struct SubtreeNode {
 }
 
 impl SubtreeNode {
-    /// The last name of its path: empty where that is `/`.
+    /// The last name of its path: empty if that is `/`.
     #[must_use]
     pub fn name(&self) -> &str {
         let slash = self.path.rfind('/');
@@ -40,7 +40,7 @@ impl SubtreeNode {
 /// ```
 /// use dirwolleu::{Fault, Machine, Moment, Side, Subtree, Watch};
 ///
-/// /// The nodes at and below a path, or none where some of them are still asked for.
+/// /// The nodes at and below a path, or `None` if some of them are still asked for.
 /// fn look(machine: &mut Machine, now: Moment, path: &str) -> Result<Option<Subtree>, Fault> {
 ///     for (ticket, read) in (0..).zip(machine.lacking(path, 1_000)?) {
 ///         let actions = match read.side {
@@ -99,7 +99,7 @@ fn all<T>(spelled: &[u8], mut read: impl FnMut(&mut Reader<'_>) -> Option<T>) ->
     found
 }
 
-/// Data: none where they are null.
+/// Data: `None` if they are null.
 pub(crate) type Data = Option<Vec<u8>>;
 
 /// Bytes after their length.

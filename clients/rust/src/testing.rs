@@ -63,7 +63,7 @@ impl Servers {
     }
 }
 
-/// A ZooKeeper server in memory, at a port of 127.0.0.1. It ends where it is dropped, with its sessions and nodes.
+/// A ZooKeeper server in memory, at a port of 127.0.0.1. It ends when it is dropped, with its sessions and nodes.
 ///
 /// It has threads of its own, and any thread may call it: no function waits for a client. When a function returns, what it does is done, and
 /// clients have been sent what they are told of it.
@@ -84,7 +84,7 @@ impl Server {
     ///
     /// # Errors
     ///
-    /// What the system says where it gives no port or no thread.
+    /// What the system says when it gives no port or no thread.
     pub fn start() -> io::Result<Server> {
         Server::start_at(0)
     }
@@ -93,7 +93,7 @@ impl Server {
     ///
     /// # Errors
     ///
-    /// What the system says, as where the port is taken.
+    /// What the system says, for instance that the port is taken.
     pub fn start_at(port: u16) -> io::Result<Server> {
         let listener = TcpListener::bind((Ipv4Addr::LOCALHOST, port))?;
         let port = listener.local_addr()?.port();

@@ -65,7 +65,7 @@ impl<'a> AskedCall<'a> {
         }
     }
 
-    /// How the call ends with this outcome, after this search for a server where there was one.
+    /// How the call ends with this outcome, after this search for a server if there was one.
     #[inline]
     pub(crate) fn ending(&self, outcome: Outcome, search: Option<&Search>) -> CallResult {
         match outcome {
@@ -122,7 +122,7 @@ impl<'a> AskedCall<'a> {
         &self.path
     }
 
-    /// The path of the node that the call is about. None where it is about no node.
+    /// The path of the node that the call is about. `None` if it is about no node.
     fn node(&self) -> Option<&str> {
         self.has_node.then_some(self.path())
     }
@@ -195,7 +195,7 @@ impl Slot {
         self.stage().take()
     }
 
-    /// The answer, once it is there. None where it is not there by this instant.
+    /// The answer, once it is there. `None` if it is not there by this instant.
     pub(crate) fn wait(&self, until: Option<Instant>) -> Option<CallResult> {
         let mut stage = self.stage();
         loop {
@@ -238,7 +238,7 @@ pub(crate) struct CallLimit {
 }
 
 impl CallLimit {
-    /// The limit, or soon where it has come.
+    /// The limit, or soon if it has come.
     fn next(&self) -> Option<Instant> {
         let now = Instant::now();
         let left = self.moment.saturating_duration_since(self.clock.at(now));
@@ -255,8 +255,8 @@ impl CallLimit {
 
 /// A ticket for the answer to a call that was asked by [`Session::ask`](crate::Session::ask).
 ///
-/// The call is on its way, or waits for a connection; it happens also where the ticket is let go. Each ticket is answered: as its session
-/// says, by a reply, by an error, or where the connection ends.
+/// The call is on its way, or waits for a connection; it happens even if the ticket is let go. Each ticket is answered: as its session
+/// says, by a reply, by an error, or when the connection ends.
 ///
 /// A ticket is a future too, of no runtime: the thread of its session wakes who awaits it. That thread may come to the limit of a call late,
 /// by a third of the timeout at most and by an attempt to connect: who waits by [`wait`](Ticket::wait) does not wait for it.
@@ -303,7 +303,7 @@ impl<T> Ticket<T> {
     ///
     /// # Errors
     ///
-    /// As [`wait`](Ticket::wait), and [`ErrorKind::TimedOut`] where no answer has come: the call may still happen.
+    /// As [`wait`](Ticket::wait), and [`ErrorKind::TimedOut`] if no answer has come: the call may still happen.
     pub fn wait_for(self, limit: Duration) -> Result<T, Error> {
         let ending = self.ending(Instant::now().checked_add(limit));
         (self.read)(ending)

@@ -35,7 +35,7 @@ const CHECK: i32 = 13;
 #[derive(Clone, Debug, PartialEq, Eq)]
 #[non_exhaustive]
 pub enum Change {
-    /// A node was made: its path, which ends in ten digits more where it is sequential.
+    /// A node was made: its path, which ends in ten digits more if it is sequential.
     Created(String),
     /// The data of a node were set: what is known of it.
     Set(Stat),
@@ -137,7 +137,7 @@ impl<'a> Transaction<'a> {
     ///
     /// # Errors
     ///
-    /// [`ErrorKind::RolledBack`](crate::ErrorKind::RolledBack) where an operation was refused, and then nothing has happened; and the errors of any call. Where it
+    /// [`ErrorKind::RolledBack`](crate::ErrorKind::RolledBack) if an operation was refused, and then nothing has happened; and the errors of any call. If it
     /// [may have happened](Error::may_have_happened), it has as a whole or not at all.
     pub fn commit(self) -> Result<Vec<Change>, Error> {
         self.session.call(Request::transaction(self.operations))
@@ -278,7 +278,7 @@ impl Operation {
         Ok(())
     }
 
-    /// What it has brought. None where that does not read.
+    /// What it has brought. `None` if that does not read.
     fn read(&self, reply: &mut Reader<'_>, root: &Chroot) -> Option<Change> {
         Some(match self {
             Operation::Check { .. } => Change::Checked,
@@ -303,7 +303,7 @@ pub(crate) fn spell(
     Ok(())
 }
 
-/// What each operation has brought, or which was refused: the first whose code is not 0, since those before it have that one. None where that
+/// What each operation has brought, or which was refused: the first whose code is not 0, since those before it have that one. `None` if that
 /// does not read.
 pub(crate) fn read(
     operations: &[Operation],

@@ -12,18 +12,18 @@ use std::sync::Arc;
 use std::task::{Context, Poll};
 use std::time::{Duration, Instant};
 
-/// How many nodes a tree has at most, where a program says nothing else: as many as the core watches.
+/// How many nodes a tree has at most, if a program says nothing else: as many as the core watches.
 pub(crate) const MOST_NODES: usize = 65_536;
 
 /// News of a tree: a snapshot, or why there is no newer one.
 pub(crate) type SnapshotResult = Result<TreeSnapshot, Error>;
 
 /// All nodes at and below a path, kept as the servers have them: of [`Session::tree`](crate::Session::tree). The session reads all of it
-/// with watches, and reads again what changes, through lost connections and, where it [renews](crate::SessionOptions::renews) itself, new
+/// with watches, and reads again what changes, through lost connections and, if it [renews](crate::SessionOptions::renews) itself, new
 /// sessions.
 ///
 /// Each [`TreeSnapshot`] is of one moment: a transaction that changes several nodes is in it whole or not at all, and no node is left out.
-/// The proved core decides which nodes are read, and judges that; when a snapshot is shown is tested. Where nodes change faster than they
+/// The proved core decides which nodes are read, and judges that; when a snapshot is shown is tested. If nodes change faster than they
 /// are read there is no new one, and [`current`](Tree::current) is none until it settles.
 ///
 /// Threads may look at a tree at once. It is followed until it is dropped; then what was read stays kept. A look at a large tree takes a
@@ -71,12 +71,12 @@ macro_rules! shown_of {
             self.shown.latest()
         }
 
-        /// The newest snapshot, where nothing that was told since has ended it: so it is the servers' tree at the greatest zxid seen too.
+        /// The newest snapshot, if nothing that was told since has ended it: so it is the servers' tree at the greatest zxid seen too.
         pub fn current(&self) -> Option<TreeSnapshot> {
             self.shown.current()
         }
 
-        /// Why there is no newer snapshot, and none where that is only that reads are under way.
+        /// Why there is no newer snapshot, or `None` if that is only that reads are under way.
         ///
         /// [`Code::NO_NODE`](crate::Code::NO_NODE): there is no root; its making is waited for. Another code: what a server refused to
         /// read, which is read again each second. [`Fault::TooManyNodes`](crate::Fault::TooManyNodes): there are more nodes than the tree
@@ -95,7 +95,7 @@ impl Tree {
 
     shown_of! {}
 
-    /// Waits for the first snapshot. Where there is one already, it is the newest one.
+    /// Waits for the first snapshot. If there is one already, it is the newest one.
     ///
     /// # Errors
     ///
@@ -108,7 +108,7 @@ impl Tree {
     ///
     /// # Errors
     ///
-    /// As [`wait`](Tree::wait), and [`ErrorKind::NotWhole`] where the limit has passed: it is read on.
+    /// As [`wait`](Tree::wait), and [`ErrorKind::NotWhole`] if the limit has passed: it is read on.
     pub fn wait_for(&self, limit: Duration) -> Result<TreeSnapshot, Error> {
         self.wait_until(Instant::now().checked_add(limit))
     }
@@ -123,7 +123,7 @@ impl Tree {
     }
 
     /// The newest snapshot, and each newer one: an iterator that waits. Of several between two steps of the program the last one is given.
-    /// A [`trouble`](Tree::trouble) is given once, and then what comes after it. It ends where the session is closed, or after an error
+    /// A [`trouble`](Tree::trouble) is given once, and then what comes after it. It ends if the session is closed, or after an error
     /// that says why the session is over.
     pub fn snapshots(&self) -> Snapshots<'_> {
         Snapshots {
@@ -171,7 +171,7 @@ pub struct Snapshots<'a> {
 }
 
 impl Snapshots<'_> {
-    /// What is new, where something is; why the session is over, or none where it is closed.
+    /// What is new, if something is; why the session is over, or `None` if it is closed.
     fn take(&mut self, engine: &Engine) -> Poll<Option<SnapshotResult>> {
         if let Some((number, news)) = self.tree.shown.news_after(self.told) {
             self.told = number;
@@ -208,7 +208,7 @@ impl Snapshots<'_> {
     ///
     /// # Errors
     ///
-    /// As the iterator gives them, and [`ErrorKind::NotWhole`] where the limit has passed.
+    /// As the iterator gives them, and [`ErrorKind::NotWhole`] if the limit has passed.
     pub fn next_within(&mut self, limit: Duration) -> Option<SnapshotResult> {
         self.next_until(Instant::now().checked_add(limit))
     }
@@ -227,7 +227,7 @@ impl Snapshots<'_> {
         }
     }
 
-    /// The next one, where there is one. Else the waker of this context is woken when it is to be polled again: by the thread of the
+    /// The next one, if there is one. Else the waker of this context is woken when it is to be polled again: by the thread of the
     /// session, so it serves under each runtime, or without one.
     ///
     /// ```no_run

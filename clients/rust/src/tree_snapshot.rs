@@ -97,7 +97,7 @@ impl TreeSnapshot {
         self.nodes().binary_search_by(found)
     }
 
-    /// The node of a path, and none where none was there.
+    /// The node of a path, or `None` if none was there.
     #[must_use]
     pub fn get(&self, path: &str) -> Option<&SubtreeNode> {
         self.place(path).ok().map(|place| &self.nodes()[place])
@@ -123,7 +123,7 @@ impl TreeSnapshot {
         })
     }
 
-    /// What differs from an earlier snapshot of the tree: all nodes are new where there is none.
+    /// What differs from an earlier snapshot of the tree: all nodes are new if there is none.
     #[must_use]
     pub fn changes_since<'a>(&'a self, earlier: Option<&'a TreeSnapshot>) -> TreeChanges<'a> {
         let mut changes = TreeChanges::default();

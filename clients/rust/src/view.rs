@@ -39,7 +39,7 @@ impl<'a> View<'a> {
         View { engine }
     }
 
-    /// Looks up at a path of the program's, by that of the servers. Where the session is over nothing is kept, also where the machine was not
+    /// Looks up at a path of the program's, by that of the servers. If the session is over nothing is kept, even if the machine was not
     /// told so.
     fn at<T>(
         self,
@@ -64,7 +64,7 @@ impl View<'_> {
         self.engine.machine().timeout()
     }
 
-    /// How long ago a server was heard last, on any connection, and none where it was not heard yet. What is kept and good was so on the
+    /// How long ago a server was heard last, on any connection, or `None` if it was not heard yet. What is kept and good was so on the
     /// server when it sent that, or later. It goes by [`Instant`](std::time::Instant), which on Linux stands still while the machine is suspended: that time
     /// is not counted.
     pub fn age(&self) -> Option<Duration> {
@@ -94,7 +94,7 @@ impl View<'_> {
         self.engine.machine().saved()
     }
 
-    /// What is kept about the data of a path that was read with a watch, with its mark, and none where nothing is. The data are copied.
+    /// What is kept about the data of a path that was read with a watch, with its mark, or `None` if nothing is. The data are copied.
     ///
     /// # Errors
     ///
@@ -103,7 +103,7 @@ impl View<'_> {
         self.at(path, Machine::peek_data)
     }
 
-    /// The session with which a node goes that is kept, where one is.
+    /// The session with which a node goes that is kept, if one is.
     pub(crate) fn owner(self, path: &str) -> Option<i64> {
         match self.peek(path).ok()??.answer {
             DataAnswer::Known(stat) | DataAnswer::Full { stat, .. } => Some(stat.ephemeral_owner),
@@ -116,7 +116,7 @@ impl View<'_> {
         self.engine.held(ticket)
     }
 
-    /// The last rival before a contender, if there is one. The names alone say that, also where the session is over.
+    /// The last rival before a contender, if there is one. The names alone say that, even if the session is over.
     pub(crate) fn rival(self, contender: &Contender<'_>) -> Result<Option<String>, Fault> {
         let outer = self.engine.chroot().outer(contender.directory)?;
         let contender = Contender {
@@ -129,7 +129,7 @@ impl View<'_> {
         })
     }
 
-    /// The mark of what is kept about the data of a path, and none where nothing is. It copies no data.
+    /// The mark of what is kept about the data of a path, or `None` if nothing is. It copies no data.
     ///
     /// # Errors
     ///
@@ -138,7 +138,7 @@ impl View<'_> {
         self.at(path, Machine::data_mark)
     }
 
-    /// What is kept about the children of a path that were read with a watch, with its mark, and none where nothing is. The names are
+    /// What is kept about the children of a path that were read with a watch, with its mark, or `None` if nothing is. The names are
     /// copied.
     ///
     /// # Errors
@@ -148,7 +148,7 @@ impl View<'_> {
         self.at(path, Machine::peek_children)
     }
 
-    /// The mark of what is kept about the children of a path, and none where nothing is. It copies no names.
+    /// The mark of what is kept about the children of a path, or `None` if nothing is. It copies no names.
     ///
     /// # Errors
     ///
@@ -157,7 +157,7 @@ impl View<'_> {
         self.at(path, Machine::children_mark)
     }
 
-    /// What is kept of these nodes, and of the names below these parents, all of it of one moment; none where some of it is not kept, or
+    /// What is kept of these nodes, and of the names below these parents, all of it of one moment; `None` if some of it is not kept, or
     /// not good: then read that again, with a watch. Of a node that is not there, [`watch`](crate::Session::watch) has its absence kept.
     ///
     /// # Errors

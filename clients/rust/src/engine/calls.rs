@@ -53,7 +53,7 @@ impl Engine {
         until
     }
 
-    /// Why this call is refused. None, without a look at the reasons, where all is as it mostly is.
+    /// Why this call is refused. None, without a look at the reasons, if all is as it mostly is.
     #[inline]
     fn refusal(&self, call: LentCall<'_>) -> Option<ErrorKind> {
         if !self.is_over() && self.most_unwritten <= MOST_UNWRITTEN {

@@ -95,7 +95,7 @@ impl Contenders {
         self.all.is_empty()
     }
 
-    /// Notes what is told of the contender of this ticket: the path by which an event is to tell it, where one is.
+    /// Notes what is told of the contender of this ticket: the path by which an event is to tell it, if one is.
     pub(crate) fn update(&mut self, ticket: u64, update: ContenderUpdate) -> Option<String> {
         self.is_news = true;
         if matches!(update, ContenderUpdate::GivenUp) {

@@ -17,7 +17,7 @@ pub(super) const UNCOUNTED: Duration = Duration::from_nanos(1_999_999);
 /// The moment that never comes.
 pub(crate) const NEVER: Moment = Moment::from_millis(u64::MAX);
 
-/// When something is due, as far as that is known. The machine is asked for it only where it may have come.
+/// When something is due, as far as that is known. The machine is asked for it only if it may have come.
 #[derive(Default)]
 pub(super) struct Deadline {
     /// Nothing is due before it.

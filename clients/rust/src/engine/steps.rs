@@ -190,7 +190,7 @@ impl Engine {
         }
     }
 
-    /// Writes what was recorded. Where that fails, the record ends, and the session goes on.
+    /// Writes what was recorded. If that fails, the record ends, and the session goes on.
     pub(super) fn flush_record(&mut self) {
         let flushed = self.recorder.as_mut().map_or(Ok(()), Recorder::flush);
         if let Err(fault) = flushed {
@@ -208,7 +208,7 @@ impl Engine {
         }
     }
 
-    /// Hands out answers. Where one does not parse, the connection ends.
+    /// Hands out answers. If one does not parse, the connection ends.
     #[inline]
     fn hand_out_answers(&mut self) -> Result<(), Fault> {
         if !self.dispatcher.answers.is_empty() && self.end_answered() {

@@ -17,13 +17,13 @@ use std::time::Duration;
 
 /// Look-ups. They ask nobody, and serve after [`Fault::Halted`] too, when nothing is kept.
 impl Machine {
-    /// The first moment at which something is due: a ping, the end of an attempt, a dial, a read, a limit. None where nothing ever is. It
+    /// The first moment at which something is due: a ping, the end of an attempt, a dial, a read, a limit. `None` if nothing ever is. It
     /// changes with each step.
     pub fn deadline(&self) -> Option<Moment> {
         self.handle.deadline()
     }
 
-    /// The moment at which the server was heard last, on any connection, and none where it was not heard yet. What is kept and good was so
+    /// The moment at which the server was heard last, on any connection, or `None` if it was not heard yet. What is kept and good was so
     /// on the server when it sent that, or later.
     pub fn heard_at(&self) -> Option<Moment> {
         self.handle.heard_at()
@@ -34,10 +34,10 @@ impl Machine {
         self.state
     }
 
-    /// A number from 1 on that rises where what is kept and good may have changed, or the state, or the session. While it is the same, a
+    /// A number from 1 on that rises when what is kept and good may have changed, or the state, or the session. While it is the same, a
     /// [subtree](Self::subtree), what is [lacking](Self::lacking) and a [snapshot](Self::snapshot) are the same, so ask for them again
-    /// only where it differs. The [last zxid](Self::last_zxid) may rise meanwhile. It rises by one at each
-    /// step with bytes or another state, and where memory ran out within a step.
+    /// only if it differs. The [last zxid](Self::last_zxid) may rise meanwhile. It rises by one at each
+    /// step with bytes or another state, and if memory ran out within a step.
     pub fn revision(&self) -> u64 {
         self.handle.revision()
     }
@@ -61,7 +61,7 @@ impl Machine {
         copy_whole(|room| self.handle.saved(room)).map(SavedSession::from_bytes)
     }
 
-    /// What is kept about the data of a path that was read with a watch, and none where nothing is. The data are copied.
+    /// What is kept about the data of a path that was read with a watch, or `None` if nothing is. The data are copied.
     ///
     /// # Errors
     ///
@@ -75,7 +75,7 @@ impl Machine {
         Ok(Kept::of_data(&kept, data)?)
     }
 
-    /// The mark of what is kept about the data of a path, and none where nothing is. It copies no data.
+    /// The mark of what is kept about the data of a path, or `None` if nothing is. It copies no data.
     ///
     /// # Errors
     ///
@@ -84,7 +84,7 @@ impl Machine {
         Ok(mark_of(self.handle.peek_data(path, &mut [])?.mark)?)
     }
 
-    /// What is kept about the children of a path that were read with a watch, and none where nothing is. The names are copied.
+    /// What is kept about the children of a path that were read with a watch, or `None` if nothing is. The names are copied.
     ///
     /// # Errors
     ///
@@ -102,7 +102,7 @@ impl Machine {
         }))
     }
 
-    /// The mark of what is kept about the children of a path, and none where nothing is. It copies no names.
+    /// The mark of what is kept about the children of a path, or `None` if nothing is. It copies no names.
     ///
     /// # Errors
     ///
@@ -111,13 +111,13 @@ impl Machine {
         Ok(mark_of(self.handle.peek_children(path)?.mark)?)
     }
 
-    /// All nodes at and below a path, at most this many, and none where some of it is not kept good: then read what is
-    /// [`lacking`](Self::lacking). There is a subtree exactly where the path, and each node that is reached from it through kept names,
+    /// All nodes at and below a path, at most this many, or `None` if some of it is not kept good: then read what is
+    /// [`lacking`](Self::lacking). There is a subtree exactly if the path, and each node that is reached from it through kept names,
     /// is kept good with its data, and its names are kept good. It is the servers' at that zxid, and no other node was there.
     ///
     /// # Errors
     ///
-    /// As [`peek_data`](Self::peek_data), and [`Fault::TooManyNodes`] where more nodes are reached.
+    /// As [`peek_data`](Self::peek_data), and [`Fault::TooManyNodes`] if more nodes are reached.
     pub fn subtree(&self, path: &str, most: usize) -> Result<Option<Subtree>, Fault> {
         match copy_whole(|room| self.handle.subtree(path, most, room)) {
             Ok(spelled) => Ok(Some(Subtree {
@@ -130,18 +130,18 @@ impl Machine {
     }
 
     /// The reads, with a watch, that are lacking before there is a [`subtree`](Self::subtree) of a path with at most this many nodes:
-    /// none exactly where there is one. All can be asked at once; what lies below a node shows when its names are there.
+    /// none exactly if there is one. All can be asked at once; what lies below a node shows when its names are there.
     ///
     /// # Errors
     ///
-    /// As [`peek_data`](Self::peek_data), [`Fault::TooManyNodes`], and [`Fault::NotWhole`] where a name makes no path, so that no read
+    /// As [`peek_data`](Self::peek_data), [`Fault::TooManyNodes`], and [`Fault::NotWhole`] if a name makes no path, so that no read
     /// helps.
     pub fn lacking(&self, path: &str, most: usize) -> Result<Vec<Lacking>, Fault> {
         let spelled = copy_whole(|room| self.handle.lacking(path, most, room))?;
         Ok(lacking_in(&spelled))
     }
 
-    /// What is kept of the nodes of the first paths, and of the names below the second ones, and none where some of it is not kept good:
+    /// What is kept of the nodes of the first paths, and of the names below the second ones, or `None` if some of it is not kept good:
     /// then read that again, with a watch. It is all of one moment: what the servers' history has at that zxid. Of a node that is not
     /// there, [`exists`](Self::exists) leaves its absence.
     ///
@@ -166,9 +166,9 @@ impl Machine {
     }
 
     /// Whether the session comes first in a directory by its node there, and by one listing of it that needs no watch: it does so
-    /// [`First`](Standing::First) where what is kept of the node's data, or that it exists, is good, its owner is this session, no listed
+    /// [`First`](Standing::First) if what is kept of the node's data, or that it exists, is good, its owner is this session, no listed
     /// rival is before it, and the listing is neither older than the node nor newer than [`last_zxid`](Self::last_zxid). It stays so
-    /// while what is kept of its node is good, where numbers rise with creation.
+    /// while what is kept of its node is good, if numbers rise with creation.
     ///
     /// # Errors
     ///
@@ -192,7 +192,7 @@ impl Machine {
         })
     }
 
-    /// The token by which the session holds the first place in a directory by its node of this path, and none where that is not shown: the
+    /// The token by which the session holds the first place in a directory by its node of this path, or `None` if that is not shown: the
     /// names below the directory are kept good, the path lies right below it, its name begins with the prefix, and none of these names
     /// that does is before it in byte order; and what is kept of the node's data, or that it exists, is good, and its owner is this
     /// session. Whoever the lock protects refuses a smaller token than it has seen.
@@ -208,14 +208,14 @@ impl Machine {
         }
     }
 
-    /// The token by which the session holds by the contender of this ticket, and none where that is not shown: no rival is before its place in a
+    /// The token by which the session holds by the contender of this ticket, or `None` if that is not shown: no rival is before its place in a
     /// listing that was answered since it came there, and the place is kept good and is this session's. So it is at the
     /// [last zxid](Self::last_zxid). While there is no connection it stays so; [`heard_at`](Self::heard_at) says how old that is.
     pub fn held(&self, ticket: u64) -> Option<i64> {
         self.handle.held(ticket)
     }
 
-    /// The path of the place of the contender of this ticket, and none where it is not known.
+    /// The path of the place of the contender of this ticket, or `None` if it is not known.
     pub fn place(&self, ticket: u64) -> Option<String> {
         let place = copy_whole(|room| Ok::<_, Infallible>(self.handle.place(ticket, room)));
         let place = place.unwrap_or_default();

@@ -24,7 +24,7 @@ pub struct Bench {
     pub now_ms: u64,
 }
 
-/// Whether something was done, where the one other answer is that there was nothing to do.
+/// Whether something was done, when the one other answer is that there was nothing to do.
 fn is_done(result: i32) -> bool {
     assert!(
         result == OK || result == NONE,

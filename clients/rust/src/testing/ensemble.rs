@@ -127,7 +127,7 @@ impl Session {
 /// A connection of a client.
 pub(super) struct Link {
     pub(super) stream: TcpStream,
-    /// What is to be written. Where it is let go, the stream ends after that.
+    /// What is to be written. If it is let go, the stream ends after that.
     pub(super) out: Sender<Vec<u8>>,
     pub(super) session: Option<i64>,
 }
@@ -299,7 +299,7 @@ impl Ensemble {
         true
     }
 
-    /// What the model has not is answered. Whether the connection goes on: it ends where credentials are refused.
+    /// What the model has not is answered. Whether the connection goes on: it ends if credentials are refused.
     fn answer_beside(&mut self, session: &mut Session, xid: i32, kind: i32, body: &[u8]) -> bool {
         let trial = self.trial_of(session.number);
         let mut asking = Asking {
@@ -419,7 +419,7 @@ impl Ensemble {
 }
 
 impl Session {
-    /// What its server sent, where it has a connection.
+    /// What its server sent, if it has a connection.
     fn say_to_client(&mut self) -> Vec<u8> {
         if self.link.is_some() {
             self.say()
