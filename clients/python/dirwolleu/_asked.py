@@ -12,7 +12,7 @@ from dirwolleu.exceptions import CallTimeoutError, NoNodeError, NotConnectedErro
 
 
 class Waiter(Protocol):
-    """What waits for an answer: a future. It is done also where it waits no longer."""
+    """What waits for an answer: a future. It is done even if it waits no longer."""
 
     def begin(self) -> bool:
         """Is told that the request is handed over next, and answers whether it is still waited for."""
@@ -63,7 +63,7 @@ class Asked:
                 self.fail(error)
 
     def give_up(self, no_server: str) -> None:
-        """The limit has come. Where that is not the caller's own, and nothing was sent, no server was found in time."""
+        """The limit has come. If that is not the caller's own, and nothing was sent, no server was found in time."""
         if self.ends_at is None and not self.is_sent:
             return self.fail(NotConnectedError(no_server))
         fate = "it may still happen" if self.is_sent else "it was not sent, and is not sent any more"

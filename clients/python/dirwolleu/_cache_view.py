@@ -33,7 +33,7 @@ class CacheView:
         self._used = 0
 
     def _look(self, look: Callable[[Session], Found]) -> Optional[Found]:
-        """What is found in the session, once more where that was closed meanwhile; None where the client is closed."""
+        """What is found in the session, once more if that was closed meanwhile; None if the client is closed."""
         while self._saved_at_close is None:
             try:
                 return look(self._session)
@@ -47,7 +47,7 @@ class CacheView:
         return saved if saved is not None else self._saved_at_close or b""
 
     def session_id(self) -> int:
-        """The number of the session, 0 where none was begun."""
+        """The number of the session, 0 if none was begun."""
         return int(struct.unpack(">q", self.saved()[:8])[0])
 
     def last_zxid(self) -> int:
@@ -68,7 +68,7 @@ class CacheView:
         return _kept_children(path, *looked)
 
     def snapshot(self, nodes: tuple[str, ...], parents: tuple[str, ...]) -> Optional[Snapshot]:
-        """What is kept of nodes and of the names below parents, where the core shows that all of it is of one moment."""
+        """What is kept of nodes and of the names below parents, if the core shows that all of it is of one moment."""
         found, zxid = self._look(lambda session: session.snapshot(nodes, parents)) or (None, 0)
         if found is None:
             return None
@@ -79,12 +79,12 @@ class CacheView:
         )
 
     def settled(self, path: str) -> Optional[Kept]:
-        """What is kept of a path, where it is good and whole: its data, or that there is no node."""
+        """What is kept of a path, if it is good and whole: its data, or that there is no node."""
         kept = self.kept(path)
         return kept if kept and kept.mark is Mark.GOOD and (kept.has_data or not kept.exists) else None
 
     def settled_children(self, path: str) -> Optional[KeptChildren]:
-        """What is kept of the children of a path, where it is good: their names, or that there is no node."""
+        """What is kept of the children of a path, if it is good: their names, or that there is no node."""
         children = self.kept_children(path)
         if children is not None and children.mark is Mark.GOOD:
             return children
@@ -112,7 +112,7 @@ class CacheView:
         return self._look(lambda session: session.lacking(path, most)) or []
 
     def subtree(self, path: str, most: int) -> tuple[Optional[list[SubtreeNode]], int]:
-        """All nodes at and below a path, and the zxid at which the servers have just these; None where that is not shown."""
+        """All nodes at and below a path, and the zxid at which the servers have just these; None if that is not shown."""
         return self._look(lambda session: session.subtree(path, most)) or (None, 0)
 
     def forget_stale(self) -> None:

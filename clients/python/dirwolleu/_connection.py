@@ -126,7 +126,7 @@ class Connection(Views):
         return self._due
 
     def in_time(self, now: int) -> int:
-        """The moment of what came: now, or where something is due already, the last one before that.
+        """The moment of what came: now, or if something is due already, the last one before that.
 
         What came may have come before it was due, and be the answer without which the session would leave the server.
         """

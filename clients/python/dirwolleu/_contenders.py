@@ -1,6 +1,6 @@
 """The contenders of a session, for its locks: they are handed to the core, and hear what it tells of them.
 
-The core alone decides. It makes a place, finds it again where an answer was lost, watches the one before it, says whether it holds, and
+The core alone decides. It makes a place, finds it again if an answer was lost, watches the one before it, says whether it holds, and
 deletes it once it is given up. It contends again after an expiry.
 """
 
@@ -88,7 +88,7 @@ class ContendingConnection(Connection):
         self._wishes.append((self._part, contender))
 
     def held_by(self, contender: Contender) -> Optional[int]:
-        """The token, where the core shows that the session holds by this contender, at the last seen zxid."""
+        """The token, if the core shows that the session holds by this contender, at the last seen zxid."""
         return None if contender.is_lost else self._look(lambda session: session.held(contender.ticket))
 
     def place_of(self, contender: Contender) -> Optional[str]:

@@ -47,7 +47,7 @@ class Core(Observed):
         self.trouble = ""
         """What became of the last attempt to find a server, in words; nothing once one has accepted the session."""
         self.refused = ""
-        """That a server has refused credentials of the client, in words, where that has ended it: until it is begun again."""
+        """That a server has refused credentials of the client, in words, if that has ended it: until it is begun again."""
         self._process: Optional[int] = None
         self._recorder: Optional[Recorder] = None
         self.is_running = False
@@ -64,7 +64,7 @@ class Core(Observed):
         raise NotImplementedError
 
     def _resume(self, why: str) -> None:
-        """Has the same session taken up, which keeps nothing, where the old one is of no use any more."""
+        """Has the same session taken up, which keeps nothing, if the old one is of no use any more."""
         raise NotImplementedError
 
     # How it stands.
@@ -75,7 +75,7 @@ class Core(Observed):
         return AuthFailedError(refused) if refused else ConnectionClosedError(words)
 
     def check_process(self) -> None:
-        """Raises where this is a forked child of the process in which the client was started."""
+        """Raises if this is a forked child of the process in which the client was started."""
         if not self.is_here():
             raise ConnectionClosedError("the client was started in another process, before a fork: make one here")
 

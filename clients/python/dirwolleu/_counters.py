@@ -28,7 +28,7 @@ class BaseCounter(Generic[AnyClient, Number]):
         return found[0]
 
     def _read(self) -> Plan[tuple[Number, int]]:
-        """The number, and the version of the node, which is made where there is none."""
+        """The number, and the version of the node, which is made if there is none."""
         while True:
             try:
                 data, stat = yield requests.get(self._path, None)
@@ -45,7 +45,7 @@ class BaseCounter(Generic[AnyClient, Number]):
         return repr(number).encode()
 
     def _changing(self, change: Callable[[Number], Number]) -> Steps[Number]:
-        """Changes what the node has, again where another one was first."""
+        """Changes what the node has, again if another one was first."""
         while True:
             number, version = yield from patiently(self._client._engine, self._read)
             changed = self._own(change(number))
@@ -60,7 +60,7 @@ class BaseCounter(Generic[AnyClient, Number]):
         return kind(number)
 
     def _is_set(self, spelled: bytes, version: int) -> Steps[bool]:
-        """Whether the data of this version were changed. Raises an error that says so where that can't be found out."""
+        """Whether the data of this version were changed. Raises an error that says so if that can't be found out."""
         try:
             yield requests.set(self._path, spelled, version)
             return True

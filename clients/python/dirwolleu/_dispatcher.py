@@ -26,7 +26,7 @@ _CONNECTED = State.CONNECTED  # a class of an enum takes its time
 _ENDING = (SessionExpiredError.code, SessionMovedError.code)
 LONGEST_TIMEOUT_MS = 2_147_483_647
 MOST_HANDED = 256
-"""How many calls the core has at once, at most. The others wait in the host's line, where one that is cancelled is taken out and never sent."""
+"""How many calls the core has at once, at most. The others wait in the host's line, and one that is cancelled there is never sent."""
 
 
 class Dispatcher(Core):

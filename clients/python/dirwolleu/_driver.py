@@ -1,4 +1,4 @@
-"""The connection of a client: it dials, reads and writes where the engine says so, and wakes at deadlines."""
+"""The connection of a client: it dials, reads and writes when the engine says so, and wakes at deadlines."""
 
 from __future__ import annotations
 
@@ -80,7 +80,7 @@ class Driver:
     """
 
     connects: Optional[Callable[[Place], socket.socket]] = None
-    """What connects to an address, in a thread of its own, where the loop is not to do so itself."""
+    """What connects to an address, in a thread of its own, if the loop is not to do so itself."""
 
     def __init__(
         self, servers: Servers, engine: Engine, tls: Optional[ssl.SSLContext] = None, sasl: Optional[Sasl] = None
@@ -162,7 +162,7 @@ class Driver:
         return passed
 
     def act_soon(self) -> None:
-        """Acts at once where nothing waits for an answer, and else once after all that is asked in this turn of the event loop."""
+        """Acts at once if nothing waits for an answer, and else once after all that is asked in this turn of the event loop."""
         if self._is_to_act:
             return
         if self._engine.is_idle():
@@ -237,7 +237,7 @@ class Driver:
         return f"{self.place}: " if self.place is not None else ""
 
     def _noticed(self) -> int:
-        """The moment of what came: now, or where this process was held up, the last one before that, and before something was due.
+        """The moment of what came: now, or if this process was held up, the last one before that, and before something was due.
 
         What came may have come at any time since then.
         """

@@ -72,7 +72,7 @@ class Engine(ContendingConnection):
         self._limits = limits
         self._session = self._new_session(saved)
         self._granted_ms = self._session.timeout_ms()
-        self._session.peek_data("/")  # a ValueError where the root is no path
+        self._session.peek_data("/")  # a ValueError if the root is no path
         self.life = 0
         """How often it was begun."""
 
@@ -190,7 +190,7 @@ class Engine(ContendingConnection):
         self._leave_connection()
 
     def _resume(self, why: str) -> None:
-        """Has the same session taken up, which keeps nothing, where the old one is of no use any more."""
+        """Has the same session taken up, which keeps nothing, if the old one is of no use any more."""
         self._why = why
         self._replace(self._session.saved(), self._count)
         self._wishes.extend((self._follow, followed) for followed in self._subjects.values())

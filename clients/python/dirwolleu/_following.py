@@ -98,9 +98,9 @@ class Follower(Generic[Told]):
 
     @contextmanager
     def listening(self) -> Iterator[Callable[[], Steps[Optional[Told]]]]:
-        """What it gives makes the steps to the next answer: None where the client was stopped.
+        """What it gives makes the steps to the next answer: None if the client was stopped.
 
-        An answer that was good when it came is told, even where a notice has come since.
+        An answer that was good when it came is told, even if a notice has come since.
         """
         subject, wake = self._subject, self._news.set
         self._past = subject.overtaken()
@@ -157,7 +157,7 @@ class Watching(Follower[Told]):
 
     @contextmanager
     def listening(self) -> Iterator[Callable[[], Steps[Optional[Told]]]]:
-        """What it gives makes the steps to the next answer: None where the client was stopped, or none is wanted."""
+        """What it gives makes the steps to the next answer: None if the client was stopped, or none is wanted."""
         with self._engine.news(self._news.set, self._subject.path):
             yield self._next_good
 
@@ -198,7 +198,7 @@ def begun(engine: Engine) -> None:
 def first(
     engine: Engine, subject: Subject[Told], news: News, call: Callable[[Told], Any], is_wanted: Callable[[], bool]
 ) -> Steps[tuple[Optional[Told], bool]]:
-    """Calls a function with the first good answer. Gives that answer and whether the function wants more: no answer where none came
+    """Calls a function with the first good answer. Gives that answer and whether the function wants more: no answer if none came
     within the timeout of the session, or the client was stopped.
     """
     with Watching(engine, subject, news, is_wanted).listening() as next_one:
@@ -217,7 +217,7 @@ def watching(
     is_wanted: Callable[[], bool],
     told: Optional[Told] = None,
 ) -> Steps[None]:
-    """Calls a function with each good answer but the one that was told, until it answers False. It goes on where the client is
+    """Calls a function with each good answer but the one that was told, until it answers False. It goes on if the client is
     started again.
     """
     with Watching(engine, subject, news, is_wanted, told).listening() as next_one:

@@ -24,7 +24,7 @@ def _synced() -> Plan[None]:
 
 
 def _ordered() -> Plan[None]:
-    """A transaction that changes nothing. Where it is refused, as for a root that is not there, it was ordered too."""
+    """A transaction that changes nothing. If it is refused, as for a root that is not there, it was ordered too."""
     transaction = Transaction(lambda *_: [])
     transaction.check("/", -1)
     request = transaction.request()

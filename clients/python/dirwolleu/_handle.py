@@ -44,7 +44,7 @@ class KeptData(NamedTuple):
 
 
 class KeptNames(NamedTuple):
-    """What is kept of the children of a path. The mark is 0 where nothing is."""
+    """What is kept of the children of a path. The mark is 0 if nothing is."""
 
     mark: int
     names: tuple[str, ...]
@@ -96,7 +96,7 @@ def texts_in(spelled: bytes) -> list[str]:
 
 
 def _texts_of_one_length(spelled: bytes) -> list[str]:
-    """The same in a fifth of the time, where they are many, of ASCII and all as long as the first. Else none. Other threads have the interpreter
+    """The same in a fifth of the time, if they are many, of ASCII and all as long as the first. Else none. Other threads have the interpreter
     first: the step that read the texts has kept it from them.
     """
     if len(spelled) < MANY or not spelled.isascii():
@@ -301,13 +301,13 @@ class LookUps:
 
     def subtree(self, path: str, most: int) -> tuple[Optional[list[SubtreeNode]], int]:
         """All nodes at and below a path, each after its parent, and the last zxid at that moment: these are all that the
-        servers had there at that zxid. None where some of it is not kept good: read what is lacking. `TooManyNodes` where
+        servers had there at that zxid. None if some of it is not kept good: read what is lacking. `TooManyNodes` where
         more than this many are reached."""
         spelled, last_zxid = _steady(lambda: self._collected(self._calls.subtree, path, most), self.last_zxid)
         return None if spelled is None else list(_nodes_in(spelled, self._root)), last_zxid
 
     def lacking(self, path: str, most: int) -> list[Lacking]:
-        """The reads, with a watch, that are lacking before there is a subtree: none exactly where there is one. `NotWhole`
+        """The reads, with a watch, that are lacking before there is a subtree: none exactly if there is one. `NotWhole`
         where a name makes no path, so that no read helps."""
         spelled = self._collected(self._calls.lacking, path, most)
         if spelled is None:
@@ -316,7 +316,7 @@ class LookUps:
 
     def snapshot(self, nodes: Sequence[str], parents: Sequence[str]) -> tuple[Optional[KeptAtOnce], int]:
         """What is kept of nodes and of the names below parents, in their order, and the last zxid at that moment: it is all what
-        the servers had there at that zxid. None where some of it is not kept good: read that again, with a watch."""
+        the servers had there at that zxid. None if some of it is not kept good: read that again, with a watch."""
         found, last_zxid = _steady(lambda: self._kept_at_once(nodes, parents), self.last_zxid)
         if found is None:
             return None, last_zxid
@@ -355,7 +355,7 @@ class LookUps:
     def holder(self, directory: str, prefix: str, path: str) -> Optional[int]:
         """The token by which the session holds the first place in a directory by its node of this path: of the names there that
         begin with the prefix, which are kept good, that node's is the first in byte order, and what is kept of the node is good and
-        this session's. None where that is not shown."""
+        this session's. None if that is not shown."""
         spelled, begin, own, token = self._root.spell(directory), prefix.encode(), self._root.spell(path), c_int64()
         place = spelled, len(spelled), begin, len(begin), own, len(own)
         code = self._calls.holder(self._handle, *place, byref(token))
@@ -363,7 +363,7 @@ class LookUps:
         return token.value if code == OK else None
 
     def held(self, ticket: int) -> Optional[int]:
-        """The token, if the session holds by the contender of this ticket: at the last zxid. None where that is not shown."""
+        """The token, if the session holds by the contender of this ticket: at the last zxid. None if that is not shown."""
         token = c_int64()
         code = self._calls.held(self._handle, ticket, byref(token))
         checked(code)
@@ -402,7 +402,7 @@ class LookUps:
         return tuple(texts_in(names))
 
     def _collected(self, collect: Callable[..., int], path: str, most: int) -> Optional[bytes]:
-        """What a function copies of what is at and below a path, and None where that is not whole."""
+        """What a function copies of what is at and below a path, and None if that is not whole."""
         spelled = self._root.spell(path)
         try:
             return filled(lambda *room: self._checked_at(collect(self._handle, spelled, len(spelled), most, *room), path))

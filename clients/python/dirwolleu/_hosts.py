@@ -55,7 +55,7 @@ def _server(text: str) -> Server:
     host = host[1:-1] if host.startswith("[") and host.endswith("]") else host
     if not host or not port.isdecimal() or not 0 < int(port) < 65536:
         raise ValueError(f"{text!r} is no address: host:port is wanted")
-    host.encode("idna")  # a ValueError where it is no name
+    host.encode("idna")  # a ValueError if it is no name
     return host, int(port)
 
 

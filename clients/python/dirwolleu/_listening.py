@@ -10,7 +10,7 @@ Wake = Callable[[], None]
 
 class Listeners:
     """Those who listen, by path. Any thread may add and remove one, and none takes a lock: each line here is a single
-    step of the interpreter, or harms nothing where another thread comes between.
+    step of the interpreter, or harms nothing if another thread comes between.
     """
 
     def __init__(self) -> None:

@@ -171,7 +171,7 @@ def leave(client: Shown, contender: Contender) -> Steps[None]:
 
 
 def patiently(engine: Engine, plan: Callable[[], Steps[Result]]) -> Steps[Result]:
-    """Does what may be done twice, and again where the connection, the session or the load of a server ended it, or no answer
+    """Does what may be done twice, and again if the connection, the session or the load of a server ended it, or no answer
     came in time: for twice the timeout of the session, and then the error is raised.
     """
     until = time.monotonic() + 2 * engine.timeout()
@@ -237,7 +237,7 @@ class BaseHeld(Generic[AnyClient]):
         """Raises `LockLostError` from the step on at which it is not shown that it is held. It asks no server: it asks the core
         whether its node still holds, by the same token, as of the last seen zxid.
 
-        With `within` also once nothing was heard for this many seconds: where what the client knows may be older than that, by the
+        With `within` also once nothing was heard for this many seconds: if what the client knows may be older than that, by the
         clock of `Client.age`.
         """
         why = "it was released" if self._is_released else self._why_lost()
@@ -248,7 +248,7 @@ class BaseHeld(Generic[AnyClient]):
             raise LockLostError(f"{self.path}: {why}")
 
     def _why_lost(self) -> str:
-        """Why it is not shown that the lock is held, or nothing where it is. What was lost once stays lost."""
+        """Why it is not shown that the lock is held, or nothing if it is. What was lost once stays lost."""
         self._why = self._why or self._found_lost()
         return self._why
 
@@ -264,7 +264,7 @@ class BaseHeld(Generic[AnyClient]):
         return "" if self._taken.shown() == self.token else "the node of the lock is not known to be there"
 
     def _release(self) -> Steps[None]:
-        """Lets go of it, and waits until its node is gone. It may be called again. Where its session is over, so is it.
+        """Lets go of it, and waits until its node is gone. It may be called again. If its session is over, so is it.
 
         It waits for twice the timeout of the session. Then `ConnectionLoss` or `CallTimeoutError` is
         raised, and the node may still be there: it is deleted later, through any number of connections, as long as the session lives.
@@ -343,7 +343,7 @@ class BaseTaker(Generic[AnyClient, AnyHeld]):
         raise NotImplementedError
 
     def _contender(self, on_lost: Callable[[Any], object]) -> Contender:
-        """One that contends for it, and calls `on_lost`, later, where it may be lost."""
+        """One that contends for it, and calls `on_lost`, later, if it may be lost."""
         raise NotImplementedError
 
     def _take(self, on_lost: Callable[[Any], object], until: Optional[float]) -> Steps[Taken]:
@@ -400,7 +400,7 @@ class BaseLock(BaseTaker[AnyClient, AnyHeld]):
             raise mixed_names(self._client._engine, self._path, (yield from self._look_at_names()), self._names) from error
 
     def _look_at_names(self) -> Steps[list[str]]:
-        """The names at the path, for people: none where they do not come soon."""
+        """The names at the path, for people: None if they do not come soon."""
         with contextlib.suppress(ZookeeperError):
             names: list[str] = yield Ask(requests.get_children(self._path, None), SHORTEST_ASK)
             return names
@@ -419,7 +419,7 @@ def identified(identifier: str) -> bytes:
 
 
 def names_of(path: str) -> Plan[list[str]]:
-    """The names below a path: none where there is no node."""
+    """The names below a path: None if there is no node."""
     try:
         names: list[str] = yield requests.get_children(path, None)
     except NoNodeError:

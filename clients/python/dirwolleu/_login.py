@@ -76,7 +76,7 @@ class Login:
         return Progress(frames, None)
 
     def _next_token(self, frame: bytes) -> Optional[bytes]:
-        """What is written for a frame that came: None where the log-in is over, or none is wanted."""
+        """What is written for a frame that came: None if the log-in is over, or none is wanted."""
         if not self._kept:
             self._kept = frame
             return self._ask(self._begin()) if self._is_accepted(frame) else None
@@ -101,7 +101,7 @@ class Login:
             raise Refused(str(error)) from error
 
     def _answer(self, body: bytes) -> Optional[bytes]:
-        """The token for what the server has answered, or None where the log-in is over."""
+        """The token for what the server has answered, or None if the log-in is over."""
         if len(body) < _REPLY.size:
             raise Malformed
         _, _, code = _REPLY.unpack_from(body)

@@ -23,7 +23,7 @@ class LookUp:
         return self._found is not None
 
     def then(self, tell: Tell) -> None:
-        """Has a function called with the addresses, or with the error: in the thread of the look-up, or here where it is done."""
+        """Has a function called with the addresses, or with the error: in the thread of the look-up, or here if it is done."""
         self._waiting.append(tell)
         self._tell_those_who_wait()
 

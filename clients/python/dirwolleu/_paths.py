@@ -13,7 +13,7 @@ _BAD = re.compile("[\0-\x1f\x7f-\x9f\ud800-\uf8ff\ufff0-\U0010ffff]")
 
 
 def why_no_path(text: str) -> Optional[str]:
-    """The first reason why a text is no path, and None where this function sees none."""
+    """The first reason why a text is no path, and None if this function sees none."""
     if not text:
         return "it is empty"
     if len(text.encode(errors="replace")) > _LONGEST_PATH:

@@ -1,6 +1,6 @@
 """The one thread of a process that keeps all its blocking clients connected: one poll for their connections, one heap for their timers.
 
-No lock is taken. Whoever asks leaves word in a single step of the interpreter, and rings a bell where the thread waits: so it does not
+No lock is taken. Whoever asks leaves word in a single step of the interpreter, and rings a bell if the thread waits: so it does not
 matter where a thread that asks is interrupted. The thread ends after its last client, and the next one begins another.
 """
 
@@ -89,7 +89,7 @@ class Bell:
 
     def ring(self) -> None:
         try:
-            self._writes.write(_ONE)  # nothing where it is full, so that it rings already
+            self._writes.write(_ONE)  # nothing if it is full, so that it rings already
         except (OSError, ValueError):  # it is closed
             pass
 
@@ -148,7 +148,7 @@ class Reactor:
     # What any thread may call.
 
     def post(self, function: Function) -> bool:
-        """Has a function called in the thread, after what was posted before, and answers whether it is: not where the thread has ended."""
+        """Has a function called in the thread, after what was posted before, and answers whether it is: not if the thread has ended."""
         word = [function]
         self._posted.append(word)
         self._ring()
@@ -163,14 +163,14 @@ class Reactor:
         return self._thread is threading.current_thread()
 
     def await_end(self, longest: float) -> None:
-        """Waits until the thread has ended, where it has no member any more, though not without bound."""
+        """Waits until the thread has ended, if it has no member any more, though not without bound."""
         until = time.monotonic() + longest
         while self._thread is not None and not self.members and time.monotonic() < until:
             if ends_within(self._thread, 0.01):
                 break
 
     def run(self) -> None:
-        """Has a thread poll, where none does. It matters not how many are started: the first that comes here goes on."""
+        """Has a thread poll, if none does. It matters not how many are started: the first that comes here goes on."""
         if self._thread is None:
             threading.Thread(target=self._run, name="dirwolleu", daemon=True).start()
 
@@ -203,7 +203,7 @@ class Reactor:
             self._polls.unregister(descriptor)
 
     def in_thread(self, function: Callable[[], Any], then: Callable[[Any, Optional[BaseException]], object]) -> None:
-        """Has a thread of its own call a function that may wait, and this one take the result or the error. Where it has ended, the other one does."""
+        """Has a thread of its own call a function that may wait, and this one take the result or the error. If it has ended, the other one does."""
 
         def run() -> None:
             try:
@@ -236,7 +236,7 @@ class Reactor:
             _forget(self)
 
     def close(self) -> None:
-        """Frees what it polls by, where no thread does."""
+        """Frees what it polls by, if no thread does."""
         self._polls.close()
         self._bell.close()
 
@@ -320,7 +320,7 @@ def _forget(reactor: Reactor) -> None:
 
 
 def join(begin: Callable[[Reactor], object]) -> Reactor:
-    """Has a function called in the thread that polls, which is begun where there is none."""
+    """Has a function called in the thread that polls, which is begun if there is none."""
     key = this_process(), has_system_threads()
     while True:
         reactor = _reactors.get(key) or _first(key, Reactor())

@@ -60,7 +60,7 @@ class BaseQueue(Generic[AnyClient]):
         return next((plans.child_of(self._path, name) for name in names if name.startswith(tag)), None)
 
     def _get(self, timeout: Optional[float] = None) -> Steps[Optional[bytes]]:
-        """Takes the first entry out, waits for one for at most this many seconds, and answers its data: None where none
+        """Takes the first entry out, waits for one for at most this many seconds, and answers its data: None if none
         came. A timeout of 0 tries once.
 
         Once it has asked for the delete of an entry, it waits for the answer to that as any call does: so it may take longer
@@ -95,7 +95,7 @@ class BaseQueue(Generic[AnyClient]):
                 yield Wait(BETWEEN_TRIES)
 
     def _claim(self, path: str) -> Steps[Optional[bytes]]:
-        """Deletes an entry, and answers its data: None where another one was faster. The answer to the delete is waited for as that of
+        """Deletes an entry, and answers its data: None if another one was faster. The answer to the delete is waited for as that of
         any call, however little time is left: else the entry might be gone with nobody told.
         """
         data = b""

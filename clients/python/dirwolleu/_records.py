@@ -47,7 +47,7 @@ class RawRequest(Request[Result]):
         is_repeatable: bool = False,
         named: Optional[Sequence[str]] = None,
     ) -> None:
-        """`named` are the paths that have to be paths of nodes, where that is not `path`. `read` takes the body of the answer."""
+        """`named` are the paths that have to be paths of nodes, if that is not `path`. `read` takes the body of the answer."""
         if named is None:
             named = () if path is None else (path,)
         super().__init__(Session.raw, path, (operation, named, body), is_repeatable)

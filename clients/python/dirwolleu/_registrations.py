@@ -33,7 +33,7 @@ class BaseRegistration(Generic[AnyClient]):
         self._client, self._path, self._value = client, path, checked_data(value)
         self._there, self._is_wanted = is_there, True
         self._news: Optional[News] = None
-        client._engine.kept(path)  # a ValueError where it is no path
+        client._engine.kept(path)  # a ValueError if it is no path
         client._begin(self._going_on, self._end)
 
     def __repr__(self) -> str:
@@ -74,7 +74,7 @@ class BaseRegistration(Generic[AnyClient]):
             yield from self._withdraw()
 
     def _make(self) -> Plan[None]:
-        """Reads the node with a watch, where nothing good is known of it, and makes it where it is not there."""
+        """Reads the node with a watch, if nothing good is known of it, and makes it if it is not there."""
         engine = self._client._engine
         if engine.state is State.LOST:
             self._there.clear()
@@ -112,7 +112,7 @@ class BaseRegistration(Generic[AnyClient]):
             self._news.set()
 
     def _withdraw(self) -> Steps[None]:
-        """Deletes the node, if it is one of this session, and makes it no more. Where its session is over, so is the node."""
+        """Deletes the node, if it is one of this session, and makes it no more. If its session is over, so is the node."""
         self._is_wanted = False
         self._there.clear()
         if self._news is not None:

@@ -80,11 +80,11 @@ class Request(Generic[Result]):
         self.path = path
         """The path of the node that it is about."""
         self.is_repeatable = is_repeatable
-        """Whether it does no harm to ask it again where it may have happened."""
+        """Whether it does no harm to ask it again if it may have happened."""
         self.watcher = watcher
 
     def leaves_watch(self, answer: Answer) -> bool:
-        """Whether a watch that was asked for is left: where there is no node, `exists` alone leaves one."""
+        """Whether a watch that was asked for is left: if there is no node, `exists` alone leaves one."""
         is_absent = answer.result == library.CODE
         return answer.lack == 0 and (not is_absent or self.is_exists and answer.code == NoNodeError.code)
 

@@ -54,7 +54,7 @@ class _Bounds(NamedTuple):
 class Retry(_Bounds):
     """A policy: how often a call is asked, and how long it pauses between two tries.
 
-    A call is asked again where its connection or its session went, or the server was busy, and only where that can't
+    A call is asked again if its connection or its session went, or the server was busy, and only if that can't
     do a change twice: what reads, what was surely not sent, and what is the same when it is done twice, such as
     `ensure_path`. A read whose connection was lost is asked again without a policy too. A write whose connection ended before its answer is not asked again: `ConnectionLoss` is raised, with
     `may_have_happened` true. After an expiry a call goes on in the new session.
@@ -104,7 +104,7 @@ class Attempts:
         self._until = None if retry.deadline is None else time.monotonic() + retry.deadline
 
     def after(self, error: ZookeeperError) -> float:
-        """How many seconds to wait before the call is asked again. Raises the error where it is not."""
+        """How many seconds to wait before the call is asked again. Raises the error if it is not."""
         if error.may_have_happened or not is_passing(error):
             raise error
         pause = next(self._pauses, None)

@@ -66,7 +66,7 @@ class Inbox:
         return room
 
     def take(self, count: int) -> Piece:
-        """What is to be handed in before anything else is read, now that this many bytes came: none where all are to wait."""
+        """What is to be handed in before anything else is read, now that this many bytes came: None if all are to wait."""
         room, end = self._room, self._end + count
         after = self._next or 4 + _length_at(room)[0]
         if after == end:
@@ -100,7 +100,7 @@ class Inbox:
         return self._hand_in(end, after)
 
     def _wait(self, frame: int, end: int, after: int) -> Piece:
-        """What is before the last frame, of which more is to come; or all, where that is short or has no room. So the session judges a length
+        """What is before the last frame, of which more is to come; or all, if that is short or has no room. So the session judges a length
         that no frame may have as soon as it comes.
         """
         if after - frame < SHORT or after > len(self._room):

@@ -34,7 +34,7 @@ class _Moment(ctypes.Structure):
 
 
 class Semaphore:
-    """An event for one thread that waits, as `News` is. It does not matter where that is interrupted."""
+    """An event for one thread that waits, as `News` is. It does not matter if that is interrupted."""
 
     __slots__ = ("_at",)
 

@@ -26,7 +26,7 @@ from dirwolleu.types import Stat
 NO_LIMIT = 2**64 - 1
 """The limit of a call that has none."""
 LONGEST_ANSWER, LONGEST_REQUEST = 4_194_304, 1_048_575
-"""The most bytes of a frame that comes and of one that is sent, each after its length, where a program says no other."""
+"""The most bytes of a frame that comes and of one that is sent, each after its length, if a program says no other."""
 MOST_AT_ONCE = 98_304
 """How many bytes of what a step says are taken together, at most. What is longer is taken one output after the other, and copied once."""
 LONG = 65_536
@@ -66,7 +66,7 @@ class PlainAction(enum.Enum):
 
 
 class TimedOut(NamedTuple):
-    """The limit of a call has come, and it waits no more. Where it was sent, it may have happened, or may yet."""
+    """The limit of a call has come, and it waits no more. If it was sent, it may have happened, or may yet."""
 
     ticket: int
     was_sent: bool
@@ -79,8 +79,8 @@ class Shown(NamedTuple):
 
 
 class Refused(NamedTuple):
-    """A read of a subject was refused, and is made again after a second, or where its answer is too long once more after a minute. The code
-    is the server's, where it was the server that has."""
+    """A read of a subject was refused, and is made again after a second, or if its answer is too long once more after a minute. The code
+    is the server's, if it was the server that has."""
 
     ticket: int
     refusal: int
@@ -104,7 +104,7 @@ class MemberRemoved(NamedTuple):
 
 
 class TreeBounded(NamedTuple):
-    """Whether a tree has more nodes than its bound is another one than before. Where it has, no more of it is followed."""
+    """Whether a tree has more nodes than its bound is another one than before. If it has, no more of it is followed."""
 
     tree: int
     is_bounded: bool
@@ -117,9 +117,9 @@ class TreeComplete(NamedTuple):
 
 
 class Contends(NamedTuple):
-    """How a contender stands, where that is another thing than before: one of `CONTENDER_WAITS` to `CONTENDER_GIVEN_UP`.
+    """How a contender stands, if that is another thing than before: one of `CONTENDER_WAITS` to `CONTENDER_GIVEN_UP`.
 
-    It holds by a token. Where it pauses, `refusal` says why, and the code is the server's.
+    It holds by a token. If it pauses, `refusal` says why, and the code is the server's.
     """
 
     ticket: int
@@ -152,7 +152,7 @@ Action = Union[library.Output, Dial, PlainAction, TimedOut, Shown, Refused, Memb
 
 @functools.cache
 def keep_what_is_let_go() -> None:
-    """Has glibc keep the memory of long answers for the next ones. What is free at the end of its heap it gives back to the system where that is more
+    """Has glibc keep the memory of long answers for the next ones. What is free at the end of its heap it gives back to the system if that is more
     than 128 KB, or twice the longest block that was mapped by itself and freed: then each page of the next answer is a fault, which takes as long as
     all else.
     """
@@ -286,7 +286,7 @@ class Session(LookUps):
         return self._outputs(self._calls.close(self._handle, now, ticket, until))
 
     def follow(self, now: int, ticket: int, path: str, side: int) -> list[Action]:
-        """Keeps what is known of the data of a node, or of the names of its children, good, also where there is no node yet."""
+        """Keeps what is known of the data of a node, or of the names of its children, good, even if there is no node yet."""
         spelled = self._root.spell(path)
         calls = self._calls
         follow = calls.follow_data if side == library.DATA_SIDE else calls.follow_names
@@ -296,7 +296,7 @@ class Session(LookUps):
         return self._outputs(self._calls.unfollow(self._handle, now, ticket))
 
     def follow_tree(self, now: int, ticket: int, path: str, most: int) -> list[Action]:
-        """Follows all nodes at and below a path, of which no more are taken on where there are more than `most`."""
+        """Follows all nodes at and below a path, of which no more are taken on if there are more than `most`."""
         spelled = self._root.spell(path)
         return self._outputs(self._calls.follow_tree(self._handle, now, ticket, spelled, len(spelled), most), path)
 
@@ -364,7 +364,7 @@ class Session(LookUps):
         return bool(self._take_all() == _OK)
 
     def _each_output(self, least: int = 0) -> list[Action]:
-        """The same, one output after the other, and all that follow one of fewer bytes than these together. Where there is no memory for
+        """The same, one output after the other, and all that follow one of fewer bytes than these together. If there is no memory for
         one, it is lost."""
         outputs: list[Action] = []
         while (code := self._take_next()) == _OK:

@@ -162,7 +162,7 @@ class Link:
             self._watch(READ)
 
     def _read(self) -> None:
-        """Reads on only where the room came full: else the rest of what is long is mostly not there yet."""
+        """Reads on only if the room came full: else the rest of what is long is mostly not there yet."""
         inbox = self.inbox
         for _ in range(MOST_ROOMS):
             if self._socket is None:

@@ -25,7 +25,7 @@ LONGEST_END = 5.0
 class Loop:
     """What a client does in the thread that polls: each step of the engine, the first and the last.
 
-    `begin` begins the engine. `end` ends it, where nobody has stopped it; `ended` is called when all is over.
+    `begin` begins the engine. `end` ends it, if nobody has stopped it; `ended` is called when all is over.
     """
 
     def __init__(
@@ -65,7 +65,7 @@ class Loop:
         return not self._is_over
 
     def later(self, seconds: float, function: Callable[[], object]) -> None:
-        """Calls a function after this many seconds, in the thread that polls. Where the client ends before, it does not."""
+        """Calls a function after this many seconds, in the thread that polls. If the client ends before, it does not."""
         self.soon(lambda: self.call_later(seconds, function))
 
     def soon(self, call: Callable[[], object]) -> None:
@@ -76,7 +76,7 @@ class Loop:
     def stop(self, end: Callable[[], None], longest: float = LONGEST_END) -> None:
         """Does what ends the engine, and waits for that, though not without bound.
 
-        Where the client has ended already, `end` is not called; nor where it has not begun, which it then never does.
+        If the client has ended already, `end` is not called; nor if it has not begun, which it then never does.
         """
         self.is_stopped = True
         if self._fate.never_begins():
@@ -186,7 +186,7 @@ class Threads:
         return self.loop.is_over()
 
     def are_ending(self) -> bool:
-        """Whether they were stopped, or end by themselves, as where the session is closed."""
+        """Whether they were stopped, or end by themselves, as when the session is closed."""
         return self.loop.is_stopped or self.have_begun and not self._engine.is_running
 
     def start(self) -> None:

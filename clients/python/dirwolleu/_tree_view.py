@@ -52,7 +52,7 @@ class TreeView:
         self._look_at = 0
         self.latest: Optional[TreeSnapshot] = None
         self.trouble: Optional[Exception] = None
-        """Why there is no newer snapshot, where that is not just that reads are under way."""
+        """Why there is no newer snapshot, if that is not just that reads are under way."""
 
     # What happens.
 
@@ -98,7 +98,7 @@ class TreeView:
     # What is to be done.
 
     def look(self, now: int) -> None:
-        """Takes a snapshot, where that is worth it and the moment has come. The client is connected."""
+        """Takes a snapshot, if that is worth it and the moment has come. The client is connected."""
         if not self._must_look or now < self._look_at:
             return
         began = moment()
@@ -122,7 +122,7 @@ class TreeView:
         return self._look_at if self._must_look else None
 
     def _take(self) -> None:
-        """Takes a snapshot, where the core shows all of the tree. It fails where no read would have it do so."""
+        """Takes a snapshot, if the core shows all of the tree. It fails if no read would have it do so."""
         nodes, zxid = self._host.subtree(self.root, self.most)
         if nodes is None:
             self._host.lacking(self.root, self.most)
@@ -136,7 +136,7 @@ class TreeView:
         return TooManyNodes(f"more than {self.most} nodes at and below {self.root}; ask for more, or for a path below")
 
     def _absence(self) -> Optional[NoNodeError]:
-        """That there is no root, where that is known."""
+        """That there is no root, if that is known."""
         kept = self._host.settled(self.root)
         if kept is None or kept.exists:
             return None

@@ -61,7 +61,7 @@ class Views(Dispatcher):
 
     @contextlib.contextmanager
     def following(self, path: str, side: int, wake: Callable[[], None]) -> Iterator[Followed]:
-        """Within it, the core keeps a side of a path good. `wake` is called where it shows that, or a read is refused."""
+        """Within it, the core keeps a side of a path good. `wake` is called if it shows that, or a read is refused."""
         followed = Followed(path, side, wake)
         self._wishes.append((self._follow, followed))
         try:
@@ -117,7 +117,7 @@ class Views(Dispatcher):
         return tree in self._trees
 
     def _grow_trees(self, now: int) -> None:
-        """Has trees be followed, and looked at, where a server has accepted the session."""
+        """Has trees be followed, and looked at, if a server has accepted the session."""
         if self.state is State.CONNECTED and self.is_running:
             for tree in list(self._trees):
                 if tree.ticket is None:
@@ -125,7 +125,7 @@ class Views(Dispatcher):
                 tree.look(now)
 
     def _plant(self, now: int, tree: TreeView) -> None:
-        """Has the core follow a tree. Where there is no memory for that, it is tried again with the next step."""
+        """Has the core follow a tree. If there is no memory for that, it is tried again with the next step."""
         tree.ticket = ticket = next(self._tickets)
         self._planted[ticket] = tree
         try:
@@ -139,7 +139,7 @@ class Views(Dispatcher):
             self._step(now, Session.unfollow_tree, tree.ticket)
 
     def _tend_trees(self, now: int) -> None:
-        """Makes the step in which the session tends its trees, where one is due already."""
+        """Makes the step in which the session tends its trees, if one is due already."""
         if self._saved_at_close is not None:
             return
         due = self._session.deadline()

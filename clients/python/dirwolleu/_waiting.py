@@ -23,7 +23,7 @@ LONGEST_CALLBACK = 5.0
 class News:
     """An event for one thread that waits. The thread that sets it waits for no lock.
 
-    So it does not matter where a thread that waits is interrupted, and its signal handlers may wait for other events.
+    So it does not matter if a thread that waits is interrupted, and its signal handlers may wait for other events.
     """
 
     def __init__(self) -> None:
@@ -66,7 +66,7 @@ class Sleepers:
             return Semaphore() if has_system_threads() else News()
 
     def wake(self) -> None:
-        """Has them go on. Any thread may say so, and it does not matter where it is interrupted: none is forgotten before it goes on."""
+        """Has them go on. Any thread may say so, and it does not matter if it is interrupted: none is forgotten before it goes on."""
         waiters = self.waiters
         while waiters:
             try:
@@ -128,7 +128,7 @@ class Waiter:
 
 
 class Future(concurrent.futures.Future[Any]):
-    """What a call that ends in `_async` answers. `cancel` answers true only where the call is not handed over, and is not sent.
+    """What a call that ends in `_async` answers. `cancel` answers true only if the call is not handed over, and is not sent.
 
     Its callbacks run where those of watches do, so that they may call the client.
     """
@@ -268,7 +268,7 @@ class Callbacks(threading.Thread):
         self._is_begun = self._has_ended = self._is_left = False
 
     def tell(self, function: Callable[[Any], object], argument: Any) -> bool:
-        """Has a function called, and answers whether it is: it is not where the thread has ended."""
+        """Has a function called, and answers whether it is: it is not if the thread has ended."""
         told = _Told(function, argument)
         self._queue.put(told)
         if not self._is_begun:
@@ -285,7 +285,7 @@ class Callbacks(threading.Thread):
         self._queue.put(None)
 
     def _begin(self) -> None:
-        """Begins, if it has not, and nobody starts it. What was told stays where no thread can be started now."""
+        """Begins, if it has not, and nobody starts it. What was told stays if no thread can be started now."""
         if self._is_begun:
             return
         try:

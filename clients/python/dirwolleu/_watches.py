@@ -39,7 +39,7 @@ class _Watch(Generic[Told]):
         self._function = checked_function("what a watch calls", function)
         self._client._engine.check_process()
         subject = self._subject()
-        subject.settled()  # a ValueError where the path is none
+        subject.settled()  # a ValueError if the path is none
         told: Optional[Told] = None
 
         def begin_first(news: News) -> Steps[tuple[Optional[Told], bool]]:
@@ -88,7 +88,7 @@ class DataWatch(_Watch[Kept]):
 
     The first call is made before the watch is there, in the thread that makes it, as kazoo's is: if the client is started
     and an answer comes within the timeout of the session. From then on, and always with asyncio, the function is called
-    where watches are, one after the other. It may call the client. With asyncio it may be a coroutine function. Where it answers False, and after `stop`, it is called no more. What it raises is logged. Where a
+    where watches are, one after the other. It may call the client. With asyncio it may be a coroutine function. If it answers False, and after `stop`, it is called no more. What it raises is logged. If a
     read is refused for another reason than the connection, the session and the load of a server, the watch ends, and the
     log says why.
 
@@ -107,7 +107,7 @@ class DataWatch(_Watch[Kept]):
 
 class ChildrenWatch(_Watch[KeptChildren]):
     """Calls a function with the list of the names of a node's children, now and whenever they have changed: with an
-    empty one where there is no node.
+    empty one if there is no node.
 
     All else is as for `DataWatch`.
 

@@ -38,19 +38,19 @@ _OPEN = "it may or may not have happened: read again"
 class ZookeeperError(Exception):
     """What all errors of calls are.
 
-    Its text is the reason, the path, and what to do where the reason does not say it: `no node: /nope`. `code` is
-    ZooKeeper's number of the error, below 0, and None where ZooKeeper has none.
+    Its text is the reason, the path, and what to do if the reason does not say it: `no node: /nope`. `code` is
+    ZooKeeper's number of the error, below 0, and None if ZooKeeper has none.
     """
 
     code: Optional[int] = None
     path: Optional[str] = None
-    """The node that the call is about; of a create that its parent prevents, the parent. None where there is none."""
+    """The node that the call is about; of a create that its parent prevents, the parent. None if there is none."""
 
     may_have_happened: bool = False
     """Whether a change that was asked for may have happened, or may still: to ask again might do it twice."""
 
     is_answer: bool = False
-    """Whether a server answered the call with this code, where the client itself may find so too, as that the session has expired."""
+    """Whether a server answered the call with this code, if the client itself may find so too, as that the session has expired."""
 
     entry: Optional[bytes] = None
     """Of `Queue.get`, if an entry may have been taken out: its data."""

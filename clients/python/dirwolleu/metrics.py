@@ -44,7 +44,7 @@ class CallEvent(NamedTuple):
     """`ok`, `refused` by the server, `lost`, `expired`, `closed`, `not_connected`, `late`, or `not_asked`: refused before it was sent, or its
     answer is too long."""
     code: int
-    """ZooKeeper's number of what the server has answered, 0 where it has not or all was well."""
+    """ZooKeeper's number of what the server has answered, 0 if it has not or all was well."""
     zxid: int
     """The greatest zxid that was seen by then."""
     seconds: float

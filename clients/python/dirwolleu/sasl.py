@@ -16,7 +16,7 @@ from typing import Callable, Optional
 __all__ = ["Sasl", "Step", "digest_md5"]
 
 Step = Callable[[bytes], Optional[bytes]]
-"""One log-in: is called with no bytes first, and then with each challenge of the server. It answers the token to send, or None where the
+"""One log-in: is called with no bytes first, and then with each challenge of the server. It answers the token to send, or None if the
 log-in is over. What it raises ends the client, with its words in an `AuthFailedError`. All blocking clients of the process wait while it runs."""
 Sasl = Callable[[], Step]
 """Makes what logs in on one connection."""

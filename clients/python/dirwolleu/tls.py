@@ -24,7 +24,7 @@ def tls_context(
     """A context for `Client(.., ssl=context)`, made of files in PEM. Any other context of the module `ssl` serves too.
 
     `ca` has the certificates that are trusted; without it those of the system are. `certfile` and `keyfile` are the
-    client's own certificate and key, where the server wants one; `keyfile` may be left out where both are in one file.
+    client's own certificate and key, if the server wants one; `keyfile` may be left out if both are in one file.
     The name in the server's certificate has to be that of the connection string, unless `check_hostname` is false. With
     `verify_certs` false any server is believed, and so is whoever is on the way to it.
 

@@ -17,7 +17,7 @@ class TreeNode(NamedTuple):
     path: str
 
     data: Optional[bytes]
-    """The node's data, None where they are null."""
+    """The node's data, None if they are null."""
 
     stat: DataStat
 
@@ -79,7 +79,7 @@ class TreeSnapshot(Mapping[str, TreeNode]):
         return tuple(self._children.get(path, ()))
 
     def changed_since(self, earlier: Optional[Mapping[str, TreeNode]]) -> TreeChange:
-        """What differs from an earlier snapshot: all of it is new where that is None."""
+        """What differs from an earlier snapshot: all of it is new if that is None."""
         old = {} if earlier is None else earlier
         return TreeChange(
             tuple(path for path in self if path not in old),

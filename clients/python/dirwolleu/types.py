@@ -48,7 +48,7 @@ class WatchedEvent(NamedTuple):
 Watch = Union[bool, Callable[[WatchedEvent], object], None]
 """Whether a read leaves a watch, so that its answer is kept.
 
-A callable is called when the watch fires, and once where it was left on the same data or children more than once. True
+A callable is called when the watch fires, and once if it was left on the same data or children more than once. True
 calls nothing.
 """
 
@@ -80,7 +80,7 @@ class Stat(NamedTuple):
 
 
 class DataStat(NamedTuple):
-    """The fields of a `Stat` that change only where a data watch fires."""
+    """The fields of a `Stat` that change only if a data watch fires."""
 
     czxid: int
     mzxid: int
@@ -116,7 +116,7 @@ class Stats(NamedTuple):
     """How many calls were sent and wait for their answers now."""
 
     round_trip: Optional[float]
-    """How long answers to calls and pings take of late, in seconds, or None where none came yet."""
+    """How long answers to calls and pings take of late, in seconds, or None if none came yet."""
 
 
 class Kept(NamedTuple):
@@ -127,15 +127,15 @@ class Kept(NamedTuple):
     mark: Mark
 
     last_zxid: int
-    """The greatest zxid that the client has seen: where the mark is good, the answer is that of the history at this
+    """The greatest zxid that the client has seen: if the mark is good, the answer is that of the history at this
     zxid.
     """
 
     stat: Optional[DataStat]
-    """None where no node is there."""
+    """None if no node is there."""
 
     data: Optional[bytes]
-    """The node's data. None where they are null, where they were not read, and where no node is there."""
+    """The node's data. None if they are null, if they were not read, and if no node is there."""
 
     has_data: bool
     """Whether the data are known, null or not: `exists` alone does not tell them."""
@@ -167,7 +167,7 @@ class KeptChildren(NamedTuple):
     mark: Mark
 
     last_zxid: int
-    """The greatest zxid that the client has seen: where the mark is good, the names are those of the history at this
+    """The greatest zxid that the client has seen: if the mark is good, the names are those of the history at this
     zxid.
     """
 
@@ -175,7 +175,7 @@ class KeptChildren(NamedTuple):
     """The names of the children, in the order of their bytes."""
 
     pzxid: int
-    """The zxid of the last change of this set, 0 where there is no node."""
+    """The zxid of the last change of this set, 0 if there is no node."""
 
     exists: bool = True
     """Whether there is a node. `follow_children` tells its absence too, which is kept of its data."""

@@ -27,7 +27,7 @@ class Ask(NamedTuple):
     request: Request[Any]
     form: Callable[[Any], Any]
     once: Kinds = ()
-    """After which errors it is not to be asked again by a policy, where it may have happened."""
+    """After which errors it is not to be asked again by a policy, if it may have happened."""
 
 
 def once_of(ephemeral: bool, sequence: bool) -> Kinds:
@@ -46,7 +46,7 @@ def told(error: BaseException, once: Kinds) -> BaseException:
 
 
 def protected(path: str, request_of: Callable[[str], Request[str]]) -> Plan[str]:
-    """Makes a node whose name begins with a tag, as Curator's `withProtection`: so it is found again where the answer was lost."""
+    """Makes a node whose name begins with a tag, as Curator's `withProtection`: so it is found again if the answer was lost."""
     parent, _, name = path.rpartition("/")
     tag = f"_c_{plans.new_tag()}-"
     request = request_of(f"{parent}/{tag}{name}")
@@ -129,7 +129,7 @@ class Connection:
         return self._client._peer()
 
     def _read_timeout(self) -> Optional[int]:
-        """The read timeout in milliseconds where the program wants a smaller one than kazoo's own, else None."""
+        """The read timeout in milliseconds if the program wants a smaller one than kazoo's own, else None."""
         address, port = self._client._peer()
         own_timeout = self._client._granted_timeout() * 1000 * 2 / 3
         wanted, _ = self._connect(address, address, port)

@@ -75,7 +75,7 @@ def hosts(hosts: HostList) -> Hosts:
 
 
 def policy(name: str, policy: object, handler: SequentialThreadingHandler) -> KazooRetry:
-    """The policy that a keyword has, where None is one without end."""
+    """The policy that a keyword has, if None is one without end."""
     if policy is None:
         return KazooRetry(max_tries=None, sleep_func=handler.sleep_func)
     if isinstance(policy, dict):
@@ -92,7 +92,7 @@ _OLD = {"max_retries": "max_tries", "retry_delay": "delay", "retry_backoff": "ba
 
 
 def old_policy(others: dict[str, Any]) -> Optional[dict[str, Any]]:
-    """Takes the old keywords of a policy out, which hold for both: the words of a `KazooRetry`, or None where there is none."""
+    """Takes the old keywords of a policy out, which hold for both: the words of a `KazooRetry`, or None if there is none."""
     found = {new: others.pop(old) for old, new in _OLD.items() if old in others}
     return {"max_tries": None, **found} if found else None
 

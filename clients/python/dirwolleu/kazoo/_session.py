@@ -106,7 +106,7 @@ class _Probe:
 class KazooEngine(Engine):
     """An engine that also closes a connection whose server was not heard for a read timeout, as kazoo does.
 
-    Where half of that has passed without a byte, it asks for the root, and where nothing comes for the other half, the
+    Where half of that has passed without a byte, it asks for the root, and if nothing comes for the other half, the
     connection is over. Without a read timeout the rules of `Engine` hold alone.
     """
 
@@ -221,7 +221,7 @@ class KazooDriver(Driver):
         self.connects = lambda place: handler._dial((place.address, place.port), timeout)
 
     def use_policy(self, retry: KazooRetry, on_end: Callable[[], object]) -> None:
-        """Has the tries and the time be those of a policy. Where it gives up, the engine ends."""
+        """Has the tries and the time be those of a policy. If it gives up, the engine ends."""
         self._policy = KazooPolicy(retry, functools.partial(_count_of_hosts, self.servers))
         self._on_end = on_end
 
@@ -270,7 +270,7 @@ class Session(Client):
         return self._engine.is_running
 
     def send(self, ask: Ask, outcome: AsyncResult) -> None:
-        """Asks a server. Raises `ConnectionClosedError` of dirwolleu where it is not started."""
+        """Asks a server. Raises `ConnectionClosedError` of dirwolleu if it is not started."""
         self._check_process()
         self._engine.ask(moment(), ask.request, Answered(outcome, ask))
         self.act()
@@ -333,7 +333,7 @@ class Session(Client):
 
 @dataclass(frozen=True)
 class Told:
-    """What the engine calls where a watch fires: it has the handler call the program's function."""
+    """What the engine calls when a watch fires: it has the handler call the program's function."""
 
     owner: KazooClient
     function: Callable[[Any], object]

@@ -216,7 +216,7 @@ class KazooClient:
 
     @property
     def chroot(self) -> str:
-        """The node of the servers that the program knows as `/`: empty where that is the servers' own.
+        """The node of the servers that the program knows as `/`: empty if that is the servers' own.
 
         It can be set while the client is not started. Raises `ConfigurationError` where it is.
         """
@@ -231,7 +231,7 @@ class KazooClient:
         self._found = forms.hosts(servers + own_path(path))
 
     def set_hosts(self, hosts: forms.HostList, randomize_hosts: Optional[bool] = None) -> None:
-        """Goes on with these hosts. The session moves to another one where `Client.set_hosts` does.
+        """Goes on with these hosts. The session moves to another one if `Client.set_hosts` does.
 
         Raises `ConfigurationError` where the chroot is another one than before.
         """
@@ -467,7 +467,7 @@ class KazooClient:
         return place.address, place.port
 
     def _session_number(self) -> int:
-        """The number of the session, 0 where there is none."""
+        """The number of the session, 0 if there is none."""
         return 0 if self._session is None else self._session.session_id
 
     def _kept(self, path: str) -> Optional[Kept]:
@@ -541,7 +541,7 @@ class KazooClient:
         return self._retry.copy()(func, *args, **kwargs)
 
     def exists(self, path: str, watch: Watch = None) -> Optional[ZnodeStat]:
-        """What is known of a node, or None where there is none."""
+        """What is known of a node, or None if there is none."""
         found: Optional[ZnodeStat] = self.exists_async(path, watch).get()
         return found
 
@@ -583,7 +583,7 @@ class KazooClient:
     ) -> Any:
         """Makes a node, and tells its path; with `include_data` also its `ZnodeStat`.
 
-        With `protect`, which kazoo does not have, its name begins with a tag, and it is looked for where the answer is lost.
+        With `protect`, which kazoo does not have, its name begins with a tag, and it is looked for if the answer is lost.
         Raises `NodeExistsError`, `NoNodeError`, `NoChildrenForEphemeralsError`, `InvalidACLError`.
         """
         return self.create_async(path, value, acl, ephemeral, sequence, makepath, include_data, protect).get()
@@ -632,7 +632,7 @@ class KazooClient:
         return self._run(plans.ensure_path(checked_path(path), own_acls(acl or self.default_acl)), forms.true)
 
     def set(self, path: str, value: Optional[bytes], version: int = -1) -> ZnodeStat:
-        """Sets the data of a node of this version, where -1 is any. Raises `NoNodeError` and `BadVersionError`."""
+        """Sets the data of a node of this version; -1 is any. Raises `NoNodeError` and `BadVersionError`."""
         found: ZnodeStat = self.set_async(path, value, version).get()
         return found
 
@@ -644,9 +644,9 @@ class KazooClient:
         return self._send(requests.set(checked_path(path), value, version), forms.stat)
 
     def delete(self, path: str, version: int = -1, recursive: bool = False) -> bool:
-        """Deletes a node of this version, where -1 is any; with `recursive` of any version, with all below it.
+        """Deletes a node of this version (-1: any); with `recursive` of any version, with all below it.
 
-        Raises `NoNodeError`, `BadVersionError`, `NotEmptyError`; with `recursive` it is no error where there is none.
+        Raises `NoNodeError`, `BadVersionError`, `NotEmptyError`; with `recursive` it is no error if there is none.
         """
         check_flags(recursive=recursive)
         if recursive:
@@ -676,7 +676,7 @@ class KazooClient:
         return self._send(records.get_acls(checked_path(path)), forms.acls)
 
     def set_acls(self, path: str, acls: Sequence[ACL], version: int = -1) -> ZnodeStat:
-        """Sets the ACL of a node whose `aversion` is this one, where -1 is any.
+        """Sets the ACL of a node whose `aversion` is this one; -1 is any.
 
         Raises `NoNodeError`, `BadVersionError`, `InvalidACLError`.
         """
@@ -762,7 +762,7 @@ class KazooClient:
     def server_version(self, retries: int = 3) -> tuple[int, ...]:
         """The version of the server, such as (3, 8, 0).
 
-        It asks by `envi` as kazoo does, and by `srvr`, which a server answers where its settings name no words, where it does not
+        It asks by `envi` as kazoo does, and by `srvr`, which a server answers if its settings name no words, if it does not
         answer that one. Raises `KazooException` where neither tells it in this many tries and one.
         """
         for _ in range(1 + max(0, retries)):

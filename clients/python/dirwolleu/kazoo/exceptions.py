@@ -16,7 +16,7 @@ class ZookeeperError(KazooException):
     """What a server, or the state of the session, answers to a call. Its text has the path, and what to do."""
 
     code: Optional[int] = None
-    """ZooKeeper's number of the error, and None where there is none."""
+    """ZooKeeper's number of the error, and None if there is none."""
 
     is_final = False
     """Whether a `KazooRetry` does not call again: a sequential node may have been made, and there would be two."""
@@ -105,7 +105,7 @@ class ReconfigInProcessError(ZookeeperError):
 
 
 class APIError(ZookeeperError):
-    """An error that a server answers where it has none that says more."""
+    """An error that a server answers if it has none that says more."""
 
     code = -100
 

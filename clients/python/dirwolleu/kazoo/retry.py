@@ -34,10 +34,10 @@ class InterruptedError(RetryFailedError):
 
 
 class KazooRetry:
-    """Calls a function again where its connection or its session went.
+    """Calls a function again if its connection or its session went.
 
     It is kazoo's policy, so a change that may have happened is made again too: a create may then raise
-    `NodeExistsError` for a node of its own. A sequential create is not: it raises what it has raised. `max_tries` is how often it is called again, where -1 and None are no bound;
+    `NodeExistsError` for a node of its own. A sequential create is not: it raises what it has raised. `max_tries` is how often it is called again: -1 and None are no bound;
     `delay` is the first pause in seconds, each later one is `backoff` times the one before, up to `max_delay`, and up to
     the part `max_jitter` of each is left to chance. With `deadline` no pause begins that would end after this many seconds.
     An expired session counts unless `ignore_expire` is false. A client that is stopped is never asked again.

@@ -1,6 +1,6 @@
 """What handlers for green threads share: those who wait leave the processor to others of the same thread of the system.
 
-The client's own threads are the system's. What they have to tell is handed to the thread of the handler, where a green one
+The client's own threads are the system's. What they have to tell is handed to the thread of the handler, if a green one
 calls it: so no lock and no event of green threads is ever touched by another thread.
 """
 

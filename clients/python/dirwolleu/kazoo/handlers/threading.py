@@ -211,7 +211,7 @@ class SequentialThreadingHandler:
     def select(
         self, rlist: Iterable[Any], wlist: Iterable[Any], xlist: Iterable[Any], timeout: Optional[float] = None
     ) -> Found:
-        """`select.select`, where the system has epoll for descriptors of any number."""
+        """`select.select`, if the system has epoll for descriptors of any number."""
         return self._epoll_select(rlist, wlist, xlist, timeout) if _HAS_EPOLL else self._select(rlist, wlist, xlist, timeout)
 
     def _select(self, *args: Any) -> Found:

@@ -46,5 +46,5 @@ def basename(p: str) -> str:
 
 
 def own_path(path: str) -> str:
-    """The path of a node that a program means: kazoo adds a slash at the beginning where there is none."""
+    """The path of a node that a program means: kazoo adds a slash at the beginning if there is none."""
     return normpath("/" + path.lstrip("/"))

@@ -24,7 +24,7 @@ class Create(NamedTuple):
 
 
 class Delete(NamedTuple):
-    """Deletes a node of this version, where -1 is any."""
+    """Deletes a node of this version; -1 is any."""
 
     path: str
     version: int
@@ -35,7 +35,7 @@ class Delete(NamedTuple):
 
 
 class SetData(NamedTuple):
-    """Sets the data of a node of this version, where -1 is any."""
+    """Sets the data of a node of this version; -1 is any."""
 
     path: str
     data: bytes

@@ -43,7 +43,7 @@ class WatchedEvent(NamedTuple):
     type: str
     state: str
     path: Optional[str]
-    """The node, or None where the watch has ended with the connection or the session."""
+    """The node, or None if the watch has ended with the connection or the session."""
 
 
 class Callback(NamedTuple):
@@ -91,7 +91,7 @@ class ZnodeStat(NamedTuple):
 
     @property
     def owner_session_id(self) -> Optional[int]:
-        """The session that an ephemeral node belongs to, None where it is none."""
+        """The session that an ephemeral node belongs to, None if it is none."""
         return self.ephemeralOwner or None
 
     @property

@@ -21,7 +21,7 @@ class Barrier:
         self.client, self.path = client, path
 
     def create(self) -> None:
-        """Puts the barrier up, where it is not."""
+        """Puts the barrier up, if it is not."""
         self.client._drive(lambda session: self._of(session)._create())
 
     def remove(self) -> bool:
@@ -47,7 +47,7 @@ class DoubleBarrier:
         self._identifier = identifier or ""
 
     def enter(self) -> None:
-        """Waits until all have come. Where that fails, this one does not take part, as `participating` tells."""
+        """Waits until all have come. If that fails, this one does not take part, as `participating` tells."""
         try:
             self.participating = bool(self.client._drive(lambda session: self._of(session)._enter()))
         except KazooException:

@@ -67,7 +67,7 @@ _OF_STATES = {
 
 
 class TreeCache:
-    """All nodes at and below a path, which are read again where they change, through lost connections and new sessions.
+    """All nodes at and below a path, which are read again when they change, through lost connections and new sessions.
 
     Each state of the tree is of one moment. Its changes are told one after the other by the handler: what is added after
     its parent, what is removed before. `most` bounds the number of its nodes.
@@ -92,7 +92,7 @@ class TreeCache:
         self._is_initialized = self._is_told = False
 
     def start(self) -> None:
-        """Begins to read, and makes the path's node where there is none. Raises `KazooException` where it was begun before."""
+        """Begins to read, and makes the path's node if there is none. Raises `KazooException` where it was begun before."""
         if self._state != self.STATE_LATENT:
             raise KazooException("a cache is started once, and not after it was closed")
         self._state = self.STATE_STARTED
@@ -119,12 +119,12 @@ class TreeCache:
         return listener
 
     def get_data(self, path: str, default: Any = None) -> Any:
-        """The `NodeData` of a node, where there is one, else `default`. Raises `ValueError` where the path is not of the tree."""
+        """The `NodeData` of a node, if there is one, else `default`. Raises `ValueError` where the path is not of the tree."""
         node = self._snapshot.get(self._checked(path))
         return default if node is None else _data_of(node, self._snapshot)
 
     def get_children(self, path: str, default: Any = None) -> Any:
-        """The names below a node as a frozenset, where there is one, else `default`. Raises `ValueError` as `get_data`."""
+        """The names below a node as a frozenset, if there is one, else `default`. Raises `ValueError` as `get_data`."""
         spelled, snapshot = self._checked(path), self._snapshot
         return frozenset(snapshot.children(spelled)) if spelled in snapshot else default
 

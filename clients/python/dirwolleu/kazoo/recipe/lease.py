@@ -18,7 +18,7 @@ _MOMENT = "%Y-%m-%dT%H:%M:%S"
 
 
 class NonBlockingLease:
-    """A lease of one holder, for `duration` from now on. It is true where it was obtained: `identifier`, which is the name of the host
+    """A lease of one holder, for `duration` from now on. It is true if it was obtained: `identifier`, which is the name of the host
     where it is None, had it already, or nobody has it any more.
 
     It does not wait for a holder. The clocks of the hosts tell who has it: they are to agree. kazoo's leases are of the
@@ -75,7 +75,7 @@ class NonBlockingLease:
 
 
 class MultiNonBlockingLease:
-    """A lease that `count` hold at a time: it is true where one of as many leases below the path was obtained."""
+    """A lease that `count` hold at a time: it is true if one of as many leases below the path was obtained."""
 
     def __init__(
         self,

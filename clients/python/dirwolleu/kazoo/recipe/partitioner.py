@@ -186,7 +186,7 @@ class SetPartitioner:
         self._begin_again(state_id)
 
     def _takes(self, lock: Any, state_id: int, changed: AsyncResult) -> bool:
-        """Whether a lock is held now. It is not waited for where the members change meanwhile."""
+        """Whether a lock is held now. It is not waited for if the members change meanwhile."""
         while self._is_current(state_id) and not changed.ready():
             try:
                 if lock.acquire(timeout=self._longest_wait):

@@ -30,9 +30,9 @@ class BaseQueue:
 
 
 class Queue(BaseQueue):
-    """Entries that each go to one of those that take them: by priority, where 0 is first, then in the order of making.
+    """Entries that each go to one of those that take them: by priority, 0 first, then in the order of making.
 
-    An entry that was put is there once, also where an answer was lost. It is deleted before it is worked on.
+    An entry that was put is there once, even if an answer was lost. It is deleted before it is worked on.
     """
 
     def __len__(self) -> int:
@@ -40,7 +40,7 @@ class Queue(BaseQueue):
         return int(self.client._drive(lambda session: self._of(session)._size()))
 
     def get(self) -> Optional[bytes]:
-        """Takes the first entry out, and answers its data: None where there is none."""
+        """Takes the first entry out, and answers its data: None if there is none."""
         found: Optional[bytes] = self.client._drive(lambda session: self._of(session)._get(0))
         return found
 

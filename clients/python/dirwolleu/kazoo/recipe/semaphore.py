@@ -20,7 +20,7 @@ class Semaphore:
     """A lock that `max_leases` hold at a time. All that use its path say the same number, which the node of the path has.
 
     Leases are ephemeral nodes below the path. Whoever takes one holds the lock beside it, and a transaction makes the lease
-    only while the lock's node is there: so there are never more than the most, where all that take one do so.
+    only while the lock's node is there: so there are never more than the most, if all that take one do so.
 
         semaphore = client.Semaphore("/downloads", "host-1", max_leases=3)
         with semaphore:
@@ -52,7 +52,7 @@ class Semaphore:
             self._lock.cancel()
 
     def acquire(self, blocking: bool = True, timeout: Optional[float] = None) -> bool:
-        """Takes a lease, and answers whether it has: at once, where `blocking` is false.
+        """Takes a lease, and answers whether it has: at once, if `blocking` is false.
 
         Raises `LockTimeout` where there is none after `timeout` seconds, and `ValueError` where the path's node says that
         there are more leases or fewer. What another call has taken is kept.

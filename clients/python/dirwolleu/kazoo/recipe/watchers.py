@@ -63,7 +63,7 @@ class _Watch:
             self._look(event)
 
     def _is_followed(self, event: Optional[WatchedEvent], was_told: bool) -> bool:
-        """Whether another look comes after this one, whose answer is not good any more: at the next connection, or where
+        """Whether another look comes after this one, whose answer is not good any more: at the next connection, or if
         this one comes after a lost connection at the event that has ended the answer. So that change has its event.
         """
         return not self._client.connected or event is None and was_told
@@ -104,7 +104,7 @@ class _Watch:
 class DataWatch(_Watch):
     """Calls a function with the data and the `ZnodeStat` of a node, at once and after each change.
 
-    Where there is no node, both are None. A function that takes three values has the `WatchedEvent` too, which is None
+    If there is no node, both are None. A function that takes three values has the `WatchedEvent` too, which is None
     at first and after a lost connection. One that returns False is called no more.
 
         @client.DataWatch("/config")
@@ -136,7 +136,7 @@ class DataWatch(_Watch):
         self._call(*((data, stat, event) if _takes(self._func, 3) else (data, stat)))
 
     def _read(self, event: Optional[WatchedEvent]) -> Optional[tuple[Optional[bytes], Optional[ZnodeStat]]]:
-        """A good answer, or None where another look tells."""
+        """A good answer, or None when another look tells."""
         while True:
             found: tuple[Optional[bytes], Optional[ZnodeStat]] = self._retry(self._ask)
             if self._is_good(found[1]):
@@ -197,7 +197,7 @@ class ChildrenWatch(_Watch):
         self._call(*((names, event) if self._sends_event else (names,)))
 
     def _read(self, event: Optional[WatchedEvent]) -> Optional[list[str]]:
-        """A good answer, or None where another look tells."""
+        """A good answer, or None when another look tells."""
         ask = functools.partial(self._client.get_children, self._path, self._watcher)
         while True:
             names: list[str] = self._client.retry(ask)
