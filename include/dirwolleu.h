@@ -18,7 +18,7 @@
  * What the caller promises, and nothing checks:
  *   - a dw_session is all zeros before its first use, and is written by this library alone; it may be moved, but an open one is never copied to be
  *     used twice;
- *   - one call at a time uses a handle; it may go to another thread between two calls, where a lock or a join orders them;
+ *   - one call at a time uses a handle; it may go to another thread between two calls, if a lock or a join orders them;
  *   - no function is called from a signal handler, or from the forked child of a process with threads;
  *   - pointers are not null, also beside a length of 0, buffers have the length that is told, and what one call writes does not
  *     overlap with what else it is given;
@@ -68,7 +68,7 @@ _Static_assert(sizeof(enum { DW_OF_FOUR_BYTES }) == sizeof(int32_t), "dirwolleu.
 extern "C" {
 #endif
 
-/* What functions answer, unless they say otherwise. Nothing has happened where one below -1 is answered. */
+/* What functions answer, unless they say otherwise. Nothing has happened if one below -1 is answered. */
 enum dw_result DW_AS_INT32 {
   DW_OK = 0,
   DW_NONE = 1, /* there is none */
@@ -222,7 +222,7 @@ enum dw_code DW_AS_INT32 {
  *   DW_KIND_SHOWN     what is kept of the subject with this ticket is good: look it up. It was not, or its path was reported since, or servers
  *                     had an election, and it was read again.
  *   DW_KIND_REFUSED   a read of the subject with this ticket was refused: refusal says why, with the code of DW_REFUSAL_CODE. It is read
- *                     again after a second, or over a new connection. Where its answer is too long, which ends the connection, it is read
+ *                     again after a second, or over a new connection. If its answer is too long, which ends the connection, it is read
  *                     again after a second, and from then on after a minute, or in a new session. This is told once for each new reason.
  * It says these of trees, each in its place among the others:
  *   DW_KIND_MEMBER_ADDED  a side of a node is followed for the tree with the ticket tree, by this ticket: side; the text is the path.
@@ -235,7 +235,7 @@ enum dw_code DW_AS_INT32 {
  *   DW_KIND_CREDENTIAL  the server has answered the credential at this place of those that were handed in, from 0 on, on this connection. Code 0
  *                     accepts it. Another one refuses it, as -115 does, and the server ends the connection: take dw_session_free, since each
  *                     later connection would be introduced so again.
- * And these of contenders, after all else of a step, each where it is another than what was told of the contender with this ticket last:
+ * And these of contenders, after all else of a step, each if it is another than what was told of the contender with this ticket last:
  *   DW_KIND_WAITS     another one is before it, and is watched.
  *   DW_KIND_HOLDS     it holds. Its token is zxid, that of the making of its place: whoever the lock protects refuses a smaller one than it has seen.
  *   DW_KIND_LOST      it holds no more: its place is gone, or the session has expired, and it contends on by another place; or it was given up.
@@ -276,7 +276,7 @@ typedef struct dw_output {
   dw_stat stat;
 } dw_output;
 
-/* The version of the library, as DW_VERSION_NUMBER has that of this header. Where the two differ, go no further: take the header and the
+/* The version of the library, as DW_VERSION_NUMBER has that of this header. If the two differ, go no further: take the header and the
  * library of one version. */
 uint32_t dw_version(void);
 
@@ -293,7 +293,7 @@ uint32_t dw_version(void);
 
 /* Makes a session, which asks for this timeout in milliseconds and has this many addresses to dial. Their order and the pauses between attempts are
  * random by the seed: take one from the system, another in each program. The first step asks for a connection. What the handle held is freed
- * first. DW_OK, DW_BAD_TIMEOUT, DW_NO_MEMORY; where it is not DW_OK, the handle holds nothing. */
+ * first. DW_OK, DW_BAD_TIMEOUT, DW_NO_MEMORY; if it is not DW_OK, the handle holds nothing. */
 enum dw_result dw_session_open(dw_session *handle, int32_t timeout_ms, size_t addresses, uint64_t seed);
 
 /* The same, which first takes up the session that dw_session_saved put away, maybe in another process. Also DW_NOT_SAVED. */
@@ -341,7 +341,7 @@ enum dw_result dw_session_moment(dw_session *handle, uint64_t now_ms);
 enum dw_result dw_session_addresses(dw_session *handle, uint64_t now_ms, size_t kept, size_t added, bool is_listed);
 
 /* Calls. Each waits in one line until a server has accepted the connection and fewer than 1,024 are on their way, until the moment until_ms at
- * most, and without a limit where that is UINT64_MAX. It is answered once, or times out once. A read that is lost with its connection is asked
+ * most, and without a limit if that is UINT64_MAX. It is answered once, or times out once. A read that is lost with its connection is asked
  * again, in its place; a write is answered DW_OUTCOME_LOST. No other call or subject has or had the ticket. Each may also answer DW_NO_MEMORY,
  * DW_NOT_TEXT, DW_NOT_PATH: no step was made. A watch asks to leave one on the path; for what is to be kept good, follow it. */
 enum dw_result dw_session_exists(dw_session *handle, uint64_t now_ms, uint64_t ticket, uint64_t until_ms, const char *path,
@@ -355,7 +355,7 @@ enum dw_result dw_session_get_children(dw_session *handle, uint64_t now_ms, uint
 enum dw_result dw_session_set_data(dw_session *handle, uint64_t now_ms, uint64_t ticket, uint64_t until_ms, const char *path,
                                    size_t path_length, const uint8_t *bytes, size_t length, bool is_null, int32_t version);
 
-/* The mode is a sum: DW_MODE_EPHEMERAL where the node goes with the session, DW_MODE_SEQUENTIAL where a number of ten digits is added to
+/* The mode is a sum: DW_MODE_EPHEMERAL if the node goes with the session, DW_MODE_SEQUENTIAL if a number of ten digits is added to
  * its name. Also DW_NO_SUCH_MODE. */
 enum dw_mode DW_AS_INT32 { DW_MODE_PERSISTENT = 0, DW_MODE_EPHEMERAL = 1, DW_MODE_SEQUENTIAL = 2 };
 
@@ -365,7 +365,7 @@ enum dw_result dw_session_delete(dw_session *handle, uint64_t now_ms, uint64_t t
                                  size_t path_length, int32_t version);
 
 /* What dw_session_raw asks for, by the type number of the request. None of these leaves or removes a watch, or begins or ends a session, and no
- * other function of a session asks for it. Those that change nothing are asked again where they are lost: getACL, sync, multiRead,
+ * other function of a session asks for it. Those that change nothing are asked again if they are lost: getACL, sync, multiRead,
  * getEphemerals, getAllChildrenNumber and whoAmI. */
 enum dw_operation DW_AS_INT32 {
   DW_OPERATION_GET_ACL = 6,
@@ -390,10 +390,10 @@ enum dw_result dw_session_raw(dw_session *handle, uint64_t now_ms, uint64_t tick
                               const uint8_t *bytes, size_t length);
 
 /* Introduces the session by a credential, of a scheme as "digest" and a secret as "user:password": a frame with xid -4, type 100 and an AuthPacket
- * of zookeeper.jute, which DW_KIND_SEND gives. It is written at once where a connection is there, and on each later one right after the request that opens
+ * of zookeeper.jute, which DW_KIND_SEND gives. It is written at once if a connection is there, and on each later one right after the request that opens
  * it, before watches are set again and calls are sent, after those that were handed in before; a session that is renewed has it too. Each is kept until the
  * handle is freed, opened or resumed, and its bytes are overwritten then; what is copied out of the handle is the caller's. DW_OK, DW_NO_MEMORY,
- * DW_NOT_TEXT for the scheme, or DW_CREDENTIAL_TOO_LARGE where the payload, 20 bytes with both, would have more than 1,048,575: no step was made. */
+ * DW_NOT_TEXT for the scheme, or DW_CREDENTIAL_TOO_LARGE if the payload, 20 bytes with both, would have more than 1,048,575: no step was made. */
 enum dw_result dw_session_credential(dw_session *handle, uint64_t now_ms, const char *scheme, size_t scheme_length,
                                      const uint8_t *secret, size_t secret_length);
 
@@ -410,7 +410,7 @@ enum dw_result dw_session_follow_names(dw_session *handle, uint64_t now_ms, uint
 /* The subject of this ticket is followed no more. */
 enum dw_result dw_session_unfollow(dw_session *handle, uint64_t now_ms, uint64_t ticket);
 
-/* A tree is followed: all nodes at and below a path, the root, of which no more are taken on where there are more than `most`. After a step that
+/* A tree is followed: all nodes at and below a path, the root, of which no more are taken on if there are more than `most`. After a step that
  * told that a node of it was shown, or a path reported that begins with that of the root, it is tended as the next step begins, which
  * dw_session_deadline counts as due at once: then each side of a node that good names lead to from the root on, and that lacks a good answer, is
  * followed, unless it is known that there is no such node; a node below the root of which that is known is let go. Then trees rest for a millisecond
@@ -420,7 +420,7 @@ enum dw_result dw_session_unfollow(dw_session *handle, uint64_t now_ms, uint64_t
 enum dw_result dw_session_follow_tree(dw_session *handle, uint64_t now_ms, uint64_t ticket, const char *path, size_t path_length,
                                       size_t most);
 
-/* The tree of this ticket is followed no more, nor is any node that was taken on for it. Where there is none, the moment alone is noticed. */
+/* The tree of this ticket is followed no more, nor is any node that was taken on for it. If there is none, the moment alone is noticed. */
 enum dw_result dw_session_unfollow_tree(dw_session *handle, uint64_t now_ms, uint64_t ticket);
 
 /* How the places of contenders are named: a prefix, the guid, a marker and ten digits. All contenders of one lock use names of one family: kazoo's, those
@@ -438,7 +438,7 @@ enum dw_naming DW_AS_INT32 {
   DW_NAMING_LEASES = 6 /* and how many hold at once, which is not 0: guid and __lease__ */
 };
 
-/* A contender for a lock, an election or a lease joins in a directory, which is made where it is not there. It makes its place, an ephemeral sequential
+/* A contender for a lock, an election or a lease joins in a directory, which is made if it is not there. It makes its place, an ephemeral sequential
  * node with these data, null where is_null; watches the last rival before it, and no other, or of leases as many as hold at once; and tells how it stands:
  *     char guid[32]; // hexadecimal digits, from the random numbers of the system
  *     dw_session_contend(&session, now(), 7, "/locks/job", 10, DW_NAMING_KAZOO, guid, 32, (const uint8_t *)"", 0, true, false, NULL, 0);
@@ -452,24 +452,24 @@ enum dw_naming DW_AS_INT32 {
  *       }
  * The guid is a text that no other contender has: 32 hexadecimal digits for names of kazoo, a UUID for names of Curator. may_be_there says that this
  * session may have made a place with it before, as after dw_session_resume: then the place is looked for first, as it is after each create whose
- * answer was lost. After DW_KIND_RENEWED it contends again, and holds by the old place no more. Where another contender has the ticket, the moment alone is
+ * answer was lost. After DW_KIND_RENEWED it contends again, and holds by the old place no more. If another contender has the ticket, the moment alone is
  * noticed. Contenders ask calls of tickets from 3 * 2^62 on, whose answers are not told; reports of the nodes that they watch are told too.
  * What it makes, its places, and the directory and nodes above that if they are not there, has this ACL, and without bytes everybody has every right. An
  * ACL is spelled as in zookeeper.jute, a vector of one entry or more. This one gives every right, 31, to whom the session was introduced as:
  *     static const uint8_t acl[] = {0,0,0,1, 0,0,0,31, 0,0,0,4,'a','u','t','h', 0,0,0,0};
  * If the servers refuse it, DW_KIND_PAUSES says so, with DW_CODE_INVALID_ACL.
- * It is a step. Also DW_NO_MEMORY; DW_NOT_TEXT for the directory or the guid; DW_NOT_PATH where the directory is none, or no place in it has a path;
- * DW_NO_SUCH_MODE where the naming is none of enum dw_naming, or that of no lease; and DW_NOT_ACL: no step was made. */
+ * It is a step. Also DW_NO_MEMORY; DW_NOT_TEXT for the directory or the guid; DW_NOT_PATH if the directory is none, or no place in it has a path;
+ * DW_NO_SUCH_MODE if the naming is none of enum dw_naming, or that of no lease; and DW_NOT_ACL: no step was made. */
 enum dw_result dw_session_contend(dw_session *handle, uint64_t now_ms, uint64_t ticket, const char *directory,
                                   size_t directory_length, uint32_t naming, const char *guid, size_t guid_length,
                                   const uint8_t *bytes, size_t length, bool is_null, bool may_be_there, const uint8_t *acl,
                                   size_t acl_length);
 
 /* The contender of this ticket is given up: its places are deleted, through any number of connections, and DW_KIND_GIVEN_UP is told once none is left. It
- * is a step. Where there is no such contender, the moment alone is noticed. */
+ * is a step. If there is no such contender, the moment alone is noticed. */
 enum dw_result dw_session_give_up(dw_session *handle, uint64_t now_ms, uint64_t ticket);
 
-/* Writes what is told next of the last step. DW_OK, DW_NONE where all was told, DW_CLOSED; then out is as it was. */
+/* Writes what is told next of the last step. DW_OK, DW_NONE if all was told, DW_CLOSED; then out is as it was. */
 enum dw_result dw_session_next(dw_session *handle, dw_output *out);
 
 /* Copies the text of what was told last, from this place on, as much as there is room for; what of the room is not
@@ -477,16 +477,16 @@ enum dw_result dw_session_next(dw_session *handle, dw_output *out);
 size_t dw_session_copy(dw_session *handle, size_t from, void *out, size_t room);
 
 /* Copies the name of this index, from 0 on in the order of the reply, of the DW_REPLY_NAMES that was told last, as much as there is room
- * for. Answers how many bytes the name has: 0 where there is no such name, and for a closed handle. */
+ * for. Answers how many bytes the name has: 0 if there is no such name, and for a closed handle. */
 size_t dw_session_name(dw_session *handle, size_t index, char *out, size_t room);
 
 /* Copies all names of the DW_REPLY_NAMES that was told last, in the order of the reply, as many bytes as there is room for, and writes how
- * many bytes there are: 0 where something else was told last. Each name stands after its length, as dw_session_peek_names spells it. It takes
+ * many bytes there are: 0 if something else was told last. Each name stands after its length, as dw_session_peek_names spells it. It takes
  * memory for them too, within the call. DW_OK, DW_NO_MEMORY, DW_CLOSED; unless it answers DW_OK, the count is 0. */
 enum dw_result dw_session_names(dw_session *handle, uint8_t *out, size_t room, size_t *count);
 
 /* Writes why the connection is given up, in words, of the DW_KIND_DROP that was told last, as many bytes as there is room for, and how
- * many there are: 0 where something else was told last. DW_OK, DW_NO_MEMORY, DW_CLOSED; unless it answers DW_OK, the count is 0. */
+ * many there are: 0 if something else was told last. DW_OK, DW_NO_MEMORY, DW_CLOSED; unless it answers DW_OK, the count is 0. */
 enum dw_result dw_session_words(dw_session *handle, char *out, size_t room, size_t *count);
 
 /* Writes all that waits to be told of the last step, in the order in which dw_session_next tells it, and how many bytes that is. It does so exactly
@@ -505,7 +505,7 @@ int32_t dw_session_state(dw_session *handle);
 
 /* A number that rises where what is kept good may have changed, or the state, or the session: by one at each step to which bytes came or which told
  * another state or DW_KIND_RENEWED, and at DW_HALTED. So it rises with the reply to a ping too. While it is the same, dw_session_subtree, _lacking,
- * _snapshot and _holder answer the same of what is good, so a program asks again only where it differs. dw_session_last_zxid rises with bytes alone. It is 1
+ * _snapshot and _holder answer the same of what is good, so a program asks again only if it differs. dw_session_last_zxid rises with bytes alone. It is 1
  * after dw_session_open and dw_session_resume, and 0 for a closed handle alone. */
 uint64_t dw_session_revision(dw_session *handle);
 
@@ -516,11 +516,11 @@ int64_t dw_session_last_zxid(dw_session *handle);
 int64_t dw_session_timeout_ms(dw_session *handle);
 
 /* Writes the first moment at which something is due: a ping, the end of an attempt, a dial, a read, a limit, a tree that is to be tended, the end of a
- * contender's pause. It may be past. DW_OK, DW_NONE where nothing will be due, DW_CLOSED; then 0 is written. */
+ * contender's pause. It may be past. DW_OK, DW_NONE if nothing will be due, DW_CLOSED; then 0 is written. */
 enum dw_result dw_session_deadline(dw_session *handle, uint64_t *first_ms);
 
 /* Writes the moment at which the server was heard last, on any connection. What is kept and good was so on the server when
- * it sent that, or later: how long it was on its way nobody says. DW_OK, DW_NONE where it was not heard yet, DW_CLOSED; then 0 is written. */
+ * it sent that, or later: how long it was on its way nobody says. DW_OK, DW_NONE if it was not heard yet, DW_CLOSED; then 0 is written. */
 enum dw_result dw_session_heard_at(dw_session *handle, uint64_t *moment_ms);
 
 /* Writes the bytes from which dw_session_resume takes the session up, as many as there is room for, and how many there are: 20 and those
@@ -533,7 +533,7 @@ enum dw_result dw_session_saved(dw_session *handle, uint8_t *out, size_t room, s
 enum dw_mark DW_AS_INT32 { DW_MARK_GOOD = 1, DW_MARK_STALE = 2 };
 enum dw_kept DW_AS_INT32 { DW_KEPT_NOTHING = 0, DW_KEPT_ABSENT = 1, DW_KEPT_KNOWN = 2, DW_KEPT_FULL = 3 };
 
-/* The fields of a node that change only where its data watch fires. */
+/* The fields of a node that change only if its data watch fires. */
 typedef struct dw_data_stat {
   int64_t czxid, mzxid, ctime, mtime, ephemeral_owner;
   int32_t version, data_length;
@@ -552,7 +552,7 @@ typedef struct dw_kept_data {
   dw_data_stat stat;
 } dw_kept_data;
 
-/* What is kept about the children of a path: the mark, which is 0 where nothing is, how many names, and the zxid of the last change
+/* What is kept about the children of a path: the mark, which is 0 if nothing is, how many names, and the zxid of the last change
  * of this set. */
 typedef struct dw_kept_names {
   enum dw_mark mark;
@@ -572,7 +572,7 @@ enum dw_result dw_session_peek_data(dw_session *handle, const char *path, size_t
 enum dw_result dw_session_peek_children(dw_session *handle, const char *path, size_t path_length, dw_kept_names *kept);
 
 /* Copies the name of this index, from 0 on in byte order, of those that are kept of a path, as much as there is room for, and
- * writes how many bytes it has: 0 where there is no such name. It goes over the names before it, so its time grows with the index.
+ * writes how many bytes it has: 0 if there is no such name. It goes over the names before it, so its time grows with the index.
  * It answers what dw_session_peek_data does; unless that is DW_OK, the count is 0. */
 enum dw_result dw_session_peek_name(dw_session *handle, const char *path, size_t path_length, size_t index, char *out,
                                     size_t room, size_t *count);
@@ -583,19 +583,19 @@ enum dw_result dw_session_peek_name(dw_session *handle, const char *path, size_t
 enum dw_result dw_session_peek_names(dw_session *handle, const char *path, size_t path_length, uint8_t *out, size_t room,
                                      size_t *count);
 
-/* Copies all nodes at and below a path, as many bytes as there is room for, and writes how many bytes there are. It does so exactly where
+/* Copies all nodes at and below a path, as many bytes as there is room for, and writes how many bytes there are. It does so exactly if
  * the path, and each node that is reached from it through kept names, is kept good as DW_KEPT_FULL, its names are kept good, and each name
  * makes a path; and these are at most `most` nodes. Then they are the subtree of the servers' history at dw_session_last_zxid: each node is as it
  * is told, and no other one is there. Each stands after its parent, as zookeeper.jute spells these fields:
  *   ustring path; buffer data; long czxid, mzxid, ctime, mtime; int version; long ephemeralOwner; int dataLength; long pzxid;
- * It takes memory for them too, within the call. Where there was too little room, give more and call again: with no step between it tells
+ * It takes memory for them too, within the call. If there was too little room, give more and call again: with no step between it tells
  * the same. DW_OK, and what dw_session_peek_data answers; DW_NOT_WHOLE: read what dw_session_lacking tells, with a watch, and ask again; DW_TOO_MANY: more
  * nodes than that are reached. Unless it answers DW_OK, the count is 0. */
 enum dw_result dw_session_subtree(dw_session *handle, const char *path, size_t path_length, size_t most, uint8_t *out,
                                   size_t room, size_t *count);
 
 /* Copies the reads that are still lacking before dw_session_subtree tells the nodes at and below a path, as it does: of all nodes that good names
- * lead to, those whose data are not kept good as DW_KEPT_FULL, and then those whose names are not kept good. There is none exactly where
+ * lead to, those whose data are not kept good as DW_KEPT_FULL, and then those whose names are not kept good. There is none exactly if
  * dw_session_subtree answers DW_OK. Each is spelled as `ustring path; int side`, with DW_SIDE_DATA for dw_session_get_data and DW_SIDE_CHILDREN for
  * dw_session_get_children. All can be asked at once, with a watch; what lies below the names shows when these are there. Of a path without a node
  * the data are lacking for as long as there is none. DW_OK, and what dw_session_peek_data answers; DW_NOT_WHOLE: a name makes no path, so no read
@@ -604,16 +604,16 @@ enum dw_result dw_session_lacking(dw_session *handle, const char *path, size_t p
                                   size_t room, size_t *count);
 
 /* Copies what is kept of several paths, all of it of one moment, as many bytes as there is room for, and writes how many bytes there are. The
- * nodes and the parents are paths, each after its length, as dw_session_peek_names spells names; there may be none of either. It does so exactly where
+ * nodes and the parents are paths, each after its length, as dw_session_peek_names spells names; there may be none of either. It does so exactly if
  * what is kept of the data of each node, and of the names below each parent, is marked good. Then all of it is what the servers' history has at
  * dw_session_last_zxid. The nodes come first, in their order, as zookeeper.jute spells these fields:
  *   ustring path; int kind; buffer data; long czxid, mzxid, ctime, mtime; int version; long ephemeralOwner; int dataLength;
  * The kind is one of enum dw_kept. Of DW_KEPT_ABSENT, which says that no node is there, the data are null and the numbers 0; of DW_KEPT_KNOWN,
  * which dw_session_exists leaves, the data are null. Then come the parents, in their order, with the names as dw_session_peek_names tells them:
  *   ustring path; buffer names; long pzxid;
- * It takes memory for them too, within the call. Where there was too little room, give more and call again: with no step between it tells
- * the same. DW_OK; DW_NOT_WHOLE: read again, with a watch, what is not kept good, and ask again; DW_NOT_PATH where one of them is no path,
- * DW_NOT_TEXTS where they are not spelled so, DW_NO_MEMORY, DW_CLOSED. Unless it answers DW_OK, the count is 0. */
+ * It takes memory for them too, within the call. If there was too little room, give more and call again: with no step between it tells
+ * the same. DW_OK; DW_NOT_WHOLE: read again, with a watch, what is not kept good, and ask again; DW_NOT_PATH if one of them is no path,
+ * DW_NOT_TEXTS if they are not spelled so, DW_NO_MEMORY, DW_CLOSED. Unless it answers DW_OK, the count is 0. */
 enum dw_result dw_session_snapshot(dw_session *handle, const uint8_t *nodes, size_t nodes_length, const uint8_t *parents,
                                    size_t parents_length, uint8_t *out, size_t room, size_t *count);
 
@@ -621,7 +621,7 @@ enum dw_result dw_session_snapshot(dw_session *handle, const uint8_t *nodes, siz
  * names are those of a dw_session_get_children of the directory, asked without a watch after the node was made, as dw_session_names copies them; `listed` is the
  * zxid of that answer. A name counts where it ends in ten digits, right after a marker: the markers, spelled as names are, are that of its
  * kind, and then those of its rivals, as `lock-`, `lock-`. The smaller number is before the greater one.
- *   DW_OK     it stands first at dw_session_last_zxid, where numbers rise with creation, and stays so while what is kept of its node is good. The
+ *   DW_OK     it stands first at dw_session_last_zxid, if numbers rise with creation, and stays so while what is kept of its node is good. The
  *             token is written, which is the node's czxid: whoever the lock protects refuses a smaller one than it has seen. So it is where
  *             the node's data, or that it exists, are kept good and its owner is this session; no listed rival is before it; and the listing
  *             is neither older than the node nor newer than dw_session_last_zxid.
@@ -643,7 +643,7 @@ enum dw_result dw_session_standing(dw_session *handle, const char *directory, si
  *             below it, its name begins with the prefix, and none of these names that does is before it; and the node's data, or that it
  *             exists, are kept good and its owner is this session.
  *   DW_NONE   it is not shown: read the names and the node with a watch, or wait.
- * Also DW_NO_MEMORY, DW_CLOSED, DW_NOT_TEXT, also where the prefix is none, and DW_NOT_PATH. The token is 0 unless it answers DW_OK. */
+ * Also DW_NO_MEMORY, DW_CLOSED, DW_NOT_TEXT, also if the prefix is none, and DW_NOT_PATH. The token is 0 unless it answers DW_OK. */
 enum dw_result dw_session_holder(dw_session *handle, const char *directory, size_t directory_length, const char *prefix,
                                  size_t prefix_length, const char *path, size_t path_length, int64_t *token);
 
@@ -657,7 +657,7 @@ enum dw_result dw_session_holder(dw_session *handle, const char *directory, size
  * are below 2^63, and those of trees' nodes run from there. */
 enum dw_result dw_session_held(dw_session *handle, uint64_t ticket, int64_t *token);
 
-/* Copies the path of the place of the contender of this ticket, as many bytes as there is room for, and writes how many it has. DW_OK; DW_NONE where it
+/* Copies the path of the place of the contender of this ticket, as many bytes as there is room for, and writes how many it has. DW_OK; DW_NONE if it
  * is not known, or there is no such contender; DW_CLOSED. Unless it answers DW_OK, the count is 0 and nothing is copied. */
 enum dw_result dw_session_place(dw_session *handle, uint64_t ticket, char *out, size_t room, size_t *count);
 

@@ -32,7 +32,7 @@
 extern "C" {
 #endif
 
-/* What functions answer. Where one below 0 is answered nothing has happened, unless DW_BENCH_NO_MEMORY says otherwise. */
+/* What functions answer. If one below 0 is answered nothing has happened, unless DW_BENCH_NO_MEMORY says otherwise. */
 enum dw_bench_result DW_AS_INT32 {
   DW_BENCH_OK = 0,
   DW_BENCH_NONE = 1, /* there is none */
@@ -81,7 +81,7 @@ int64_t dw_bench_zxid(dw_bench *handle);
 enum dw_bench_result dw_bench_connect(dw_bench *handle, int32_t number);
 enum dw_bench_result dw_bench_cut(dw_bench *handle);
 
-/* Bytes that the client sent. They are lost where no server has the connection. */
+/* Bytes that the client sent. They are lost if no server has the connection. */
 enum dw_bench_result dw_bench_hear(dw_bench *handle, const uint8_t *bytes, size_t length);
 
 /* Takes out the first bytes that the server sent, as many as there is room for, and writes how many. DW_BENCH_NONE says that no server has the

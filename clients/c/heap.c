@@ -24,7 +24,7 @@ struct granted rattle_alloc(size_t size, size_t alignment)
     return granted(malloc(size != 0 ? size : alignment));
 }
 
-/* The same block with another size, maybe elsewhere; it is as it was where the request is not met. */
+/* The same block with another size, maybe elsewhere; it is as it was if the request is not met. */
 struct granted rattle_realloc(void *block, size_t kept, size_t size, size_t alignment);
 struct granted rattle_realloc(void *block, size_t kept, size_t size, size_t alignment)
 {

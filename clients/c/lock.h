@@ -38,7 +38,7 @@ enum dws_names { DWS_NAMES_KAZOO = 0, DWS_NAMES_CURATOR, DWS_NAMES_LATCH };
  * DWS_EXCLUSIVE is that of InterProcessMutex, and both others are those of InterProcessReadWriteLock. A latch is held alone. */
 enum dws_sharing { DWS_EXCLUSIVE, DWS_SHARED, DWS_WRITING };
 
-/* Why a lock or a semaphore does not get on, where that is none of a call's reasons. */
+/* Why a lock or a semaphore does not get on, if that is none of a call's reasons. */
 enum dws_lock_why {
     DWS_LOCK_USED_UP = 96,      /* the names below its path have had all 2,147,483,647 numbers */
     DWS_SEMAPHORE_DIFFERS = 97, /* of a semaphore: the node of the path says another number of leases */
