@@ -42,8 +42,7 @@ pub(crate) fn send_accepted<A: Allocator + Copy>(
     ensures stays { ¬ IsErrOf result stops.End }
 {
     let response = accepted(alloc, session, time_out)?;
-    send_response(alloc, response, out)?;
-    Ok(())
+    send_response(alloc, response, out)
 }
 
 /// Sends the answer to a client whose session has expired.
@@ -53,8 +52,7 @@ pub(crate) fn send_expired<A: Allocator + Copy>(alloc: A, out: &mut Vec<u8, A>) 
     ensures stays { ¬ IsErrOf result stops.End }
 {
     let response = expired(alloc)?;
-    send_response(alloc, response, out)?;
-    Ok(())
+    send_response(alloc, response, out)
 }
 
 // It has no readOnly byte.

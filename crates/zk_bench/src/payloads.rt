@@ -29,8 +29,7 @@ pub(crate) fn first_request<A: Allocator + Copy>(
     ensures { (value : Value connect_request) → IsRecord connect_request value (first length (drop 4 bytes.now))
         → MatchResult result (λ request. request_of request ≡ value) (λ stop. stop ≡ stops.Memory) }
 {
-    let request = take(alloc, &mut Cursor::new(&bytes[4..4 + length]))?;
-    Ok(request)
+    take(alloc, &mut Cursor::new(&bytes[4..4 + length])).map_err(From::from)
 }
 
 /// A later request with its xid, in the payload of this many bytes after a length. One that a client's caller has spelled is not read.
@@ -46,6 +45,5 @@ pub(crate) fn next_request<A: Allocator + Copy>(
     ensures unknown { (operation : RawOperation) (given : List ℕ) (xid : ℤ)
         → IsReadAs (Ask (Raw operation given)) xid (first length (drop 4 bytes.now)) → OnOk result ⊥ }
 {
-    let request = Request::take(alloc, &mut Cursor::new(&bytes[4..4 + length]))?;
-    Ok(request)
+    Request::take(alloc, &mut Cursor::new(&bytes[4..4 + length])).map_err(From::from)
 }

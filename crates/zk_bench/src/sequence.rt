@@ -84,6 +84,5 @@ pub(crate) fn numbered<A: Allocator + Copy>(
         return Err(Refusal::Code(Code::BadArguments));
     }
     let text = format!(in alloc; "{}{:010}", path.as_str(), number)?;
-    let path = Path::new(alloc, text.as_str())?;
-    Ok(path)
+    Path::new(alloc, text.as_str()).map_err(From::from)
 }

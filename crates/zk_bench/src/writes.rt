@@ -103,8 +103,7 @@ fn path_in_mode<A: Allocator + Copy>(
     if mode.sequential {
         return numbered(tree.alloc, tree.history, asked, parent);
     }
-    let path = Path::new(tree.alloc, asked.as_str())?;
-    Ok(path)
+    Path::new(tree.alloc, asked.as_str()).map_err(From::from)
 }
 
 // The code that refuses a node at this path, below a parent that has this many children: -110 where a node is there, -8
