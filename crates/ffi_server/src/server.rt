@@ -51,11 +51,7 @@ impl MemoryServer {
             drop(change);
             return Err(why);
         }
-        if now_ms > i64::MAX as u64 {
-            drop(change);
-            return Err(Undone::NoTransaction);
-        }
-        if self.bench.history().last_zxid() == i64::MAX {
+        if now_ms > i64::MAX as u64 || self.bench.history().last_zxid() == i64::MAX {
             drop(change);
             return Err(Undone::NoTransaction);
         }
@@ -159,8 +155,7 @@ impl MemoryServer {
         ensures { Takes number self.old.bench result self.new.bench }
     {
         let place = place_of(number)?;
-        self.bench.take(place + 1)?;
-        Ok(())
+        self.bench.take(place + 1).map_err(From::from)
     }
 
     /// From now on clients are told that the session has expired, or are admitted again.
