@@ -104,8 +104,7 @@ impl<A: Allocator + Copy, S: Stream> Link<A, S> {
         if !is_over {
             return Ok(());
         }
-        self.cut(alloc, text)?;
-        Ok(())
+        self.cut(alloc, text)
     }
 
     /// Hands the client an input, and the connection what goes to the server. Where that is not written, the connection ends.
