@@ -91,21 +91,22 @@ pub fn driven<A: Allocator + Copy>(
     ensures err { IfErr result IsWant }
     ensures halt { IfErr result (IfHalted (HaltsClient (client_value_of line) (view_of client.old) (view_of client.new))) }
 {
-    match line {
-        ClientLine::Cut => stepped(alloc, client, Input::Cut),
-        ClientLine::Now(moment) => stepped(alloc, client, Input::Now(moment)),
+    let told = match line {
+        ClientLine::Cut => return stepped(alloc, client, Input::Cut),
+        ClientLine::Now(moment) => return stepped(alloc, client, Input::Now(moment)),
         ClientLine::Call(asked) => {
             let input = Input::Call(asked.ticket, asked.call);
-            stepped(alloc, client, input)
+            return stepped(alloc, client, input);
         }
-        ClientLine::Peek(side, path) => Ok(peeked(alloc, client, side, &path)?),
-        ClientLine::Last => Ok(last_line(alloc, client.last_zxid())?),
-        ClientLine::Saved => Ok(saved_line(alloc, &client.saved())?),
+        ClientLine::Peek(side, path) => peeked(alloc, client, side, &path),
+        ClientLine::Last => last_line(alloc, client.last_zxid()),
+        ClientLine::Saved => saved_line(alloc, &client.saved()),
         ClientLine::Forget => {
             client.forget_stale();
             Ok(String::new(alloc))
         }
-    }
+    };
+    Ok(told?)
 }
 
 /// Does with a client what a line of a replay says, and gives what is to be printed. Where that is answered by a halt, the line
