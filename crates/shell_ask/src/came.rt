@@ -66,7 +66,7 @@ pub(crate) fn wait_for_answer<A: Allocator + Copy, D: Dial + Drop, C: Clock + Dr
                     was_accepted,
                 });
             }
-            Some(_) => {}
+            Some(other) => drop(other),
             None => {
                 let was_accepted = is_accepted(driver);
                 return Ok(Came::Late {

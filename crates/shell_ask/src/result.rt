@@ -24,14 +24,15 @@ fn words<A: Allocator + Copy>(
     ensures { IfOk result (λ text. PrintsWords form chroot.now (call_result_view found.now) (string_bytes text)) }
 {
     let mut text = String::new(alloc);
-    match found {
-        CallResult::Code(_) | CallResult::Done => {}
-        CallResult::Stat(stat) => push_fields(&mut text, alloc, form, stat)?,
-        CallResult::Data { bytes, stat: _ } => push_data(&mut text, alloc, form, bytes)?,
-        CallResult::Names { names, stat: _ } => push_names(&mut text, alloc, names)?,
-        CallResult::Created(path) => push_path(&mut text, alloc, chroot, path.as_str())?,
-        CallResult::Raw(bytes) => push_hex(&mut text, alloc, bytes.as_slice())?,
-    }
+    let pushed = match found {
+        CallResult::Code(_) | CallResult::Done => Ok(()),
+        CallResult::Stat(stat) => push_fields(&mut text, alloc, form, stat),
+        CallResult::Data { bytes, stat: _ } => push_data(&mut text, alloc, form, bytes),
+        CallResult::Names { names, stat: _ } => push_names(&mut text, alloc, names),
+        CallResult::Created(path) => push_path(&mut text, alloc, chroot, path.as_str()),
+        CallResult::Raw(bytes) => push_hex(&mut text, alloc, bytes.as_slice()),
+    };
+    pushed?;
     Ok(text)
 }
 

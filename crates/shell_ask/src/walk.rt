@@ -184,9 +184,13 @@ impl<A: Allocator + Copy> Walk<A> {
     {
         let came = listed(driver, alloc, &spot, ticket, bounds.until)?;
         if is_done(&came) {
-            return self.open(alloc, bounds, spot, &came);
+            let opened = self.open(alloc, bounds, spot, &came);
+            drop(came);
+            return opened;
         }
         if is_gone(&spot, &came) {
+            drop(spot);
+            drop(came);
             return Ok(None);
         }
         Ok(Some(Ending::Stopped(spot.name, came)))
