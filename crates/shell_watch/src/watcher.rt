@@ -223,9 +223,11 @@ impl<'a, A: Allocator + Copy, D: Dial + Drop, C: Clock + Drop> Watcher<'a, A, D,
     {
         let turn = self.driver.turn(until)?;
         let ms = self.elapsed();
-        let text = self.printed_turn(&turn, ms)?;
+        let printed = self.printed_turn(&turn, ms);
         self.note(&turn);
-        Ok((is_come(&turn), text))
+        let is_over = is_come(&turn);
+        drop(turn);
+        Ok((is_over, printed?))
     }
 
     /// One turn, which is printed. Whether the moment has come, and nothing waits to be told.
@@ -350,9 +352,6 @@ impl<'a, A: Allocator + Copy, D: Dial + Drop, C: Clock + Drop> Watcher<'a, A, D,
             (stand_of D.Stream.remaining D.Stream.contents D.Stream.far D.Stream.state self.new.driver.engine
             self.new.watched.items self.new.is_accepted self.new.style self.new.growth)) }
     {
-        let Ok(path) = copy_of(self.alloc, &subject.path) else {
-            return Err(Stop::Memory);
-        };
         let Some(ticket) = self.growth.take_ticket() else {
             return Err(Stop::Memory);
         };
@@ -362,6 +361,9 @@ impl<'a, A: Allocator + Copy, D: Dial + Drop, C: Clock + Drop> Watcher<'a, A, D,
         if self.watched.push(one).is_err() {
             return Err(Stop::Memory);
         }
+        let Ok(path) = copy_of(self.alloc, &subject.path) else {
+            return Err(Stop::Memory);
+        };
         self.driver.follow(ticket, subject.side, path)
     }
 
