@@ -24,7 +24,7 @@ pub record HasBegun (session : ℤ) (server : MemoryServer) : Type 0 where
   pub is : server.bench ≡ begun session
   pub ready : IsReady server.bench
 
--- A server is made: 0 where the handle holds one that has just begun, and -2 where memory ran out and it holds nothing.
+-- A server is made: 0 if the handle holds one that has just begun, and -2 if memory ran out and it holds nothing.
 abbrev pub Makes : (session : ℤ) → (code : ℤ) → Option MemoryServer → Type 0
 Makes session (pos zero) held = IsSome held × IfSome held (HasBegun session)
 Makes session (negsuc (suc zero)) held = held ≡ None

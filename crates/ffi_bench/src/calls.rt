@@ -29,7 +29,7 @@ pub extern "C" fn dw_bench_cut(alloc: Global, handle: &mut DwBench) -> i32
     drive(alloc, handle, |server| server.cut())
 }
 
-/// Bytes of the client come in, cut in any way. They are lost where no server takes requests.
+/// Bytes of the client come in, cut in any way. They are lost if no server takes requests.
 #[unsafe(no_mangle)]
 pub extern "C" fn dw_bench_hear(alloc: Global, handle: &mut DwBench, bytes: &[u8]) -> i32
     ensures closed { handle.old.slot.held ≡ None → IsClosed result handle.new.slot.held }

@@ -49,7 +49,7 @@ pub extern "C" fn dw_bench_learn(alloc: Global, handle: &mut DwBench, other: &mu
     code
 }
 
-/// The zxid of the last transaction, or -3 where the handle holds no server.
+/// The zxid of the last transaction, or -3 if the handle holds no server.
 #[unsafe(no_mangle)]
 pub extern "C" fn dw_bench_zxid(alloc: Global, handle: &mut DwBench) -> i64
     ensures closed { handle.old.slot.held ≡ None → result ≡ negsuc 2 }

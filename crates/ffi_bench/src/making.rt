@@ -8,7 +8,7 @@ use ffi_handles::Handle;
 use ffi_server::{MemoryServer, Undone};
 use std::alloc::Global;
 
-// Has a handle hold this server. Where there is no memory for it, the handle is left as it was.
+// Has a handle hold this server. If there is no memory for it, the handle is left as it was.
 fn hold(alloc: Global, handle: &mut DwBench, server: MemoryServer) -> i32
     ensures { ((result ≡ pos 0) × (handle.new.slot.held ≡ Some server))
         ⊎ ((result ≡ negsuc 1) × (handle.new.slot.held ≡ handle.old.slot.held)) }

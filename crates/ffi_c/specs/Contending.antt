@@ -10,13 +10,13 @@ use Rattle.zk_contend.specs.declared.contender.LockContender.{LockContender}
 abbrev pub acl_in : List ℕ → Option (List ℕ)
 acl_in bytes = if length bytes == 0 then None else Some bytes
 
--- 0 where the session holds by the contender, by the token; and 1 where that is not shown.
+-- 0 if the session holds by the contender, by the token; and 1 if that is not shown.
 abbrev pub FindsHeld : View → Option (LockContender Global) → (code token : ℤ) → Type 0
 FindsHeld view one (pos zero) token = ShowsOne view one (Some token)
 FindsHeld view one (pos (suc zero)) token = ShowsOne view one None × (token ≡ pos 0)
 FindsHeld view one code token = ⊥
 
--- 0 where as much of the path of its place as there is room for is written; and 1 where that is not known.
+-- 0 if as much of the path of its place as there is room for is written; and 1 if that is not known.
 abbrev pub FindsPlace : Option Text → (code : ℤ) → (room written : List ℕ) → (count : ℕ) → Type 0
 FindsPlace (Some path) (pos zero) room written count =
     (written ≡ take (length room) path ++ drop (length path) room) × (count ≡ length path)

@@ -172,7 +172,7 @@ IsOneTree ticket (used ∷ earlier) = PlantsOne ticket used.use_of (planted earl
 
 -- By each ticket a session follows what was asked for and told, and nothing else, unless it is used for a tree and by the program in one
 -- step; and it has the trees that were asked for. For the tree of a ticket it follows those sides of nodes that were told, by the tickets
--- that were told, and no other, if that ticket is below 2^63, where those of nodes begin, and no two trees have it at once.
+-- that were told, and no other, if that ticket is below 2^63, if those of nodes begin, and no two trees have it at once.
 pub record IsAsTold (uses : List Used) (session : Device) : Type 0 where
   pub followed : (ticket : ℕ) → AreApart ticket uses
       → followed_by ticket session.agent.asker.follower.subjects.items ≡ known ticket uses

@@ -27,19 +27,19 @@ pub record LeavesRoom (code : ℤ) (room written : List ℕ) (count : ℕ) : Typ
   pub unwritten : written ≡ room
   pub none : count ≡ 0
 
--- A text is written: 0 where as much of it as there is room for stands at the front, and -2 where memory ran out.
+-- A text is written: 0 if as much of it as there is room for stands at the front, and -2 if memory ran out.
 abbrev pub Writes : (text : List ℕ) (code : ℤ) (room written : List ℕ) (count : ℕ) → Type 0
 Writes text (pos zero) room written count = (written ≡ take (length room) text ++ drop (length text) room) × (count ≡ length text)
 Writes text (negsuc (suc zero)) room written count = (written ≡ room) × (count ≡ 0)
 Writes text code room written count = ⊥
 
--- An action is told: 0 where it is the next one, and 1 where all were told.
+-- An action is told: 0 if it is the next one, and 1 if all were told.
 abbrev pub TellsOf : Option Flat → Flat → ℤ → Flat → Type 0
 TellsOf (Some flat) before (pos zero) after = after ≡ flat
 TellsOf None before (pos (suc zero)) after = after ≡ before
 TellsOf next before code after = ⊥
 
--- A session is made: 0 where the handle holds one that has begun so, and any other number where it holds nothing, for a reason that this
+-- A session is made: 0 if the handle holds one that has begun so, and any other number if it holds nothing, for a reason that this
 -- number has.
 abbrev pub Makes : (Refuses : ℤ → Type 0) → Start → ℤ → Option Device → Type 0
 Makes Refuses start (pos zero) held = Holds held (BeginsWith (view_at start []))
@@ -62,7 +62,7 @@ pub record Tells (before : Device) (room : Flat) (code : ℤ) (told : Flat) (aft
   pub contends : after.is_contending ≡ before.is_contending
   pub news : after.news ≡ before.news
 
--- All that waits is told at once, with 0, where there is room for all; and where memory ran out, as the number says, nothing is written or
+-- All that waits is told at once, with 0, if there is room for all; and if memory ran out, as the number says, nothing is written or
 -- told.
 abbrev pub TellsAll : (before : Device) (room written : List ℕ) (count : ℕ) (code : ℤ) (after : Device) → Type 0
 TellsAll before room written count (pos zero) after = WritesOutputs before room written count after

@@ -291,7 +291,7 @@ BelowByCount = (uses : List Used) → IsLife uses → AreKeptBelow uses → all_
 
 -- Its client has all of `holds` for the turns that it has come through. While memory has not run out within a step, each report of these
 -- turns was told once, and no other; each call that was asked, by a ticket that the program alone has, was settled once, or waits; the
--- session has contenders exactly where somebody has contended; and the listing of each is one that the client was answered, if tickets of
+-- session has contenders exactly if somebody has contended; and the listing of each is one that the client was answered, if tickets of
 -- contenders' calls are theirs alone.
 pub record IsCoherent (uses : List Used) (session : Device) : Type 0 where
   pub chapter : Chapter

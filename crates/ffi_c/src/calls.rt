@@ -103,7 +103,7 @@ pub extern "C" fn dw_session_set_data(
     })
 }
 
-/// Asks to make a node. The mode is a sum: 1 where it goes with the session, and 2 where a number is added to its name.
+/// Asks to make a node. The mode is a sum: 1 if it goes with the session, and 2 if a number is added to its name.
 #[unsafe(no_mangle)]
 pub extern "C" fn dw_session_create(
     alloc: Global,

@@ -86,7 +86,7 @@ pub extern "C" fn dw_session_lacking(
     }
 }
 
-/// Copies what is kept of the nodes of the first paths, and of the names below the second ones, where all of it is good, as many bytes of
+/// Copies what is kept of the nodes of the first paths, and of the names below the second ones, if all of it is good, as many bytes of
 /// it as there is room for, and writes how many there are.
 #[unsafe(no_mangle)]
 pub extern "C" fn dw_session_snapshot(
@@ -174,7 +174,7 @@ pub extern "C" fn dw_session_standing(
 }
 
 /// Tells whether the session holds the first place of the names in a directory that begin with a prefix, by its node of this path: writes
-/// its token where it does.
+/// its token if it does.
 #[unsafe(no_mangle)]
 pub extern "C" fn dw_session_holder(
     alloc: Global,

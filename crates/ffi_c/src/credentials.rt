@@ -12,7 +12,7 @@ use crate::handle::DwSession;
 use crate::taking::drive;
 use std::alloc::Global;
 
-/// Introduces the session by this scheme and secret from now on: at once where a connection is there, and on each later one right after
+/// Introduces the session by this scheme and secret from now on: at once if a connection is there, and on each later one right after
 /// the request that opens it.
 #[unsafe(no_mangle)]
 pub extern "C" fn dw_session_credential(

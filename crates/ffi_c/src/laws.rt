@@ -26,7 +26,7 @@ pub fn sound_for_life()
 /// 3 * 2^62 on are those of contenders' calls alone: no call of the program has one, nor any read of a followed node's names.
 ///
 /// So the good answers are those of any servers of the model that sent these bytes, whose history the conclusions of `zk_conclusions` are
-/// about, at the paths where the servers keep to the model.
+/// about, at the paths if the servers keep to the model.
 pub fn coherent_for_life()
     ensures { CoherentForLife }
 {}

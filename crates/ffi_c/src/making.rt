@@ -19,7 +19,7 @@ use ffi_handles::Handle;
 use std::alloc::Global;
 use zk_client::FrameLimits;
 
-// Has a handle hold this. Where there is no memory for it, the handle is left as it was.
+// Has a handle hold this. If there is no memory for it, the handle is left as it was.
 fn hold<H: Handle>(alloc: Global, handle: &mut H, value: H::Value) -> i32
     ensures { ((result ≡ pos 0) × (H.held handle.new ≡ Some value))
         ⊎ ((result ≡ negsuc 1) × (H.held handle.new ≡ H.held handle.old)) }

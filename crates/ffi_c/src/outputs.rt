@@ -112,7 +112,7 @@ pub extern "C" fn dw_session_names(
     }
 }
 
-/// Writes the words of why a connection is given up, where that was told last, as many bytes as there is room for, and how many there are.
+/// Writes the words of why a connection is given up, if that was told last, as many bytes as there is room for, and how many there are.
 #[unsafe(no_mangle)]
 pub extern "C" fn dw_session_words(
     alloc: Global,
@@ -140,8 +140,8 @@ pub extern "C" fn dw_session_words(
     }
 }
 
-/// Writes all that waits to be told, in the order in which [`dw_session_next`] tells it, where there is room for all; and how many bytes
-/// that is. Where there is less room, nothing is told.
+/// Writes all that waits to be told, in the order in which [`dw_session_next`] tells it, if there is room for all; and how many bytes
+/// that is. If there is less room, nothing is told.
 #[unsafe(no_mangle)]
 pub extern "C" fn dw_session_outputs(
     alloc: Global,

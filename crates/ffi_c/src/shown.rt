@@ -29,7 +29,7 @@ pub extern "C" fn dw_session_state(alloc: Global, handle: &mut DwSession) -> i32
     state
 }
 
-/// The greatest zxid seen, or -3 where the handle holds no session.
+/// The greatest zxid seen, or -3 if the handle holds no session.
 #[unsafe(no_mangle)]
 pub extern "C" fn dw_session_last_zxid(alloc: Global, handle: &mut DwSession) -> i64
     ensures closed { handle.old.slot.held ≡ None → result ≡ negsuc 2 }
@@ -44,7 +44,7 @@ pub extern "C" fn dw_session_last_zxid(alloc: Global, handle: &mut DwSession) ->
     last
 }
 
-/// A number that rises where what the session's client keeps and shows as good may have changed, or 0 where the handle holds no session.
+/// A number that rises where what the session's client keeps and shows as good may have changed, or 0 if the handle holds no session.
 #[unsafe(no_mangle)]
 pub extern "C" fn dw_session_revision(alloc: Global, handle: &mut DwSession) -> u64
     ensures closed { handle.old.slot.held ≡ None → result ≡ 0 }
@@ -60,7 +60,7 @@ pub extern "C" fn dw_session_revision(alloc: Global, handle: &mut DwSession) -> 
     number
 }
 
-/// The timeout of the session in milliseconds, or -3 where the handle holds no session.
+/// The timeout of the session in milliseconds, or -3 if the handle holds no session.
 #[unsafe(no_mangle)]
 pub extern "C" fn dw_session_timeout_ms(alloc: Global, handle: &mut DwSession) -> i64
     ensures closed { handle.old.slot.held ≡ None → result ≡ negsuc 2 }

@@ -12,7 +12,7 @@ use ffi_handles::Slot;
 use std::alloc::Global;
 use std::marker::Model;
 
-/// A session on the heap, or nothing: a `Slot` for C's memory, where no type has a parameter.
+/// A session on the heap, or nothing: a `Slot` for C's memory, if no type has a parameter.
 #[repr(C)]
 #[derive(Drop)]
 pub struct SessionSlot {

@@ -66,7 +66,7 @@ pub extern "C" fn dw_session_unfollow(
     drive(alloc, handle, |session| session.unfollow_at(now_ms, ticket))
 }
 
-/// Follows all nodes at and below a path, of which no more are taken on where there are more than `most`. Its root has the ticket, and its
+/// Follows all nodes at and below a path, of which no more are taken on if there are more than `most`. Its root has the ticket, and its
 /// other nodes have tickets from 2^63 on.
 #[unsafe(no_mangle)]
 pub extern "C" fn dw_session_follow_tree(

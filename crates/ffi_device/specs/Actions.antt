@@ -20,7 +20,7 @@ refusal_flat why.TooManyWatches = plain (pos 11) (pos 2)
 refusal_flat why.TooLarge = plain (pos 11) (pos 3)
 refusal_flat why.SessionClosed = plain (pos 11) (pos 4)
 
--- News of a tree as numbers. Where it is about a node, `ticket` is that of the node, and `names` that of the tree.
+-- News of a tree as numbers. If it is about a node, `ticket` is that of the node, and `names` that of the tree.
 abbrev pub news_flat : {A : Type 0} → TreeNews A → Flat
 news_flat (news.MemberAdded tree ticket side path) =
     record (plain (pos 12) (pos 0)) { ticket = ticket; names = tree; result = side_number side; length = length path }

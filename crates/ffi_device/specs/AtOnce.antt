@@ -20,7 +20,7 @@ use Rattle.ffi_device.specs.declared.device.Device.{Device}
 abbrev pub numbers_layout : Layout
 numbers_layout = int ⨾ (int ⨾ (int ⨾ (int ⨾ (long ⨾ (long ⨾ (long ⨾ (long ⨾ (boolean ⨾ boolean))))))))
 
--- an output: its numbers; its Stat, zeros where it has none; and what is read apart from them
+-- an output: its numbers; its Stat, zeros if it has none; and what is read apart from them
 abbrev pub output_layout : Layout
 output_layout = numbers_layout ⨾ (stat ⨾ buffer)
 
@@ -96,7 +96,7 @@ pub record AreOutputs (outputs : List (Flat × List ℕ)) (text : List ℕ) : Ty
   pub fits : AllByRecursion FitsOutput outputs
   pub is : text ≡ flat_map output_bytes outputs
 
--- Where there is room for all that wait, they are written, at the front, and told. Else nothing is. The count says how much room they want.
+-- If there is room for all that wait, they are written, at the front, and told. Else nothing is. The count says how much room they want.
 pub record WritesOutputs (before : Device) (room written : List ℕ) (count : ℕ) (after : Device) : Type 0 where
   pub text : List ℕ
   pub are : AreOutputs (waiting before.said.items before.news.items before.read) text

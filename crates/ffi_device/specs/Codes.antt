@@ -30,7 +30,7 @@ refusal_of why.NotWhole = NotWhole
 refusal_of why.TooMany = TooMany
 refusal_of why.Memory = Memory
 
--- the number of what was done: 0 where nothing was refused
+-- the number of what was done: 0 if nothing was refused
 abbrev pub code_of : Result ⊤ DeviceRefusal → ℤ
 code_of (Ok done) = pos 0
 code_of (Err refusal) = refusal_code refusal

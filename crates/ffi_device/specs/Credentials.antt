@@ -3,7 +3,7 @@ use Rattle.std.specs.Prelude.{⊤, ◌+◌, ◌<◌, List, ℕ, zero, suc, ℤ, 
 use Rattle.std.specs.Str.{IsUtf8}
 use Rattle.zk_limits.specs.declared.limits.TheConstants.{LONGEST_OUTGOING}
 
--- When a credential is refused, by the number that is told: -2 where memory ran out, -4 where its scheme is no UTF-8, and -13 where its
+-- When a credential is refused, by the number that is told: -2 if memory ran out, -4 if its scheme is no UTF-8, and -13 if its
 -- payload would have more bytes than a server takes.
 abbrev pub RefusesCredential : (scheme secret : List ℕ) → ℤ → Type 0
 RefusesCredential scheme secret (negsuc (suc zero)) = ⊤

@@ -27,7 +27,7 @@ pub record ArePlace (directory prefix path : List ℕ) : Type 0 where
   pub text : IsUtf8 prefix
   pub below : IsPath path
 
--- what is refused: -2 where the directory is a path and the prefix a text; -4 where one of them is no UTF-8; and -5 where the directory or
+-- what is refused: -2 if the directory is a path and the prefix a text; -4 if one of them is no UTF-8; and -5 if the directory or
 -- the path is no path
 abbrev pub RefusesHolder : (directory prefix path : List ℕ) → ℤ → Type 0
 RefusesHolder directory prefix path (negsuc (suc zero)) = IsPath directory × IsUtf8 prefix

@@ -54,7 +54,7 @@ abbrev pub data_flat : Option (Kept Answer) → KeptData
 data_flat None = no_data
 data_flat (Some kept) = answer_flat (mark_number kept.mark) kept.answer
 
--- the data of an answer, and nothing where they are null or were not read
+-- the data of an answer, and nothing if they are null or were not read
 abbrev pub answer_text : Answer → List ℕ
 answer_text (Full (Some bytes) stat) = bytes
 answer_text _ = []
@@ -89,7 +89,7 @@ abbrev pub text_or_none : Option (List ℕ) → List ℕ
 text_or_none None = []
 text_or_none (Some text) = text
 
--- the name of this index in byte order, and nothing where there is none
+-- the name of this index in byte order, and nothing if there is none
 pub record IsNameAt (index : ℕ) (names : Names) (name : List ℕ) : Type 0 where
   pub listed : List (List ℕ)
   pub listing : IsListing names listed
@@ -107,7 +107,7 @@ pub record AreSpelled (names : Names) (text : List ℕ) : Type 0 where
   pub fits : AllByRecursion (λ name. Fits ustring (Some name)) listed
   pub is : text ≡ flat_map (λ name. spelling ustring (Some name)) listed
 
--- the same of what is kept, and nothing where nothing is
+-- the same of what is kept, and nothing if nothing is
 abbrev pub AreKeptNames : Option (Kept cache.Names) → List ℕ → Type 0
 AreKeptNames None text = text ≡ []
 AreKeptNames (Some kept) text = AreSpelled kept.answer.names text

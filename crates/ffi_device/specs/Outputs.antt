@@ -51,7 +51,7 @@ text_if (Some action) = action_text action
 abbrev pub told_text : {A : Type 0} → List (Action A) → (read : ℕ) → List ℕ
 told_text said read = text_if (told said read)
 
--- the words of why a connection is given up, where that was told last
+-- the words of why a connection is given up, if that was told last
 abbrev pub words_of : {A : Type 0} → Option (Action A) → List ℕ
 words_of (Some (action.GivenUp why)) = fault_words (fault_view why)
 words_of _ = []

@@ -76,7 +76,7 @@ pub record SpellsNotWhole (cache : Cache) (nodes parents : List ℕ) : Type 0 wh
   pub second : ArePaths above parents
   pub lacking : ¬ (is_whole cache paths above ≡ true)
 
--- what is refused: -2 where both spell paths, -5 where one of the texts is no path, -9 where not all is kept and good, and -11 where one of
+-- what is refused: -2 if both spell paths, -5 if one of the texts is no path, -9 where not all is kept and good, and -11 if one of
 -- them spells no texts
 abbrev pub RefusesSnapshot : Cache → (nodes parents : List ℕ) → ℤ → Type 0
 RefusesSnapshot cache nodes parents (negsuc (suc zero)) = SpellsPaths nodes × SpellsPaths parents

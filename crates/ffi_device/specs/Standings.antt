@@ -25,7 +25,7 @@ abbrev pub AreNoMarkers : List ℕ → Type 0
 AreNoMarkers markers = (own : List ℕ) (against : List (List ℕ)) → ¬ (AreTexts (own ∷ against) markers)
 
 -- The session stands first by its node of this name, which has the token: as the client shows it, and under servers of a history so
--- there at the last seen zxid, where numbers rise with creation and the listing was true.
+-- there at the last seen zxid, if numbers rise with creation and the listing was true.
 pub record StandsFirst (view : View) (directory name : Text) (listing : List Name) (listed : ℤ) (kind : Kind) (token : ℤ) : Type 0 where
   pub shows : ShowsStanding view directory kind listing listed (child_text directory name) token
   pub holds : (h : History)
@@ -55,7 +55,7 @@ pub record Stood (view : View) (directory name : Text) (names : List ℕ) (liste
   pub asked : IsAsked names markers listing kind
   pub by : StandsBy view directory name listing listed kind stands room written
 
--- what is refused: -2; -4 where the directory or the name is no UTF-8, -5 where the directory is no path or the name makes none, and -11
+-- what is refused: -2; -4 if the directory or the name is no UTF-8, -5 if the directory is no path or the name makes none, and -11
 -- where the names or the markers are not spelled so
 abbrev pub RefusesStanding : (directory name names markers : List ℕ) → ℤ → Type 0
 RefusesStanding directory name names markers (negsuc (suc zero)) = ⊤

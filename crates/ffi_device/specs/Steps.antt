@@ -71,15 +71,15 @@ pub record Stopped (before after : Device) : Type 0 where
   pub number : after.revision.number ≡ raised before.revision.number
   pub broke : IsBroken before.agent after.agent
 
--- What happened, at a moment: 0 where it was a step of the device, -1 where the agent goes on no further, and any other number where
+-- What happened, at a moment: 0 if it was a step of the device, -1 if the agent goes on no further, and any other number where
 -- nothing happened, for a reason that it has.
 abbrev pub Steps : (Refuses : ℤ → Type 0) → (now : ℕ) → Happening → (before : Device) → (code : ℤ) → (after : Device) → Type 0
 Steps Refuses now what before (pos zero) after = Stepped now what before after
 Steps Refuses now what before (negsuc zero) after = Stopped before after
 Steps Refuses now what before code after = Refuses code × (after ≡ before)
 
--- A request of another operation, whose bytes after the header a caller spells: a call like all others, which is refused where memory ran
--- out alone. Where the number that was asked for is that of none which a caller may spell, -12 is told, and nothing happened.
+-- A request of another operation, whose bytes after the header a caller spells: a call like all others, which is refused if memory ran
+-- out alone. If the number that was asked for is that of none which a caller may spell, -12 is told, and nothing happened.
 abbrev pub StepsRaw : Option RawOperation → (bytes : List ℕ) (now ticket : ℕ) (until : Option ℕ) (before : Device) → (code : ℤ)
     → (after : Device) → Type 0
 StepsRaw (Some operation) bytes now ticket until before code after =

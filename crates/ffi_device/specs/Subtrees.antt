@@ -83,7 +83,7 @@ abbrev pub AreReads : Side → List Text → List ℕ → Type 0
 AreReads side = AreRecords read_layout (read_value side)
 
 -- The reads that are lacking at and below a path, of at most that many nodes: those of data first, then those of names. None is lacking
--- exactly where there is a subtree.
+-- exactly if there is a subtree.
 pub record IsLackingText (cache : Cache) (root : Text) (most : ℕ) (text : List ℕ) : Type 0 where
   pub unread : List Text
   pub unlisted : List Text

@@ -171,7 +171,7 @@ impl Device {
         &said[self.read.min(said.len())..]
     }
 
-    // How contenders stand, where that was not told yet.
+    // How contenders stand, if that was not told yet.
     fn unread_news_all(&self) -> &[(u64, LockStatus)]
         ensures { result.now ≡ drop (self.now.read - length self.now.said.items) self.now.news.items }
     {

@@ -17,7 +17,7 @@ use zk_agent::AgentInput;
 use zk_client::{Call, CreateMode, RawOperation};
 use zk_nodes::copied_data;
 
-// A call that sets the data of a node, null where there are none. A refusal is as of `path_of`.
+// A call that sets the data of a node, null if there are none. A refusal is as of `path_of`.
 fn set_data(
     alloc: Global,
     path: &[u8],
@@ -50,7 +50,7 @@ fn mode_of(number: u32) -> Option<CreateMode>
     }
 }
 
-// A call that makes a node with these data, null where there are none. A refusal is `NoSuchMode`, else as of `path_of`.
+// A call that makes a node with these data, null if there are none. A refusal is `NoSuchMode`, else as of `path_of`.
 #[tactic(auto, using(crate::proofs::Refusing::refuses_create))]
 fn create(
     alloc: Global,
@@ -154,7 +154,7 @@ impl Device {
         self.ask_at(now, ticket, until, Call::GetChildren { path, watch })
     }
 
-    /// Asks to set the data of a node, null where there are none. Version -1 is any.
+    /// Asks to set the data of a node, null if there are none. Version -1 is any.
     #[tactic(auto, using(crate::proofs::Refusing::refuses))]
     pub fn set_data_at(
         &mut self,
@@ -173,7 +173,7 @@ impl Device {
         self.ask_at(now, ticket, until, call)
     }
 
-    /// Asks to make a node with these data, null where there are none. The mode is a sum: 1 where the node goes with the session, and 2
+    /// Asks to make a node with these data, null if there are none. The mode is a sum: 1 if the node goes with the session, and 2
     /// where a number is added to its name.
     #[tactic(auto, using(crate::proofs::Refusing::refuses))]
     pub fn create_at(
@@ -211,7 +211,7 @@ impl Device {
         self.ask_at(now, ticket, until, Call::Delete { path, version })
     }
 
-    /// Asks for another operation, by its number, with the bytes that stand after the header of its request. Where a caller may spell none
+    /// Asks for another operation, by its number, with the bytes that stand after the header of its request. If a caller may spell none
     /// of this number, nothing happens.
     pub fn raw_at(
         &mut self,

@@ -229,7 +229,7 @@ impl Device {
     }
 
     /// The first moment at which something is due: at the latest then a step is to be made, if nothing else happens. It may be past, and
-    /// there is none where nothing will be due, as after a close.
+    /// there is none if nothing will be due, as after a close.
     pub fn deadline(&self) -> Option<u64>
         ensures before { IfSome result (λ first. (moment : ℕ) → moment < 2 ^ 64 → moment < first → NothingDue self.now moment) }
         ensures due { IfSome result (λ first. ¬ (NothingDue self.now first)) }

@@ -11,7 +11,7 @@ use std::alloc::Global;
 use zk_client::{Client, Path};
 use zk_conclusions::Holder;
 
-// The token by which it holds, where that is shown.
+// The token by which it holds, if that is shown.
 fn token_shown(
     client: &Client<Global>,
     directory: &Path<Global>,
@@ -27,7 +27,7 @@ fn token_shown(
 }
 
 /// The token by which the session holds the first place of the names in a directory that begin with the prefix, by its node of this
-/// path, where that is shown. A refusal is as of [`peek_data`](crate::peek_data), of the prefix, of the directory and of the path.
+/// path, if that is shown. A refusal is as of [`peek_data`](crate::peek_data), of the prefix, of the directory and of the path.
 pub fn holder(
     alloc: Global,
     client: &Client<Global>,

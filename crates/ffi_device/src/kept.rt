@@ -16,7 +16,7 @@ use crate::texts::{spelled_texts, text_at};
 use std::alloc::{AllocError, Global};
 use zk_client::{Children, Client, DataAnswer, DataStat, Mark};
 
-/// What is kept of the fields of a node that change only where a data watch fires.
+/// What is kept of the fields of a node that change only if a data watch fires.
 #[repr(C)]
 #[derive(Clone, Copy)]
 pub struct FlatDataStat {
@@ -155,7 +155,7 @@ fn names_flat(kept: Option<(&Children<Global>, Mark)>) -> KeptNames
     }
 }
 
-// The name of this index of those that are kept, and nothing where there is none.
+// The name of this index of those that are kept, and nothing if there is none.
 fn name_at(kept: Option<(&Children<Global>, Mark)>, index: usize) -> &[u8]
     ensures { IsKeptName index (option_map (λ kept. record { answer = names_in kept.0.now; mark = kept.1 }) kept.entry) result.now }
 {
@@ -229,7 +229,7 @@ fn children_at<'a>(
 }
 
 /// What is kept about the data of a path. The data are copied, as much of them as there is room for. A refusal is `NotText`,
-/// else `NotPath`. It takes no memory, and looks at the path only where nothing is kept of it.
+/// else `NotPath`. It takes no memory, and looks at the path only if nothing is kept of it.
 pub fn peek_data(
     client: &Client<Global>,
     path: &[u8],

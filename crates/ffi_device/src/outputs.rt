@@ -19,7 +19,7 @@ use zk_agent::Action;
 use zk_client::{CallResult, Outcome};
 use zk_contend::LockStatus;
 
-/// The names of a listing, each after its length, and nothing where the answer is none. An error says that memory ran out.
+/// The names of a listing, each after its length, and nothing if the answer is none. An error says that memory ran out.
 pub(crate) fn outcome_names(alloc: Global, outcome: &Outcome<Global>) -> Result<Vec<u8>, AllocError>
     ensures { IfOk result (λ text. AreTexts (outcome_names outcome.now) text.items) }
 {
@@ -32,7 +32,7 @@ pub(crate) fn outcome_names(alloc: Global, outcome: &Outcome<Global>) -> Result<
     }
 }
 
-/// The name of this index in a listing, and nothing where there is none.
+/// The name of this index in a listing, and nothing if there is none.
 pub(crate) fn outcome_name(outcome: &Outcome<Global>, index: usize) -> &[u8]
     ensures { result.now ≡ get_or (outcome_names outcome.now) index [] }
 {
@@ -107,7 +107,7 @@ impl Device {
         self.said.as_slice().get(self.read - 1)
     }
 
-    // The text of the action that was told last, and nothing where none was told.
+    // The text of the action that was told last, and nothing if none was told.
     fn told_text(&self) -> &[u8]
         ensures { result.now ≡ told_text self.now.said.items self.now.read }
     {
@@ -128,7 +128,7 @@ impl Device {
         copy_into(&text[from.min(text.len())..], room)
     }
 
-    /// The words of why a connection is given up, where that was told last. An error says that memory ran out.
+    /// The words of why a connection is given up, if that was told last. An error says that memory ran out.
     pub fn words(&self, alloc: Global) -> Result<String<Global>, AllocError>
         ensures { IfOk result (λ words. string_bytes words ≡ told_words self.now.said.items self.now.read) }
     {
@@ -138,7 +138,7 @@ impl Device {
         }
     }
 
-    // The name of this index in the listing that was told last, and nothing where there is none.
+    // The name of this index in the listing that was told last, and nothing if there is none.
     fn told_name(&self, index: usize) -> &[u8]
         ensures { result.now ≡ told_name index self.now.said.items self.now.read }
     {

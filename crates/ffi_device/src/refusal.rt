@@ -101,7 +101,7 @@ impl From<NoSubtree> for DeviceRefusal {
     }
 }
 
-/// The number of what was done: that of the refusal, and 0 where there is none.
+/// The number of what was done: that of the refusal, and 0 if there is none.
 pub fn code_of(done: Result<(), DeviceRefusal>) -> i32
     ensures { result ≡ code_of done }
 {

@@ -30,7 +30,7 @@ fn has_another(actions: &[Action<Global>]) -> bool
     actions.iter().any(|action| is_another(action))
 }
 
-/// Raises the revision where bytes came, or where another state is told, or another session.
+/// Raises the revision where bytes came, or if another state is told, or another session.
 pub(crate) fn revise(revision: &mut Revision, is_bytes: bool, actions: &[Action<Global>])
     ensures { revision.new.number ≡ revised is_bytes (told_by actions.now) revision.old.number }
 {

@@ -137,7 +137,7 @@ fn spelled_whole(
     Ok(text)
 }
 
-// The same of the paths that are spelled so, where all of it is good.
+// The same of the paths that are spelled so, if all of it is good.
 fn snapshot_text(
     alloc: Global,
     client: &Client<Global>,
@@ -158,7 +158,7 @@ fn snapshot_text(
     Ok(text)
 }
 
-/// Copies what is kept of the nodes of the first paths, and of the names below the second ones, where all of it is good, as much of it
+/// Copies what is kept of the nodes of the first paths, and of the names below the second ones, if all of it is good, as much of it
 /// as there is room for, and tells how many bytes there are. The paths of each follow one another, each after its length. A refusal is
 /// `NotTexts` or `NotPath`, else `Memory` or `NotWhole`.
 pub fn snapshot(

@@ -41,7 +41,7 @@ pub(crate) fn check_paths(alloc: Global, spelled: &[u8]) -> Result<(), DeviceRef
     }
 }
 
-// The paths of these texts. An error says that memory ran out, where they are paths.
+// The paths of these texts. An error says that memory ran out, if they are paths.
 fn copied_paths(alloc: Global, texts: &[&str]) -> Result<Vec<Path<Global>>, AllocError>
     ensures paths { IfOk result (λ paths. paths.items ≡ map (λ text. text.now) texts.now) }
     ensures each { IfOk result (λ paths. AllByRecursion IsPath paths.items) }
@@ -56,7 +56,7 @@ fn copied_paths(alloc: Global, texts: &[&str]) -> Result<Vec<Path<Global>>, Allo
     Ok(paths)
 }
 
-/// The paths that are spelled so, with memory of their own. An error says that memory ran out, where [`check_paths`] sees paths.
+/// The paths that are spelled so, with memory of their own. An error says that memory ran out, if [`check_paths`] sees paths.
 pub(crate) fn collected_paths(
     alloc: Global,
     spelled: &[u8],

@@ -60,7 +60,7 @@ fn stands_by(
     }
 }
 
-// How contenders are named, where there is a marker: the first is that of the session's name.
+// How contenders are named, if there is a marker: the first is that of the session's name.
 fn kind_in<'a>(markers: &'a [&'a str]) -> Option<Kind<'a>>
     ensures some { IfSome result (λ kind. (kind_of kind).own ∷ (kind_of kind).against ≡ map (λ marker. marker.now) markers.now) }
     ensures none { result ≡ None → markers.now ≡ [] }

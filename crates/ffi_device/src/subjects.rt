@@ -52,7 +52,7 @@ impl Device {
         self.step_at(now, AgentInput::Unfollow { ticket })
     }
 
-    /// Follows all nodes at and below a root, of which no more are taken on where there are more than `most`. The data of the root have the
+    /// Follows all nodes at and below a root, of which no more are taken on if there are more than `most`. The data of the root have the
     /// tree's ticket, and all else has tickets from 2^63 on, which no program uses.
     #[tactic(auto, using(crate::proofs::Refusing::refuses))]
     pub fn follow_tree_at(
@@ -69,7 +69,7 @@ impl Device {
         self.step_at(now, AgentInput::FollowTree { ticket, root, most })
     }
 
-    /// Follows the tree of this ticket no more. Where there is none, nothing but the moment is noticed.
+    /// Follows the tree of this ticket no more. If there is none, nothing but the moment is noticed.
     pub fn unfollow_tree_at(&mut self, now: u64, ticket: u64) -> Result<(), DeviceRefusal>
         ensures { Steps RefusesNothing now (UnfollowsTree ticket) self.old (code_of result) self.new }
     {

@@ -197,7 +197,7 @@ pub fn subtree(
 }
 
 /// Copies the reads that are lacking at and below a path before there is a subtree of at most `most` nodes, in the same way. A
-/// refusal is as of [`peek_data`](crate::peek_data), else `NotWhole`, where no read helps, or `TooMany`.
+/// refusal is as of [`peek_data`](crate::peek_data), else `NotWhole`, if no read helps, or `TooMany`.
 pub fn lacking(
     alloc: Global,
     client: &Client<Global>,

@@ -14,7 +14,7 @@ use std::alloc::{AllocError, Global};
 use zk_client::JoinedTexts;
 use zk_jute::{Cursor, Record, TextRef, take};
 
-/// The text of this index, and the empty one where there is none.
+/// The text of this index, and the empty one if there is none.
 pub(crate) fn text_at(texts: &JoinedTexts<Global>, index: usize) -> &str
     ensures { result.now ≡ get_or texts.now index [] }
 {
@@ -53,7 +53,7 @@ pub(crate) fn spelled_texts(
     Ok(spelled)
 }
 
-/// The next text, which the cursor moves past, and nothing where there is none. It takes no memory.
+/// The next text, which the cursor moves past, and nothing if there is none. It takes no memory.
 pub(crate) fn next_text<'a>(alloc: Global, at: &mut Cursor<'a>) -> Option<&'a str>
     ensures some { IfSome result
         (λ text. Fits ustring (Some text.now) × (bytes_left at.old ≡ spelling ustring (Some text.now) ++ bytes_left at.new)) }

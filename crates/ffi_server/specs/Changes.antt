@@ -11,7 +11,7 @@ abbrev pub kind_told : ℤ → Option Kind
 kind_told (pos n) = if n == 1 then Some Made else if n == 2 then Some Written else if n == 3 then Some Deleted else None
 kind_told (negsuc n) = None
 
--- the change of a kind: a node has an owner where it is made, and data where it is not deleted
+-- the change of a kind: a node has an owner if it is made, and data if it is not deleted
 abbrev pub change_by : Kind → (owner : ℤ) → (path content : List ℕ) → Change
 change_by Made owner path content = Creates (path_of path) (Some content) owner
 change_by Written owner path content = Sets (path_of path) (Some content)

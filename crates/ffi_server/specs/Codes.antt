@@ -4,7 +4,7 @@ use Rattle.ffi_server.specs.declared.undone.Undone.{Undone}
 use Rattle.ffi_server.specs.declared.undone.Undone.TheVariants.{Nothing, Memory, NotText, NotPath, NoSuchServer, NoSuchKind, BadArguments}
 use Rattle.ffi_server.specs.declared.undone.Undone.TheVariants.{NoTransaction, NoNode, NoChildrenForEphemerals, NodeExists, NotEmpty}
 
--- The number of why nothing was done: 1 where there is nothing to do, and of what a tree does not admit those of servers.
+-- The number of why nothing was done: 1 if there is nothing to do, and of what a tree does not admit those of servers.
 abbrev pub undone_code : Undone → ℤ
 undone_code Nothing = pos 1
 undone_code Memory = negsuc 1

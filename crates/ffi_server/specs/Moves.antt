@@ -95,7 +95,7 @@ abbrev pub Cuts : (before : Served) → Done → (after : Served) → Type 0
 Cuts before (Ok done) after = after ≡ disconnected before
 Cuts before (Err why) after = ⊥
 
--- Bytes of the client came in, or are lost where no server takes requests.
+-- Bytes of the client came in, or are lost if no server takes requests.
 pub record Heard (bytes : List ℕ) (before after : Served) : Type 0 where
   pub heard : is_open before.connection.phase ≡ true → after ≡ with_requests before bytes
   pub lost : is_open before.connection.phase ≡ false → after ≡ before
@@ -118,7 +118,7 @@ Says room written count before (Err why) after = (why ≡ Memory) × (written �
 
 -- ---- moves of a server
 
--- The connected server has processed the request that stood first, as a server of the laws does, and answered it where it has an answer.
+-- The connected server has processed the request that stood first, as a server of the laws does, and answered it if it has an answer.
 -- At a call that its caller has spelled it has ended the connection, and sent nothing.
 pub record Processed (before after : Served) : Type 0 where
   pub ready : StaysReady before after

@@ -25,7 +25,7 @@ pub enum Undone {
     BadArguments,
     /// The zxid or the time would be past 2^63 - 1, or a transaction has not one change, or a time below 0.
     NoTransaction,
-    /// No node is at the path, or at its parent's where one is to be made.
+    /// No node is at the path, or at its parent's if one is to be made.
     NoNode,
     /// The node below which one is to be made is ephemeral.
     NoChildrenForEphemerals,

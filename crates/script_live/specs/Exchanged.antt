@@ -3,12 +3,12 @@ use Rattle.std.specs.Prelude.{ℕ, List, Option, Some, None}
 use Rattle.std.specs.Io.KnownBytes.{Consumes}
 use Rattle.zk_link.specs.Streams.{Sends}
 
--- What a stream has still to give, and what it took, each where it knows that.
+-- What a stream has still to give, and what it took, each if it knows that.
 pub record Known : Type 0 where
   pub left : Option (List ℕ)
   pub took : Option (List ℕ)
 
--- of the stream of a connection, where there is one
+-- of the stream of a connection, if there is one
 abbrev pub known_of : {S : Type 0} → (remaining contents : S → Option (List ℕ)) → Option S → Known
 known_of remaining contents None = record { left = None; took = None }
 known_of remaining contents (Some stream) = record { left = remaining stream; took = contents stream }

@@ -82,8 +82,8 @@ pub data Deed : Type 0 where
   Looks : ClientValue → (text : List ℕ) → Deed
 
 -- What each does. What a read brings is held, and is what the client is handed next, whole; nothing else is handed to it as bytes, and
--- nothing is read before that. Without a connection a read brings nothing. A connection begins where there was none, and the client is told
--- so before anything else; where it is over the client is told too.
+-- nothing is read before that. Without a connection a read brings nothing. A connection begins if there was none, and the client is told
+-- so before anything else; if it is over the client is told too.
 abbrev pub Carries : Flow → Deed → Flow → Type 0
 Carries old Reads new =
     Exchanges old.unsent new.unsent old.known new.known new.held × (old.held ≡ []) × (old.is_open ≡ false → new.held ≡ [])

@@ -3,7 +3,7 @@ use Rattle.std.specs.Prelude.{ℕ, List, []}
 use Rattle.std.specs.List.{flat_map}
 use Rattle.zk_turns.specs.Turns.{Output, Send}
 
--- the frame, where an output is one that is sent
+-- the frame, if an output is one that is sent
 abbrev pub frame_in : Output → List ℕ
 frame_in (Send bytes) = bytes
 frame_in _ = []

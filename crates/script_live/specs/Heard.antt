@@ -67,7 +67,7 @@ pub record Awaits (old : Tape) (input : Input) (new : Tape) : Type 0 where
   pub hears : Hears old input between
   pub brings : Brings between new
 
--- what is printed where no address connects
+-- what is printed if no address connects
 abbrev pub down : Tape → Tape
 down old = tape old.view (old.printed ++ codes "down\n")
 

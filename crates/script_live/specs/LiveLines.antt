@@ -40,11 +40,11 @@ abbrev pub known_at : Option LiveKeyword → (begun : Bool) → List Text → Re
 known_at None begun words = Err Unknown
 known_at (Some word) begun words = placed_at word begun words
 
--- What the words of a line say, and nothing where there are none and for a remark; or the first fault of the words: no such
+-- What the words of a line say, and nothing if there are none and for a remark; or the first fault of the words: no such
 -- line, a line that is not allowed here, a fault of the words after the first.
 abbrev pub says_at : List Text → (begun : Bool) → Result (Option LiveValue) ScriptFault
 says_at words begun = says_by (λ first behind. known_at (keyword_of first) begun behind) words
 
--- What the words of a line say of the client that is to be made, and nothing where there are none and for a remark.
+-- What the words of a line say of the client that is to be made, and nothing if there are none and for a remark.
 abbrev pub begins_at : List Text → Result (Option BeginValue) ScriptFault
 begins_at words = says_by (λ first behind. if bytes_eq first (codes "resume") then resume_at behind else Ok fresh) words

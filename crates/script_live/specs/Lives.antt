@@ -61,7 +61,7 @@ position_of remaining contents session = position (flow_of remaining contents se
 abbrev pub Does : LiveValue → Position → Position → List ℕ → Type 0
 Does value old new text = DoesLive value old.flow.view new.flow.view text × Prints old.flow new.flow [] text × (new.begun ≡ true)
 
--- A line is taken: it does what it says, or nothing where it says nothing.
+-- A line is taken: it does what it says, or nothing if it says nothing.
 abbrev pub TakesLine : Text → Position → Position → List ℕ → Type 0
 TakesLine line old new text = TakesSaid (says_at (words_of line) old.begun) Does old new text
 

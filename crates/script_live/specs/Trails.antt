@@ -35,7 +35,7 @@ abbrev pub kept : List Output → Bool → Bool
 kept outputs is_open = if list_any ends_connection outputs then false else is_open
 
 -- One input is handed in. Whether a connection is there was settled before. What is said is given, in order, except what goes to the
--- server. A connection is let go where it is over.
+-- server. A connection is let go if it is over.
 pub record Hears (old : Trail) (input : Input) (new : Trail) : Type 0 where
   pub outputs : List Output
   pub rule : Rule old.view (record { input = input; outputs = outputs }) new.view

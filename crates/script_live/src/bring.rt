@@ -11,7 +11,7 @@ use zk_link::{Brought, Stream};
 /// The most bytes that one read is asked for.
 const PIECE: usize = 65_536;
 
-/// Makes room for a piece, where there is none yet.
+/// Makes room for a piece, if there is none yet.
 pub(crate) fn make_room<A: Allocator>(room: &mut Vec<u8, A>) -> Result<(), AllocError> {
     if room.is_empty() {
         return room.resize(PIECE, 0);
@@ -44,7 +44,7 @@ fn read_once<A: Allocator, S: Stream>(
     }
 }
 
-/// What a connection brings within `ms` milliseconds. It ends where it has no more bytes, and where it fails.
+/// What a connection brings within `ms` milliseconds. It ends if it has no more bytes, and if it fails.
 pub(crate) fn bring<A: Allocator, S: Stream>(
     alloc: A,
     stream: &mut S,

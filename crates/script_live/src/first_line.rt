@@ -11,7 +11,7 @@ use script_words::script::{ScriptEnd, end_at};
 use script_words::stop::LineStop;
 use std::alloc::Allocator;
 
-/// The client that lines ask for: the first that is neither empty nor a remark says which. An error where that line is refused,
+/// The client that lines ask for: the first that is neither empty nor a remark says which. An error if that line is refused,
 /// and for memory.
 pub fn begin_of<A: Allocator + Copy>(alloc: A, lines: &[&[u8]]) -> Result<BeginLine<A>, ScriptEnd>
     ensures value { IfOk result (λ line. begun_by (map (λ l. l.now) lines.now) ≡ Begins (begin_value_of line)) }

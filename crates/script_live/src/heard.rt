@@ -16,7 +16,7 @@ use std::alloc::{AllocError, Allocator};
 use zk_client::{Input, Output};
 use zk_link::Stream;
 
-/// Adds the line of an output, and nothing where it goes to the server.
+/// Adds the line of an output, and nothing if it goes to the server.
 fn push_heard<A: Allocator + Copy>(
     text: &mut String<A>,
     alloc: A,
@@ -61,7 +61,7 @@ pub struct Heard<A: Allocator> {
     pub is_well: bool,
 }
 
-/// Hands a client an input, and adds what is printed of what it says. Where that is answered by a halt, the client has halted.
+/// Hands a client an input, and adds what is printed of what it says. If that is answered by a halt, the client has halted.
 pub fn printed_step<A: Allocator + Copy, S: Stream>(
     alloc: A,
     joint: &mut Joint<A, S>,
@@ -85,7 +85,7 @@ pub fn printed_step<A: Allocator + Copy, S: Stream>(
     Ok(Heard { outputs, is_well })
 }
 
-/// Ends the connection, and adds what is printed of what the client says to that. Where that is answered by a halt, it has halted.
+/// Ends the connection, and adds what is printed of what the client says to that. If that is answered by a halt, it has halted.
 pub fn cut<A: Allocator + Copy, S: Stream>(
     alloc: A,
     joint: &mut Joint<A, S>,

@@ -26,7 +26,7 @@ const PRESSED_WAIT: u64 = 10;
 /// A client, and its connection, if it has one.
 #[derive(Drop)]
 pub struct Joint<A: Allocator + Copy, S: Drop> {
-    /// The client. What it says is done where [`step`](Joint::step) hands it an input.
+    /// The client. What it says is done if [`step`](Joint::step) hands it an input.
     pub client: Client<A>,
     pub(crate) stream: Option<S>,
     alloc: A,
@@ -99,8 +99,8 @@ impl<A: Allocator + Copy, S: Stream> Joint<A, S> {
         bring(self.alloc, stream, &mut self.room, wait)
     }
 
-    /// What the connection brings within `ms` milliseconds, at least 1, and a tenth longer and 2 where it takes nothing of what is left
-    /// to be written. Where there is none, it is over. Of what is left to be written the first bytes alone may be gone after it.
+    /// What the connection brings within `ms` milliseconds, at least 1, and a tenth longer and 2 if it takes nothing of what is left
+    /// to be written. If there is none, it is over. Of what is left to be written the first bytes alone may be gone after it.
     pub fn read(&mut self, ms: u64) -> Result<Brought<A>, AllocError>
         ensures trail { bare_of self.new ≡ bare_of self.old }
         ensures unsent { IsLeftOf self.old.unsent.items self.new.unsent.items }
@@ -121,7 +121,7 @@ impl<A: Allocator + Copy, S: Stream> Joint<A, S> {
         self.exchange(left.max(1))
     }
 
-    /// Puts what goes to the server after what is left to be written, where there is a connection, and writes as much as it takes for now.
+    /// Puts what goes to the server after what is left to be written, if there is a connection, and writes as much as it takes for now.
     /// Whether the connection has not failed.
     fn write(&mut self, outputs: &[Output<A>]) -> Result<bool, AllocError>
         ensures client { self.new.client ≡ self.old.client }
@@ -180,7 +180,7 @@ impl<A: Allocator + Copy, S: Stream> Joint<A, S> {
     }
 
     /// Hands the client one input, and does what it says: what goes to the server is written, the connection that is over with an output
-    /// is let go, and the rest is given, after what `outputs` has. Whether the connection has not failed: where it has, it is over, and
+    /// is let go, and the rest is given, after what `outputs` has. Whether the connection has not failed: if it has, it is over, and
     /// [`cut`](Joint::cut) is due. What it does not take for now is written before the next reads. What a moment makes due is heard by
     /// [`Input::Now`].
     ///

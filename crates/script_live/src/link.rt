@@ -51,7 +51,7 @@ fn has_answer<A: Allocator>(outputs: &[Output<A>], asked: u64) -> bool {
     outputs.iter().any(|output| is_answer(output, asked))
 }
 
-/// The piece that a connection has brought, and none where it has ended, or brought nothing in time.
+/// The piece that a connection has brought, or none if it has ended, or brought nothing in time.
 fn piece_of<A: Allocator>(
     brought: Result<Brought<A>, AllocError>,
 ) -> Result<Option<Vec<u8, A>>, AllocError>
@@ -88,7 +88,7 @@ impl<A: Allocator + Copy, S: Stream> Link<A, S> {
         cut(alloc, &mut self.joint, text)
     }
 
-    /// Ends the connection, where it is over.
+    /// Ends the connection, if it is over.
     #[tactic(auto, using(crate::proofs::Printing::prints_none))]
     fn end_if(&mut self, is_over: bool, alloc: A, text: &mut String<A>) -> Result<(), LineStop>
         ensures ok { OnOk result (MayEnd (tape (view_of self.old.joint.client) (string_bytes text.old))
@@ -107,7 +107,7 @@ impl<A: Allocator + Copy, S: Stream> Link<A, S> {
         self.cut(alloc, text)
     }
 
-    /// Hands the client an input, and the connection what goes to the server. Where that is not written, the connection ends.
+    /// Hands the client an input, and the connection what goes to the server. If that is not written, the connection ends.
     pub fn step(
         &mut self,
         alloc: A,
@@ -146,7 +146,7 @@ impl<A: Allocator + Copy, S: Stream> Link<A, S> {
         u64::from(self.joint.client.timeout_ms()).max(SHORTEST_DIAL_MS)
     }
 
-    /// The next piece of the connection, and none where it has ended, or brings nothing in time.
+    /// The next piece of the connection, or none if it has ended, or brings nothing in time.
     fn next_piece(&mut self) -> Result<Option<Vec<u8, A>>, AllocError>
         ensures view { view_of self.new.joint.client ≡ view_of self.old.joint.client }
         ensures flows { IfOk result (λ piece. Carries (flow_of S.remaining S.contents self.old.joint) Reads

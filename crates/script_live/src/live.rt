@@ -205,7 +205,7 @@ fn live_lines<A: Allocator + Copy, D: Dial>(
 ///
 /// The client asks for 30,000 milliseconds, or takes up the session that the first line says. It is connected before the lines
 /// are read. After a call, bytes are read until its answer has come or the connection has ended. An address is dialled for the session's
-/// timeout at most, and for a second where that is less. A read waits for the session's timeout, and for 30,000 milliseconds at least
+/// timeout at most, and for a second if that is less. A read waits for the session's timeout, and for 30,000 milliseconds at least
 /// while the client connects. A read or a write that fails, a read for which nothing comes in that time, and an end of the bytes is a
 /// cut, and so is a wait of more than 1,000,000 pieces. Text comes with the transcript.
 pub fn live<A: Allocator + Copy, D: Dial>(

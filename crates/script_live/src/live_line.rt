@@ -140,7 +140,7 @@ fn parse_begin_words<A: Allocator + Copy>(
     Ok(Some(line))
 }
 
-/// The client that a line asks for, if it is neither empty nor a remark: of no session yet where it is no line that takes one up.
+/// The client that a line asks for, if it is neither empty nor a remark: of no session yet if it is no line that takes one up.
 pub fn parse_first_line<A: Allocator + Copy>(
     alloc: A,
     line: &[u8],

@@ -15,7 +15,7 @@ impl<'a> Ring<'a> {
         Ring { addresses, next: 0 }
     }
 
-    /// The address whose turn it is, and none where there are no addresses.
+    /// The address whose turn it is, or none if there are no addresses.
     pub fn turn(&mut self) -> Option<&'a str> {
         let address = self.addresses.get(self.next)?;
         self.next += 1;

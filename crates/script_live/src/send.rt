@@ -18,7 +18,7 @@ const PIECE: usize = 262_144;
 /// The most writes that are made at once.
 const WRITES: u32 = 16;
 
-/// Puts the frame, where the output is one, after what is left of those before.
+/// Puts the frame, if the output is one, after what is left of those before.
 fn queue_one<A: Allocator>(output: &Output<A>, unsent: &mut Vec<u8, A>) -> Result<(), AllocError>
     ensures { OnOk result (unsent.new.items ≡ unsent.old.items ++ frame_in (output_view output.now)) }
 {
@@ -41,7 +41,7 @@ pub(crate) fn queue<A: Allocator>(
     Ok(())
 }
 
-/// How many bytes a connection takes in one write: none for now where it can't take one, and nothing where it has failed.
+/// How many bytes a connection takes in one write: none for now if it can't take one, and nothing if it has failed.
 fn write_some<S: Stream>(stream: &mut S, bytes: &[u8]) -> Option<usize>
     ensures most { IfSome result (λ count. count ≤ length bytes.now) }
     ensures takes { Appends (S.contents stream.old) (S.contents stream.new) (take (unwrap_or result 0) bytes.now) }

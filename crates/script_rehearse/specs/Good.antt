@@ -38,7 +38,7 @@ AreSame kept Absence = ⊥
 AreSame kept (Contents content told) = ⊥
 AreSame kept (Children is_name pzxid) = HasNames kept.names is_name × (kept.pzxid ≡ pzxid)
 
--- Names are said to agree exactly where they are those that there are to see.
+-- Names are said to agree exactly if they are those that there are to see.
 abbrev pub AgreesNames : Names → Sight → Bool → Type 0
 AgreesNames kept sight agrees = IsTrue agrees ↔ AreSame kept sight
 
@@ -55,7 +55,7 @@ verdict_line Child path agrees = codes "good child" ++ (name_text path ++ verdic
 abbrev pub sight : Side → View → History → Text → Sight
 sight side client history path = view side (tree_at (history_of history) (natural client.saved.last)) (path_of path)
 
--- a text where the answer is good, and nothing where it is stale
+-- a text if the answer is good, and nothing if it is stale
 abbrev pub if_good : Mark → List ℕ → List ℕ
 if_good Good text = text
 if_good Stale text = []

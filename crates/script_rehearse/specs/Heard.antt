@@ -3,7 +3,7 @@ use Rattle.std.specs.Prelude.{if◌then◌else◌, List, [], ◌∷◌}
 use Rattle.zk_turns.specs.Turns.{Output, Send, ends_connection}
 use Rattle.zk_bench.specs.Served.{Served, is_open, disconnected, with_requests}
 
--- The connected server gets what is sent. Where the client gives the connection up, or its session is over, none is connected
+-- The connected server gets what is sent. If the client gives the connection up, or its session is over, none is connected
 -- any more.
 abbrev pub heard : Output → Served → Served
 heard (Send bytes) served = if is_open served.connection.phase then with_requests served bytes else served

@@ -54,7 +54,7 @@ abbrev pub known_at : Option RehearseKeyword → (begun : Bool) → List Text �
 known_at None begun words = Err Unknown
 known_at (Some word) begun words = placed_at word begun words
 
--- What the words of a line say, and nothing where there are none and for a remark; or the first fault of the words: no such
+-- What the words of a line say, and nothing if there are none and for a remark; or the first fault of the words: no such
 -- line, a line that is not allowed here, a fault of the words after the first. The words of a line of the history are not looked
 -- at here.
 abbrev pub says_at : List Text → (begun : Bool) → Result (Option RehearseValue) ScriptFault

@@ -50,7 +50,7 @@ pub record Plays (input : Input) (old new : Scene) (text : List ℕ) : Type 0 wh
   pub rest : new ≡ record old { view = new.view; bench = heard_all outputs old.bench }
 
 -- A server takes the next transaction: what the servers say of it. The connected one takes it as a server of the laws does, and
--- sends nothing where it takes no requests.
+-- sends nothing if it takes no requests.
 pub record TakesNext (old : Served) (server : ℕ) (new : Served) : Type 0 where
   pub taken : new.taken ≡ advanced old server
   pub elsewhere : server ≢ old.server → new.connection ≡ old.connection
@@ -59,7 +59,7 @@ pub record TakesNext (old : Served) (server : ℕ) (new : Served) : Type 0 where
   pub advances : IsReady old → server ≡ old.server → is_open old.connection.phase ≡ true → TakesSome (shown_of old) (shown_of new)
   pub rest : new ≡ record old { taken = new.taken; connection = new.connection }
 
--- The connected server processes the next request: what the servers say of it. Where the frame of a request stands first that is for
+-- The connected server processes the next request: what the servers say of it. If the frame of a request stands first that is for
 -- it, over a history, it processes that as a server of the laws does.
 pub record Processes (old new : Served) : Type 0 where
   pub idle : is_open old.connection.phase ≡ false → new ≡ old

@@ -8,7 +8,7 @@ use std::alloc::{AllocError, Allocator};
 use zk_bench::Bench;
 use zk_client::Output;
 
-/// The connected server gets what is sent. Where the client gives the connection up, or its session is over, no server is
+/// The connected server gets what is sent. If the client gives the connection up, or its session is over, no server is
 /// connected any more.
 fn pass_on_output<A: Allocator + Copy>(
     bench: &mut Bench<A>,

@@ -119,7 +119,7 @@ impl<A: Allocator + Copy> Rehearsal<A> {
     }
 
     /// Does what a line says, and gives what is to be printed: the lines of what the client says, or of a look-up. An empty line
-    /// and one that begins with `#` say nothing. The first reason that applies refuses a line. A halt is the answer only where the
+    /// and one that begins with `#` say nothing. The first reason that applies refuses a line. A halt is the answer only if the
     /// line brings an input, and the client has halted at it.
     #[tactic(auto, using(crate::proofs::DueLemmas::words_due, crate::proofs::DueLemmas::due, crate::proofs::DueLemmas::taken, crate::proofs::DueLemmas::none_halts, crate::proofs::DueLemmas::halts_so))]
     pub fn read_line(&mut self, alloc: A, line: &[u8]) -> Result<String<A>, LineStop>

@@ -165,7 +165,7 @@ impl<A: Allocator + Copy> Rig<A> {
         }
     }
 
-    /// Does what a line says, and gives what is to be printed. Where that is answered by a halt, the line brings an input, and the
+    /// Does what a line says, and gives what is to be printed. If that is answered by a halt, the line brings an input, and the
     /// client has halted at it.
     pub fn perform(&mut self, alloc: A, line: BenchLine<A>) -> Result<String<A>, LineStop>
         ensures ok { IfOk result (λ text. DoesBench (bench_value_of line) (scene_of self.old) (scene_of self.new) (string_bytes text)) }

@@ -34,7 +34,7 @@ use Rattle.shell_ask.specs.Asking.{Coming, Answered, Late}
 abbrev pub is_control : ℕ → Bool
 is_control c = (nat_le c 31 || (nat_le 127 c && nat_le c 159)) || is_turning c
 
--- what stands before hex where a text could
+-- what stands before hex if a text could
 abbrev pub hex_mark : List ℕ
 hex_mark = codes "hex:"
 
@@ -42,7 +42,7 @@ hex_mark = codes "hex:"
 abbrev pub is_text : List ℕ → Bool
 is_text bytes = is_utf8 bytes && not (list_any is_hidden (chars bytes) || starts_with nat_eq bytes hex_mark)
 
--- data as text where they are text, and else in hex with its mark; null data have no line
+-- data as text if they are text, and else in hex with its mark; null data have no line
 abbrev pub plain_data : Option (List ℕ) → List ℕ
 plain_data None = []
 plain_data (Some bytes) = (if is_text bytes then bytes else hex_mark ++ bytes_word (Some bytes)) ++ 10 ∷ []
@@ -57,7 +57,7 @@ data_text Quiet bytes = []
 abbrev pub hex_line : List ℕ → List ℕ
 hex_line bytes = bytes_word (Some bytes) ++ 10 ∷ []
 
--- a name or a path as it is, and where it has a control character or one that turns the direction, as a word of a script
+-- a name or a path as it is, and if it has a control character or one that turns the direction, as a word of a script
 abbrev pub name_text : Text → List ℕ
 name_text name = if list_any is_control (chars name) then text_word (Some name) else name
 
@@ -125,7 +125,7 @@ PrintsObjects chroot (Made path) text = (below : Text) × IsBelow chroot path be
 PrintsObjects chroot (Brought bytes) text = text ≡ text_line (codes "hex") (bytes_word (Some bytes))
 PrintsObjects chroot _ text = text ≡ []
 
--- the bytes that a result brings as data: none, where these are null
+-- the bytes that a result brings as data: none, if these are null
 abbrev pub raw_bytes : Result → List ℕ
 raw_bytes (Read (Some bytes) stat) = bytes
 raw_bytes (Brought bytes) = bytes

@@ -33,7 +33,7 @@ pub(crate) fn timeout_for(wait_ms: u64) -> i32
     (wait_ms.min(LONGEST_TIMEOUT_MS) as i32).max(1)
 }
 
-/// Ends the session of a driver, where it is connected, and waits for that a second at most. Whether it ended so is told to nobody.
+/// Ends the session of a driver, if it is connected, and waits for that a second at most. Whether it ended so is told to nobody.
 pub(crate) fn close<A: Allocator + Copy, D: Dial + Drop, C: Clock + Drop>(
     driver: &mut Driver<'_, A, D, C>,
 ) {

@@ -94,7 +94,7 @@ fn finish<A: Allocator + Copy, O: Write, E: Write>(
 /// Asks the call of a plan in a session of its own, prints to `out` what its answer brings, or tells `errors` why it is not done, and ends
 /// the session. It waits for the answer as long as the plan says; and for the end of the session a second at most.
 ///
-/// The call is asked once. Where there is no answer to it, it may or may not be done.
+/// The call is asked once. If there is no answer to it, it may or may not be done.
 pub fn ask<A: Allocator + Copy, D: Dial + Drop, C: Clock + Drop, O: Write, E: Write>(
     alloc: A,
     dial: D,

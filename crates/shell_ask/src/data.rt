@@ -13,7 +13,7 @@ use script_words::words::bytes_to_word;
 use shell_words::texts::{as_utf8, has_hidden};
 use std::alloc::{AllocError, Allocator};
 
-/// What stands before hex where a text could.
+/// What stands before hex if a text could.
 const HEX_MARK: &str = "hex:";
 
 /// Whether a text begins as hex does.
@@ -30,7 +30,7 @@ fn is_hexed(text: &str) -> bool
     has_hidden(text) || is_marked(text)
 }
 
-/// The bytes as text, where they are UTF-8 and not to be told in hex.
+/// The bytes as text, if they are UTF-8 and not to be told in hex.
 fn as_text(bytes: &[u8]) -> Option<&str>
     ensures { MatchOption result (is_text bytes.now ≡ false) (λ text. (text.now ≡ bytes.now) × (is_text bytes.now ≡ true)) }
 {
@@ -40,7 +40,7 @@ fn as_text(bytes: &[u8]) -> Option<&str>
     }
 }
 
-/// Adds a line of data, as text where they are text.
+/// Adds a line of data, as text if they are text.
 fn push_plain<A: Allocator + Copy>(
     text: &mut String<A>,
     alloc: A,

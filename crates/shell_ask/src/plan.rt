@@ -6,7 +6,7 @@ use zk_client::{Call, Path};
 /// How an answer is printed.
 #[derive(Clone, Copy)]
 pub enum Form {
-    /// Data as text where they are text, and else in hex after `hex:`.
+    /// Data as text if they are text, and else in hex after `hex:`.
     Plain,
     /// Data in hex.
     Hex,

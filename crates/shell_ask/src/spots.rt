@@ -80,7 +80,7 @@ fn spots_of<A: Allocator + Copy>(
 }
 
 /// The nodes below a node, in the order of their names, which come in any order, and may come more than once; or why one has no path.
-/// Where there are no names there are none.
+/// If there are no names there are none.
 pub(crate) fn spots_below<A: Allocator + Copy>(
     alloc: A,
     spot: &Spot<A>,

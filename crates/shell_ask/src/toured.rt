@@ -144,8 +144,8 @@ fn finish<A: Allocator + Copy, O: Write, E: Write>(
 /// names' bytes, a line each; in [`Form::Json`] an object each. It lists one node after the other, in a session of its own, and ends the
 /// session.
 ///
-/// The text is written after the walk is whole, or where as many nodes are listed as may be printed: then `errors` is told that there are
-/// more. Where the walk stops, nothing is printed, and `errors` is told why, with the path at which it stopped. A node that is gone when it
+/// The text is written after the walk is whole, or if as many nodes are listed as may be printed: then `errors` is told that there are
+/// more. If the walk stops, nothing is printed, and `errors` is told why, with the path at which it stopped. A node that is gone when it
 /// is listed is left out, unless it is the root. What changes while the walk goes on is seen or not: it is no picture of one moment.
 ///
 /// It waits for all answers together as long as the plan says, and for the end of the session a second at most.

@@ -43,7 +43,7 @@ node_rule = record (new_rule (codes "PATH")) { required = true }
 abbrev pub flag_rule : Text → Rule
 flag_rule name = record (new_rule name) { long = Some name; action = Some action.SetTrue }
 
--- seconds, 10 of them where no number is given
+-- seconds, 10 of them if no number is given
 abbrev pub wait_rule : Rule
 wait_rule = record (new_rule (codes "wait")) { long = Some (codes "wait"); value_names = 1; defaults = codes "10" ∷ [] }
 
@@ -60,11 +60,11 @@ get_app = with_rule (with_rule (json_app (codes "get")) (flag_rule (codes "hex")
 abbrev pub data_rule : Rule
 data_rule = new_rule (codes "DATA")
 
--- a number, where one is given
+-- a number, if one is given
 abbrev pub version_rule : Rule
 version_rule = record (new_rule (codes "version")) { long = Some (codes "version"); value_names = 1 }
 
--- the name of a file, where one is given
+-- the name of a file, if one is given
 abbrev pub from_rule : Rule
 from_rule = record (new_rule (codes "from")) { long = Some (codes "from"); value_names = 1 }
 
@@ -84,11 +84,11 @@ delete_app = with_rule (read_app (codes "delete")) version_rule
 abbrev pub with_writes : App → App
 with_writes app = with_subcommand (with_subcommand (with_subcommand app set_app.top) create_app.top) delete_app.top
 
--- a number of levels, where one is given
+-- a number of levels, if one is given
 abbrev pub depth_rule : Rule
 depth_rule = record (new_rule (codes "depth")) { long = Some (codes "depth"); value_names = 1 }
 
--- nodes, 10,000 of them where no number is given
+-- nodes, 10,000 of them if no number is given
 abbrev pub most_rule : Rule
 most_rule = record (new_rule (codes "most")) { long = Some (codes "most"); value_names = 1; defaults = codes "10000" ∷ [] }
 
@@ -108,7 +108,7 @@ cut word (Some parts) = parts
 abbrev pub cut_at_slash : Text → Text × Text
 cut_at_slash word = cut word (parted 47 word)
 
--- the path that stands after the addresses: none where nothing stands after the slash
+-- the path that stands after the addresses: none if nothing stands after the slash
 abbrev pub chroot_text : Text → Text
 chroot_text [] = []
 chroot_text (b ∷ bytes) = 47 ∷ (b ∷ bytes)
@@ -118,7 +118,7 @@ abbrev pub is_root : Text → Bool
 is_root [] = true
 is_root (b ∷ bytes) = not (is_some (path_fault (b ∷ bytes)))
 
--- The word has addresses with commas between them, and a chroot after them where there is one.
+-- The word has addresses with commas between them, and a chroot after them if there is one.
 abbrev pub IsServers : (addresses : List Text) → (chroot : Text) → (word : Text) → Type 0
 IsServers addresses chroot word =
     (addresses ≡ slice_split (λ b. b == 44) (cut_at_slash word).0) × (list_all is_named_server addresses ≡ true)
@@ -151,7 +151,7 @@ abbrev pub decoded : Result (Option (List ℕ)) ScriptFault → Option (Option (
 decoded (Ok bytes) = Some bytes
 decoded (Err fault) = None
 
--- The data that are given: a word as it is, or hex; or null, where this is said and no word is given.
+-- The data that are given: a word as it is, or hex; or null, if this is said and no word is given.
 abbrev pub data_given : (word : Option Text) → (is_null is_hex : Bool) → Option (Option (List ℕ))
 data_given None true is_hex = Some None
 data_given None false is_hex = None
@@ -168,7 +168,7 @@ data_with (Some file) _ _ _ = None
 abbrev pub data_in : List Row → Option (Option (List ℕ))
 data_in rows = data_with (first_of (codes "from") rows) (first_of (codes "DATA") rows) (flag (codes "null") rows) (flag (codes "hex") rows)
 
--- the version that a node is to have: any, where none is given
+-- the version that a node is to have: any, if none is given
 abbrev pub version_read : Option Text → Option ℤ
 version_read None = Some (negsuc 0)
 version_read (Some word) = option_map pos (natural_of 2147483647 word)
@@ -176,7 +176,7 @@ version_read (Some word) = option_map pos (natural_of 2147483647 word)
 abbrev pub version_in : List Row → Option ℤ
 version_in rows = version_read (first_of (codes "version") rows)
 
--- how many levels below a node are gone through: where none is given, as many as the longest path has bytes, and so all
+-- how many levels below a node are gone through: if none is given, as many as the longest path has bytes, and so all
 abbrev pub depth_read : Option Text → Option ℕ
 depth_read None = Some LONGEST_PATH
 depth_read (Some word) = natural_of 4294967295 word
@@ -194,7 +194,7 @@ call_for verb.Set path rows = option_and_then (λ bytes. option_map (SetData pat
 call_for verb.Create path rows = option_map (λ bytes. Create path bytes (mode_in rows)) (data_in rows)
 call_for verb.Delete path rows = option_map (Delete path) (version_in rows)
 
--- JSON where this is asked for, and else this
+-- JSON if this is asked for, and else this
 abbrev pub form_or_json : Form → List Row → Form
 form_or_json form rows = if flag (codes "json") rows then Json else form
 

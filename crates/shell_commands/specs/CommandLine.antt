@@ -79,7 +79,7 @@ option_rule name = record (new_rule name) { long = Some name; value_names = 1 }
 abbrev pub path_rule : Text → Rule
 path_rule name = record (option_rule name) { action = Some action.Append }
 
--- milliseconds, 30,000 of them where no number is given
+-- milliseconds, 30,000 of them if no number is given
 abbrev pub timeout_rule : Rule
 timeout_rule = record (option_rule (codes "timeout")) { defaults = codes "30000" ∷ [] }
 
@@ -87,7 +87,7 @@ timeout_rule = record (option_rule (codes "timeout")) { defaults = codes "30000"
 abbrev pub duration_rule : Rule
 duration_rule = option_rule (codes "for")
 
--- a number of nodes, 1,000 where no number is given
+-- a number of nodes, 1,000 if no number is given
 abbrev pub bound_rule : Rule
 bound_rule = record (option_rule (codes "most")) { defaults = codes "1000" ∷ [] }
 
@@ -172,7 +172,7 @@ IsTimeout ms rows = option_and_then timeout_at (first_of (codes "timeout") rows)
 abbrev pub IsDuration : Option ℕ → List Row → Type 0
 IsDuration ms rows = duration_read (first_of (codes "for") rows) ≡ Some ms
 
--- how a watch prints: as JSON where this is asked for
+-- how a watch prints: as JSON if this is asked for
 abbrev pub style_in : List Row → Style
 style_in rows = if flag (codes "json") rows then style.Json else (if flag (codes "text") rows then style.Text else style.Hex)
 
@@ -213,7 +213,7 @@ pub record IsNode (chroot name : Text) (rows : List Row) : Type 0 where
   pub is : is_below chroot name ≡ true
 
 -- What a command that asks for a node was given: servers with their chroot, the node, the call by its verb, the file whose bytes are its
--- data where one is named, how to print, and how long to wait.
+-- data if one is named, how to print, and how long to wait.
 abbrev pub IsAsked : Verb → (addresses : List Text) → (chroot name : Text) → Call → (from : Option Text)
     → Form → (wait_ms : ℕ) → List Row → Type 0
 IsAsked verb addresses chroot name call from form wait_ms rows =
@@ -268,7 +268,7 @@ AsksFor words command = (names : Bor (List (Bor Text))) × AreKinds names × IsF
 abbrev pub AsksForNone : Option (Text × List Row) → Type 0
 AsksForNone found = (command : Command) → IsFound command found → ⊥
 
--- Help is told where `clap` answers the words with help, and a refusal where it refuses them, or where they ask for no command.
+-- Help is told if `clap` answers the words with help, and a refusal if it refuses them, or if they ask for no command.
 abbrev pub IsDue : List Text → LineFault → Type 0
 IsDue words (Help text) = (names : Bor (List (Bor Text))) × AreKinds names
     × ((kind : ErrorKind) × ((kind ≡ kinds.DisplayHelp) ⊎ (kind ≡ kinds.DisplayVersion)) × IsAmong kind (fault_of (shell_app names) words))

@@ -12,25 +12,25 @@ use Rattle.shell_commands.specs.declared.status.Status.TheVariants.{Unread}
 use Rattle.shell_commands.specs.declared.files.FileFault.{FileFault}
 use Rattle.shell_commands.specs.declared.files.FileFault.TheVariants as fault
 
--- what a file gives by its name, and standard input by the name -, where that is known
+-- what a file gives by its name, and standard input by the name -, if that is known
 abbrev pub given_by : (files : Text → Option (List ℕ)) → (input : Option (List ℕ)) → (name : Text) → Option (List ℕ)
 given_by files input name = if bytes_eq name (codes "-") then input else files name
 
--- these are all its bytes, where those are known, and no more than a frame takes
+-- these are all its bytes, if those are known, and no more than a frame takes
 abbrev pub AreWhole : (given : Option (List ℕ)) → (bytes : List ℕ) → Type 0
 AreWhole given bytes = IsInput given bytes × (length bytes ≤ LONGEST_OUTGOING)
 
--- it has more, where its bytes are known
+-- it has more, if its bytes are known
 abbrev pub IsTooLong : Option (List ℕ) → Type 0
 IsTooLong given = IfSome given (λ all. LONGEST_OUTGOING < length all)
 
--- a call with these data, where it has data
+-- a call with these data, if it has data
 abbrev pub with_data : List ℕ → Call → Call
 with_data bytes (SetData path old version) = SetData path (Some bytes) version
 with_data bytes (Create path old mode) = Create path (Some bytes) mode
 with_data bytes call = call
 
--- The call that is asked: that of the words, and where they name a file, with all bytes that it gives as the data.
+-- The call that is asked: that of the words, and if they name a file, with all bytes that it gives as the data.
 abbrev pub IsAskedBy : (files : Text → Option (List ℕ)) → (input : Option (List ℕ)) → (from : Option Text) → (call asked : Call) → Type 0
 IsAskedBy files input None call asked = asked ≡ call
 IsAskedBy files input (Some name) call asked =

@@ -1,4 +1,4 @@
--- The payload of one whole frame, and what is wrong where there is none.
+-- The payload of one whole frame, and what is wrong if there is none.
 use Rattle.std.specs.Prelude.{ℕ, ℤ, pos, negsuc, List, length, Result, Ok, Err, nat_lt, if◌then◌else◌}
 use Rattle.zk_jute.specs.declared.fault.TakeError.{TakeError}
 use Rattle.zk_jute.specs.Layout.{int}

@@ -10,7 +10,7 @@ abbrev pub is_label_byte : ℕ → Bool
 is_label_byte b =
     (nat_le 97 b && nat_le b 122) || ((nat_le 65 b && nat_le b 90) || ((nat_le 48 b && nat_le b 58) || (b == 45 || (b == 95 || b == 37))))
 
--- Whether a byte may follow this many bytes of a label: a dot where there is one, or another byte where there are fewer than 63.
+-- Whether a byte may follow this many bytes of a label: a dot if there is one, or another byte if there are fewer than 63.
 abbrev pub may_follow : (length byte : ℕ) → Bool
 may_follow length byte = if byte == 46 then not (length == 0) else is_label_byte byte && nat_lt length 63
 

@@ -103,7 +103,7 @@ pub record IsNeverConnected (far : FarEnd) (words : List Text) (text : List ℕ)
 abbrev pub IsRefusal : List Text → List ℕ → Type 0
 IsRefusal words told = (fault : LineFault) × IsDue words fault × IsRefusalText fault told
 
--- No line's print is cut. The line of a halt stands after them where a step of the client halted.
+-- No line's print is cut. The line of a halt stands after them if a step of the client halted.
 pub data IsWhole (far : FarEnd) (words : List Text) (input : Option (List ℕ)) (text : List ℕ) : Type 0 where
   nothing : text ≡ [] → IsWhole far words input text
   starts : (script printed told : List ℕ) (end : ScriptEnd)

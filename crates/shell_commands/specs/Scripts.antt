@@ -10,7 +10,7 @@ use Rattle.script_story.specs.Stories as stories
 use Rattle.shell_commands.specs.declared.command.Command.{Command}
 use Rattle.shell_commands.specs.declared.command.Command.TheVariants.{History, Replay, Rehearse, Live}
 
--- the script is what the reader gives, where that is known
+-- the script is what the reader gives, if that is known
 abbrev pub IsInput : Option (List ℕ) → List ℕ → Type 0
 IsInput given script = IfSome given (λ all. script ≡ all)
 

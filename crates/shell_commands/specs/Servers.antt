@@ -1,4 +1,4 @@
--- The servers that a command line asks or watches where no word of it names any.
+-- The servers that a command line asks or watches if no word of it names any.
 use Rattle.std.specs.Prelude.{◌≡◌, ◌&&◌, not, nat_eq, Bool, true, false, if◌then◌else◌, bytes_eq, List, [], ◌∷◌, codes, Option, Some, None}
 use Rattle.std.specs.List.{list_any, starts_with}
 use Rattle.clap.specs.Words.{Text}
@@ -22,7 +22,7 @@ takes_value word = list_any (bytes_eq word) valued_options
 abbrev pub is_option : Text → Bool
 is_option word = starts_with nat_eq word (codes "-") && not (bytes_eq word (codes "-"))
 
--- A word is plain where it is no option, and no value of the one before it.
+-- A word is plain if it is no option, and no value of the one before it.
 abbrev pub is_plain : (is_value : Bool) → Text → Bool
 is_plain is_value word = not is_value && not (is_option word)
 
@@ -43,7 +43,7 @@ names_none (Some word) = starts_with nat_eq word (codes "/")
 abbrev pub lacks_servers : (command : Text) → (words : List Text) → Bool
 lacks_servers command words = list_any (bytes_eq command) node_commands && names_none (first_plain false words)
 
--- the words, with these servers after a command that asks or watches where none are named
+-- the words, with these servers after a command that asks or watches if none are named
 abbrev pub served : (servers : Text) → List Text → List Text
 served servers (program ∷ (command ∷ words)) =
     if lacks_servers command words then program ∷ (command ∷ (servers ∷ words)) else program ∷ (command ∷ words)

@@ -60,7 +60,7 @@ response_lines r =
     ++ (line (codes "timeOut") (signed_decimal r.front.1.0) ++ (line (codes "sessionId") (signed_decimal r.front.1.1.0)
     ++ (line (codes "passwd") (bytes_word r.front.1.1.1) ++ line (codes "readOnly") (optional_boolean_word r.read_only))))
 
--- a response that the whole payload spells: where readOnly is missing, nothing stands after it
+-- a response that the whole payload spells: if readOnly is missing, nothing stands after it
 abbrev pub IsResponse : (payload lines spelled ignored : List ℕ) → Type 0
 IsResponse payload lines spelled ignored =
     IsShown (λ response. IsPayload payload response ignored) response_spelling response_lines lines spelled
@@ -130,7 +130,7 @@ pub record IsNotHex (text : List ℕ) : Type 0 where
   pub why : FromHexError
   pub refused : decode_of text ≡ Err why
 
--- Where nothing is ignored, the frame that is printed is the frame that was read.
+-- If nothing is ignored, the frame that is printed is the frame that was read.
 abbrev pub PrintsAgain : List ℕ → List ℕ → List ℕ → Type 0
 PrintsAgain frame spelled ignored = ignored ≡ [] → frame_of spelled ≡ frame
 

@@ -87,7 +87,7 @@ fn tell_unread<E: Write>(alloc: Global, name: &str, fault: FileFault, errors: &m
     }
 }
 
-/// Asks a question, with the bytes of a file as its data where one is named; or tells why the file gives none.
+/// Asks a question, with the bytes of a file as its data if one is named; or tells why the file gives none.
 pub fn ask_with<F: Files, D: Dial + Drop, C: Clock + Drop, I: Read, O: Write, E: Write>(
     alloc: Global,
     files: &F,

@@ -22,7 +22,7 @@ use zk_nodes::Path;
 /// The most seconds of a wait.
 const MOST_SECONDS: u64 = 4_294_967;
 
-/// The hosts of a word, and the chroot without its slash where there is one.
+/// The hosts of a word, and the chroot without its slash if there is one.
 fn parted(word: &str) -> (&str, &str)
     ensures { (result.0.now, result.1.now) ≡ cut_at_slash word.now }
 {
@@ -44,7 +44,7 @@ fn chroot_of(alloc: Global, below: &str) -> Result<String, AllocError>
     Ok(text)
 }
 
-/// The chroot that is given: empty where there is none, and else a path.
+/// The chroot that is given: empty if there is none, and else a path.
 fn root_of(alloc: Global, below: &str) -> Result<String, LineFault>
     ensures ok { IfOk result (λ root. string_bytes root ≡ chroot_text below.now) }
     ensures accepted { OnOk result (is_root (chroot_text below.now) ≡ true) }
@@ -156,7 +156,7 @@ pub(crate) fn flag(matches: &ArgMatches<'_>, name: &str) -> bool
     }
 }
 
-/// JSON where this is asked for, and else this form.
+/// JSON if this is asked for, and else this form.
 pub(crate) fn form_or_json(form: Form, matches: &ArgMatches<'_>) -> Form
     ensures { result ≡ form_or_json form (rows_of (found_of matches.now)) }
 {

@@ -80,7 +80,7 @@ pub struct NodeQuestion<'a> {
     pub chroot: String,
     pub name: &'a str,
     pub call: Call,
-    /// The file whose bytes are to be the data of the call, which has none; where one is named.
+    /// The file whose bytes are to be the data of the call, which has none; if one is named.
     pub from: Option<&'a str>,
     pub form: Form,
     pub wait_ms: u64,

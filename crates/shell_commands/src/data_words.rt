@@ -55,7 +55,7 @@ fn data_from(
     }
 }
 
-/// The data that a word gives, or that no word gives; or none, where a file is named.
+/// The data that a word gives, or that no word gives; or none, if a file is named.
 fn data_with(
     alloc: Global,
     file: Option<&str>,
@@ -78,7 +78,7 @@ fn data_with(
     }
 }
 
-/// The data that are given: none where a file is named.
+/// The data that are given: none if a file is named.
 fn data_of(alloc: Global, matches: &ArgMatches<'_>) -> Result<Option<Vec<u8>>, LineFault>
     ensures ok { IfOk result (λ bytes. data_in (rows_of (found_of matches.now)) ≡ Some (option_map (λ v. v.items) bytes)) }
     ensures err { IfErr result (TellsIf (data_in (rows_of (found_of matches.now)) ≡ None)) }

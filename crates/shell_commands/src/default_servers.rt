@@ -1,4 +1,4 @@
-//! The servers that a command line asks or watches where no word of it names any.
+//! The servers that a command line asks or watches if no word of it names any.
 
 ghost use Rattle.std.specs.Prelude.{◌≡◌, ◌++◌, ◌∷◌, [], IfOk, OnOk, false, bytes_eq, map};
 ghost use Rattle.std.specs.List.{list_any};
@@ -99,7 +99,7 @@ fn add_words<'a>(all: &mut Vec<&'a str>, words: &[&'a str]) -> Result<(), AllocE
     Ok(())
 }
 
-/// The words, with these servers after a command that asks or watches where none are named.
+/// The words, with these servers after a command that asks or watches if none are named.
 pub(crate) fn with_servers<'a>(
     alloc: Global,
     servers: &'a str,

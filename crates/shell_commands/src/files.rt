@@ -18,7 +18,7 @@ pub trait Files {
     /// A file that is read.
     type File: Read + Drop;
 
-    /// What the file of a name gives, where that is known.
+    /// What the file of a name gives, if that is known.
     ghost holds: { Self → List ℕ → Option (List ℕ) };
 
     /// Opens the file of a name, to be read from its first byte.
@@ -52,7 +52,7 @@ fn fault_of(kind: ErrorKind) -> FileFault
     }
 }
 
-/// These bytes, where a frame takes as many.
+/// These bytes, if a frame takes as many.
 fn within(bytes: Vec<u8>) -> Result<Vec<u8>, FileFault>
     ensures ok { IfOk result (λ same. (same.items ≡ bytes.items) × (length bytes.items ≤ LONGEST_OUTGOING)) }
     ensures err { IfErr result (λ fault. (fault ≡ FileFault.TooLong) × (LONGEST_OUTGOING < length bytes.items)) }
@@ -63,7 +63,7 @@ fn within(bytes: Vec<u8>) -> Result<Vec<u8>, FileFault>
     Ok(bytes)
 }
 
-/// The bytes that a reader gives up to its end, where a frame takes as many.
+/// The bytes that a reader gives up to its end, if a frame takes as many.
 fn whole_of<R: Read + Drop>(alloc: Global, input: R) -> Result<Vec<u8>, FileFault>
     ensures whole { IfOk result (λ bytes. AreWhole (R.remaining input) bytes.items) }
     ensures long { IfErr result (λ fault. fault ≡ FileFault.TooLong → IsTooLong (R.remaining input)) }
@@ -76,7 +76,7 @@ fn whole_of<R: Read + Drop>(alloc: Global, input: R) -> Result<Vec<u8>, FileFaul
     }
 }
 
-/// The bytes of the file of a name, or of standard input where the name is `-`.
+/// The bytes of the file of a name, or of standard input if the name is `-`.
 fn bytes_of<F: Files, I: Read>(
     alloc: Global,
     files: &F,
@@ -96,7 +96,7 @@ fn bytes_of<F: Files, I: Read>(
     }
 }
 
-/// A call with these data, where it has data.
+/// A call with these data, if it has data.
 fn with_data(call: Call, given: Vec<u8>) -> Call
     ensures { call_view result ≡ with_data given.items (call_view call) }
 {
@@ -115,7 +115,7 @@ fn with_data(call: Call, given: Vec<u8>) -> Call
     }
 }
 
-/// The call that is asked: where a file is named, with its bytes as the data.
+/// The call that is asked: if a file is named, with its bytes as the data.
 pub(crate) fn asked_by<F: Files, I: Read>(
     alloc: Global,
     files: &F,

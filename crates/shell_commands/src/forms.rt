@@ -27,11 +27,11 @@ enum Slot {
     Value(&'static str),
     /// One that may be used several times.
     Values(&'static str),
-    /// One that has a value where none is given: what help calls it, and that value.
+    /// One that has a value if none is given: what help calls it, and that value.
     Default(&'static str, &'static str),
 }
 
-/// A command that is made, where memory does.
+/// A command that is made, if memory does.
 type Made<'a> = Result<Command<'a>, AllocError>;
 
 /// A name, what has it, and what help says of it.

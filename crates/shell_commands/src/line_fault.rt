@@ -63,7 +63,7 @@ fn refusal(text: Result<String, AllocError>) -> LineFault
     }
 }
 
-/// What is told where the words ask for nothing.
+/// What is told if the words ask for nothing.
 pub(crate) fn no_command(alloc: Global) -> LineFault
     ensures { IsNoHelp result }
 {
@@ -84,7 +84,7 @@ pub(crate) fn no_path(alloc: Global, word: &str, fault: PathFault) -> LineFault
     refusal(format!(in alloc; "error: {word:?}: {fault}\n"))
 }
 
-/// What is told where no data are given.
+/// What is told if no data are given.
 pub(crate) fn no_data(alloc: Global) -> LineFault
     ensures { IsNoHelp result }
 {

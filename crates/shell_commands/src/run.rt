@@ -176,7 +176,7 @@ fn run_words<F: Files, D: Dial + Drop, C: Clock + Drop, I: Read, O: Write, E: Wr
 
 /// Runs the command that the words ask for. The first word is the program's name. `dial` connects to addresses, for what runs over
 /// connections, `clock` tells moments to a watch and to a call, and `files` opens the file that a command names. A command that asks or
-/// watches has these servers where no word of it names any.
+/// watches has these servers if no word of it names any.
 pub fn run<F: Files, D: Dial + Drop, C: Clock + Drop, I: Read, O: Write, E: Write>(
     alloc: Global,
     files: &F,

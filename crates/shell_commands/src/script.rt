@@ -50,7 +50,7 @@ pub fn script_over<P: Plays<A>, A: Allocator + Copy, I: Read, O: Write, E: Write
     ensures fault { result ≡ Status.Fault → (script text : List ℕ) × (number : ℕ) × (why : Why) × IsInput (I.remaining input.old) script
         × P.prints (lines_of script) text (ends.Refused number why) × Appends (O.contents out.old) (O.contents out.new) text
         × Appends (E.contents errors.old) (E.contents errors.new) (refusal_text number why) }
-    // What is written is what the first lines print: of no line a part. The line of a halt stands after it where a step halted.
+    // What is written is what the first lines print: of no line a part. The line of a halt stands after it if a step halted.
     ensures memory { result ≡ Status.Memory → (script text told : List ℕ) × (end : ScriptEnd) × IsInput (I.remaining input.old) script
         × P.prints (lines_of script) text end × RunsOut end told × Appends (O.contents out.old) (O.contents out.new) (text ++ told) }
     ensures silent { (result ≡ Status.Done) ⊎ (result ≡ Status.Memory) → errors.new ≡ errors.old }

@@ -15,7 +15,7 @@ use zk_link::{Clock, Dial};
 
 /// Watches what a plan names over connections, and prints a line at each change that the client learns, until the plan's time is over:
 /// `NeverConnected` where no server had ever accepted its session by then. `Memory` where memory ran out, with the line `halt` after the
-/// others where that was in a step of the client; `Stream` where a write of what is printed failed. A connection that fails is no fault.
+/// others if that was in a step of the client; `Stream` where a write of what is printed failed. A connection that fails is no fault.
 pub fn watch_over<A: Allocator + Copy, D: Dial + Drop, C: Clock + Drop, O: Write>(
     alloc: A,
     dial: D,
@@ -28,7 +28,7 @@ pub fn watch_over<A: Allocator + Copy, D: Dial + Drop, C: Clock + Drop, O: Write
     ensures never { result ≡ Status.NeverConnected
         → (text : List ℕ) × IsWatched A D.Stream.far plan.entry.style (aims_of plan.entry.subjects.items)
         plan.entry.trees.items plan.entry.most plan.entry.for_ms text false × Appends (O.contents out.old) (O.contents out.new) text }
-    // The line of a halt stands after what is printed where a step halted.
+    // The line of a halt stands after what is printed if a step halted.
     ensures memory { result ≡ Status.Memory → (text told : List ℕ)
         × IsPrinted A D.Stream.far plan.entry.style (aims_of plan.entry.subjects.items) plan.entry.trees.items plan.entry.most text
         × IsHalt told

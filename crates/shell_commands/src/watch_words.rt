@@ -67,7 +67,7 @@ pub(crate) fn timeout_of(alloc: Global, matches: &ArgMatches<'_>) -> Result<i32,
     }
 }
 
-/// How long to watch, in milliseconds, where the words say so.
+/// How long to watch, in milliseconds, if the words say so.
 pub(crate) fn duration_of(alloc: Global, matches: &ArgMatches<'_>) -> Result<Option<u64>, LineFault>
     ensures ok { IfOk result (λ ms. IsDuration ms (rows_of (found_of matches.now))) }
     ensures err { IfErr result (TellsIf (duration_read (first_of (codes "for") (rows_of (found_of matches.now))) ≡ None)) }

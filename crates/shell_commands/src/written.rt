@@ -60,7 +60,7 @@ pub(crate) fn halt<O: Write>(out: &mut O) -> Status
 }
 
 /// Writes what lines print, and tells how they ended: to `errors` the number of a line that is refused, and why. `Memory` where
-/// memory ran out, with the line `halt` after the others where that was in a step of the client; `Stream` where a write failed.
+/// memory ran out, with the line `halt` after the others if that was in a step of the client; `Stream` where a write failed.
 pub(crate) fn write_transcript<A: Allocator, O: Write, E: Write>(
     out: &mut O,
     errors: &mut E,

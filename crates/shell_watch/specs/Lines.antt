@@ -48,7 +48,7 @@ zeros_before ms = if nat_lt ms 10 then codes "00" else if nat_lt ms 100 then cod
 abbrev pub stamp_of : ℕ → List ℕ
 stamp_of ms = decimal (ms / 1000) ++ (codes "." ++ (zeros_before (ms % 1000) ++ decimal (ms % 1000)))
 
--- the moment and the words, and nothing where there are no words
+-- the moment and the words, and nothing if there are no words
 abbrev pub line_of : (stamp words : List ℕ) → List ℕ
 line_of stamp [] = []
 line_of stamp words = stamp ++ 32 ∷ (words ++ 10 ∷ [])
@@ -59,7 +59,7 @@ abbrev pub none_words : Side → List ℕ
 none_words Data = codes "data none"
 none_words Child = codes "names none"
 
--- What is kept of a subject: that there is no node, where that is good; else what a look-up prints.
+-- What is kept of a subject: that there is no node, if that is good; else what a look-up prints.
 abbrev pub LooksWhere : (is_missing : Bool) → Side → Text → View → List ℕ → Type 0
 LooksWhere true side path view words = words ≡ codes "does not exist"
 LooksWhere false side path view words = DoesClient (PeekLine side path) view view (words ++ 10 ∷ [])
@@ -77,7 +77,7 @@ is_text bytes = is_utf8 bytes && not (list_any is_hidden (chars bytes))
 abbrev pub quoted_word : List ℕ → List ℕ
 quoted_word text = print (json.string text ∷ [])
 
--- data in quotes where they are text, and else in hex
+-- data in quotes if they are text, and else in hex
 abbrev pub data_word : Option (List ℕ) → List ℕ
 data_word None = bytes_word None
 data_word (Some bytes) = if is_text bytes then quoted_word bytes else bytes_word (Some bytes)
@@ -111,7 +111,7 @@ subject_line style ms side path view words =
 abbrev pub object_tokens : List json.Token → List json.Token
 object_tokens members = json.begin_object ∷ (members ++ json.end_object ∷ [])
 
--- an object of this kind, of a moment in milliseconds, with these members too; and nothing where there is no kind
+-- an object of this kind, of a moment in milliseconds, with these members too; and nothing if there is no kind
 abbrev pub object_line : (ms : ℕ) → (kind : List ℕ) → List json.Token → List ℕ
 object_line ms [] members = []
 object_line ms kind members =
@@ -172,7 +172,7 @@ AreNamesMembers (Some kept) members =
     (each : List Text) × AreNames each (set.contains kept.answer.names)
     × (members ≡ array_members (codes "names") each ++ (number_members (codes "pzxid") kept.answer.pzxid ++ mark_members kept.mark))
 
--- What is kept of a subject: that there is no node, where that is good; else what is kept of its side.
+-- What is kept of a subject: that there is no node, if that is good; else what is kept of its side.
 abbrev pub kind_where : (is_missing : Bool) → Side → Text → View → List ℕ
 kind_where false Child path view = names_kind (view.cache.children path)
 kind_where is_missing side path view = node_kind (view.cache.nodes path)
@@ -292,7 +292,7 @@ turn_words watched at view turn = []
 
 -- ---- what a driver tells, as JSON
 
--- what a line tells of what the agent tells, and nothing where it is not printed
+-- what a line tells of what the agent tells, and nothing if it is not printed
 abbrev pub refused_kind : {A : Type 0} → (ticket : ℕ) → List (Watched A) → Refusal → List ℕ
 refused_kind ticket watched why = if shows_refusal ticket watched why then codes "refused" else []
 

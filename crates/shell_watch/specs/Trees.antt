@@ -21,7 +21,7 @@ use Rattle.shell_watch.specs.declared.shown.Watched.{Watched}
 
 -- ---- what was printed of a subject
 
--- the words that were printed last; where none were, it is as if nothing were kept and that were printed
+-- the words that were printed last; if none were, it is as if nothing were kept and that were printed
 abbrev pub words_printed : {A : Type 0} → Side → Option (String A) → List ℕ
 words_printed side None = none_words side
 words_printed side (Some words) = string_bytes words
@@ -46,7 +46,7 @@ is_watched aim watched = list_any (is_at aim) watched
 abbrev pub kept_on : {A : Type 0} → (ticket : ℕ) → Side × Text → Watched A → Watched A
 kept_on ticket aim one = if one.is_leaving && is_at aim one then record one { ticket = ticket; is_leaving = false } else one
 
--- A side of a path joins where it is not watched yet, so none is printed twice.
+-- A side of a path joins if it is not watched yet, so none is printed twice.
 abbrev pub joined_where : {A : Type 0} → (is_watched : Bool) → (ticket : ℕ) → Side × Text → List (Watched A) → List (Watched A)
 joined_where true ticket aim watched = map (kept_on ticket aim) watched
 joined_where false ticket aim watched = watched ++ fresh ticket aim ∷ []
@@ -63,7 +63,7 @@ has_nothing_left ticket one = one.ticket == ticket && bytes_eq (printed one) (co
 abbrev pub leaving : {A : Type 0} → (ticket : ℕ) → Watched A → Watched A
 leaving ticket one = if one.ticket == ticket then record one { is_leaving = true } else one
 
--- What a ticket follows is let go. It leaves at once where it was printed last that there is no such node; else it is printed once more.
+-- What a ticket follows is let go. It leaves at once if it was printed last that there is no such node; else it is printed once more.
 abbrev pub left : {A : Type 0} → (ticket : ℕ) → List (Watched A) → List (Watched A)
 left ticket watched = map (leaving ticket) (filter (λ one. not (has_nothing_left ticket one)) watched)
 
@@ -80,7 +80,7 @@ staying watched = filter stays watched
 abbrev pub has_bounded : Growth → Bool
 has_bounded growth = not (growth.bounded == 0)
 
--- how many have, where one has more, or has more no longer
+-- how many have, if one has more, or has more no longer
 abbrev pub bounded_after : (is_bounded : Bool) → ℕ → ℕ
 bounded_after true count = min (count + 1) (2 ^ 64 - 1)
 bounded_after false count = count - 1
@@ -109,7 +109,7 @@ abbrev pub grown_told : Told → Growth → Growth
 grown_told (TellsTree told) growth = grown_by told growth
 grown_told told growth = growth
 
--- after a turn, where trees grow
+-- after a turn, if trees grow
 abbrev pub watched_where : {A : Type 0} → (is_growing : Bool) → Turn A → List (Watched A) → List (Watched A)
 watched_where true (turn.Told action) watched = watched_told (action_view action) watched
 watched_where is_growing turn watched = watched
@@ -131,7 +131,7 @@ bound_line style_is.Json ms most = object_line ms (codes "bound") (number_member
 bound_line style ms most =
     line_of (stamp_of ms) (codes "bound " ++ (decimal most ++ codes " a tree has more nodes: no more of it are watched"))
 
--- it is printed where it was not reached before
+-- it is printed if it was not reached before
 abbrev pub bound_text : (was is : Bool) → Style → (ms most : ℕ) → List ℕ
 bound_text false true style ms most = bound_line style ms most
 bound_text was is style ms most = []

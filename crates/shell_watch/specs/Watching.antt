@@ -27,12 +27,12 @@ use Rattle.shell_watch.specs.declared.shown.Watched.{Watched}
 
 -- ---- what is shown of subjects
 
--- The line of a subject is printed where the words are not those that were printed last.
+-- The line of a subject is printed if the words are not those that were printed last.
 abbrev pub PrintsChange : (is_same : Bool) → Style → (ms : ℕ) → Side → Text → View → (words text : List ℕ) → Type 0
 PrintsChange true style ms side path view words text = text ≡ []
 PrintsChange false style ms side path view words text = IsSubjectLine style ms side path view words text
 
--- A subject is shown: what was printed of it last is the look-up then, and it is printed where it was not.
+-- A subject is shown: what was printed of it last is the look-up then, and it is printed if it was not.
 pub record ShowsSo {A : Type 0} (style : Style) (ms : ℕ) (view : View) (old new : Watched A) (text : List ℕ) : Type 0 where
   pub aim : aim_of new.subject ≡ aim_of old.subject
   pub ticket : new.ticket ≡ old.ticket
@@ -75,8 +75,8 @@ abbrev pub accepts : {A : Type 0} → Turn A → Bool
 accepts (turn.Told action) = accepts_by (action_view action)
 accepts turn = false
 
--- What is printed of a turn: its words, after some time, and that a tree has more nodes than the most, where none had. What is told of a
--- tree decides what is watched. Where nothing waits to be told then, each subject is printed after them of which what the client keeps is
+-- What is printed of a turn: its words, after some time, and that a tree has more nodes than the most, if none had. What is told of a
+-- tree decides what is watched. If nothing waits to be told then, each subject is printed after them of which what the client keeps is
 -- not what was printed last: so what was printed last of each subject is the look-up then. What was let go is watched no more after that.
 pub record TellsTurn {A : Type 0} (style : Style) (turn : Turn A) (view : View) (waits : List Told) (growth : Growth)
     (old new : List (Watched A)) (text : List ℕ) : Type 0 where
@@ -171,7 +171,7 @@ AsksFirst [] = ⊥
 AsksFirst (Takes turn text ∷ moves) = ⊥
 AsksFirst (Closes until ∷ moves) = ⊤
 
--- Where the client is connected, the end of the session is asked for, and what comes of that is printed; else nothing happens.
+-- If the client is connected, the end of the session is asked for, and what comes of that is printed; else nothing happens.
 pub record EndsBy {A : Type 0} {far : FarEnd} (old : Stand A far) (moves : List (Move A)) : Type 0 where
   pub asks : (view_in old).standing.state ≡ Connected → AsksFirst moves
   pub rests : (view_in old).standing.state ≢ Connected → moves ≡ []

@@ -49,7 +49,7 @@ fn bound_line<A: Allocator + Copy>(
     line_at(alloc, ms, words.as_str())
 }
 
-/// The same where the bound was not reached before, and nothing where it was or is not.
+/// The same if the bound was not reached before, and nothing if it was or is not.
 pub(crate) fn bound_text<A: Allocator + Copy>(
     alloc: A,
     style: Style,

@@ -36,7 +36,7 @@ fn keep_all_on<A: Allocator + Copy>(watched: &mut [Watched<A>], subject: &NodeSi
 }
 
 /// A side of a node is watched that is followed by this ticket, as if nothing were kept of it and that were printed. It is watched once,
-/// also where it is followed twice.
+/// even if it is followed twice.
 pub(crate) fn join<A: Allocator + Copy>(
     alloc: A,
     ticket: u64,
@@ -80,7 +80,7 @@ fn let_each_go<A: Allocator + Copy>(watched: &mut [Watched<A>], ticket: u64)
     }
 }
 
-/// What this ticket follows is watched no more, where nothing is left to be printed of it; else it is let go, and printed once more.
+/// What this ticket follows is watched no more, if nothing is left to be printed of it; else it is let go, and printed once more.
 pub(crate) fn leave<A: Allocator + Copy>(ticket: u64, watched: &mut Vec<Watched<A>, A>)
     ensures { watched.new.items ≡ left ticket watched.old.items }
 {

@@ -18,7 +18,7 @@ use std::alloc::{AllocError, Allocator};
 use zk_client::{Client, DataAnswer, DataStat, Mark, Path, Side};
 use zk_trees::{NodeSide, is_missing};
 
-/// The words where nothing is kept.
+/// The words if nothing is kept.
 pub(crate) fn none_words(side: Side) -> &'static str
     ensures { result.now ≡ none_words side }
 {

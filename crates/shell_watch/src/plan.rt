@@ -9,7 +9,7 @@ use zk_trees::NodeSide;
 pub enum Style {
     /// In words, and data in hex.
     Hex,
-    /// In words, and data in quotes, with the escapes of JSON, where they are text: UTF-8 with no control character other than tab and
+    /// In words, and data in quotes, with the escapes of JSON, if they are text: UTF-8 with no control character other than tab and
     /// newline. Else in hex.
     Text,
     /// An object of JSON a line.

@@ -18,15 +18,15 @@ use zk_link::{Clock, Dial};
 ///
 /// A driver follows each subject, and decides when it is read, which address is dialled, and when another session begins. A line tells each
 /// thing that it tells of the session, of its connections and of reads that are refused; and of a subject its path, what is kept of it now,
-/// and the last seen zxid, where that is not what was printed of it last. At first it is as if nothing that is kept had been printed. Each
+/// and the last seen zxid, if that is not what was printed of it last. At first it is as if nothing that is kept had been printed. Each
 /// line begins with the time since the watch began.
 ///
-/// The driver follows each tree: its root from the first, also where it is not there yet, and each node that good names lead to from there
+/// The driver follows each tree: its root from the first, even if it is not there yet, and each node that good names lead to from there
 /// on, its data and the names below it. What it takes on is watched, if it is not watched already, so that nothing is printed twice; and
-/// what it lets go is watched no more, after it was printed once more where it has changed: that it does not exist. Where a tree has more
-/// nodes than the most, no more of it are taken on, and a line tells that where none had more before.
+/// what it lets go is watched no more, after it was printed once more if it has changed: that it does not exist. If a tree has more
+/// nodes than the most, no more of it are taken on, and a line tells that if none had more before.
 ///
-/// Lines are written whole, those of one turn in one write, and flushed. Where memory runs out, those of the last turn are not written.
+/// Lines are written whole, those of one turn in one write, and flushed. If memory runs out, those of the last turn are not written.
 pub fn watch<A: Allocator + Copy, D: Dial + Drop, C: Clock + Drop, O: Write>(
     alloc: A,
     dial: D,
@@ -39,7 +39,7 @@ pub fn watch<A: Allocator + Copy, D: Dial + Drop, C: Clock + Drop, O: Write>(
     ensures over { result ≡ WatchEnd.Over → (text : List ℕ) × IsWatched A D.Stream.far plan.entry.style
         (aims_of plan.entry.subjects.items) plan.entry.trees.items plan.entry.most plan.entry.for_ms text true
         × Appends (O.contents out.old) (O.contents out.new) text }
-    // The same, where none had.
+    // The same, if none had.
     ensures never { result ≡ WatchEnd.NeverConnected → (text : List ℕ) × IsWatched A D.Stream.far plan.entry.style
         (aims_of plan.entry.subjects.items) plan.entry.trees.items plan.entry.most plan.entry.for_ms text false
         × Appends (O.contents out.old) (O.contents out.new) text }

@@ -18,7 +18,7 @@ use zk_client::{Client, Path, Side};
 use zk_trees::{NodeSide, copy_of};
 
 /// A subject that is watched, the ticket by which it is followed, the words that were printed of it last, if any were, and whether it is
-/// let go: then it is printed once more, where it has changed.
+/// let go: then it is printed once more, if it has changed.
 #[derive(Drop)]
 pub(crate) struct Watched<A: Allocator> {
     pub(crate) subject: NodeSide<A>,
@@ -27,7 +27,7 @@ pub(crate) struct Watched<A: Allocator> {
     pub(crate) is_leaving: bool,
 }
 
-/// The words that were printed of it last; where none were, those where nothing is kept.
+/// The words that were printed of it last; if none were, those if nothing is kept.
 pub(crate) fn printed<A: Allocator>(one: &Watched<A>) -> &str
     ensures { result.now ≡ printed one.now }
 {
@@ -107,7 +107,7 @@ pub(crate) fn fresh<A: Allocator + Copy>(
     })
 }
 
-/// Adds the line of a subject, where what a client keeps of it is not what was printed last.
+/// Adds the line of a subject, if what a client keeps of it is not what was printed last.
 fn show<A: Allocator + Copy>(
     alloc: A,
     style: Style,

@@ -29,7 +29,7 @@ fn stamp_of<A: Allocator + Copy>(alloc: A, ms: u64) -> Result<String<A>, AllocEr
     Ok(text)
 }
 
-/// Adds a line of these words, and none where there are none.
+/// Adds a line of these words, or none if there are none.
 fn push_line<A: Allocator>(text: &mut String<A>, stamp: &str, words: &str) -> Result<(), AllocError>
     ensures { OnOk result (string_bytes text.new ≡ string_bytes text.old ++ line_of stamp.now words.now) }
 {
@@ -42,7 +42,7 @@ fn push_line<A: Allocator>(text: &mut String<A>, stamp: &str, words: &str) -> Re
     text.push_str("\n")
 }
 
-/// The line of these words at this moment, and none where there are none.
+/// The line of these words at this moment, or none if there are none.
 pub(crate) fn line_at<A: Allocator + Copy>(
     alloc: A,
     ms: u64,

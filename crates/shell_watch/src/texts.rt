@@ -9,7 +9,7 @@ use script_words::words::{NULL, bytes_to_word};
 use shell_words::texts::{as_utf8, has_hidden};
 use std::alloc::{AllocError, Allocator};
 
-/// The bytes as text, where they are UTF-8 and have no such character.
+/// The bytes as text, if they are UTF-8 and have no such character.
 fn as_text(bytes: &[u8]) -> Option<&str>
     ensures { MatchOption result (is_text bytes.now ≡ false) (λ text. (text.now ≡ bytes.now) × (is_text bytes.now ≡ true)) }
 {
@@ -32,7 +32,7 @@ fn quoted_word<A: Allocator + Copy>(alloc: A, text: &str) -> Result<String<A>, A
     }
 }
 
-/// Data in quotes where they are text, and else in hex.
+/// Data in quotes if they are text, and else in hex.
 pub(crate) fn data_word<A: Allocator + Copy>(
     alloc: A,
     bytes: &Option<Vec<u8, A>>,

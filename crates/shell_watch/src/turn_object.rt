@@ -20,7 +20,7 @@ use std::alloc::{AllocError, Allocator};
 use zk_client::{Client, Fault, State};
 use zk_driver::{Action, Reason, Refusal, Turn};
 
-/// That a read was refused, and nothing where it is not printed.
+/// That a read was refused, and nothing if it is not printed.
 fn refused_kind<A: Allocator>(watched: &[Watched<A>], ticket: u64, why: Refusal) -> &'static str
     ensures { result.now ≡ refused_kind ticket watched.now why }
 {
@@ -31,7 +31,7 @@ fn refused_kind<A: Allocator>(watched: &[Watched<A>], ticket: u64, why: Refusal)
     }
 }
 
-/// What a line tells of what the agent tells, and nothing where it is not printed.
+/// What a line tells of what the agent tells, and nothing if it is not printed.
 fn action_kind<A: Allocator>(watched: &[Watched<A>], action: &Action<A>) -> &'static str
     ensures { result.now ≡ action_kind watched.now (action_view action.now) }
 {
@@ -44,7 +44,7 @@ fn action_kind<A: Allocator>(watched: &[Watched<A>], action: &Action<A>) -> &'st
     }
 }
 
-/// What a line tells of a turn, and nothing where it is not printed.
+/// What a line tells of a turn, and nothing if it is not printed.
 fn turn_kind<A: Allocator>(watched: &[Watched<A>], turn: &Turn<A>) -> &'static str
     ensures { result.now ≡ turn_kind watched.now turn.now }
 {
@@ -214,7 +214,7 @@ fn put_turn<A: Allocator + Copy>(
     }
 }
 
-/// The object of a turn, and none where it is not printed.
+/// The object of a turn, or none if it is not printed.
 pub(crate) fn turn_object<A: Allocator + Copy>(
     alloc: A,
     ms: u64,

@@ -102,7 +102,7 @@ impl<'a, A: Allocator + Copy, D: Dial + Drop, C: Clock + Drop> Watcher<'a, A, D,
         self.driver.now().saturating_sub(self.begins)
     }
 
-    /// Adds each subject of which what is kept is not what was printed last, where nothing waits to be told. What is let go is watched no
+    /// Adds each subject of which what is kept is not what was printed last, if nothing waits to be told. What is let go is watched no
     /// more then.
     fn show(&mut self, ms: u64, text: &mut String<A>) -> Result<(), AllocError>
         ensures engine { self.new.driver.engine ≡ self.old.driver.engine }
@@ -123,7 +123,7 @@ impl<'a, A: Allocator + Copy, D: Dial + Drop, C: Clock + Drop> Watcher<'a, A, D,
         Ok(())
     }
 
-    /// The line of a turn, and none where it is not printed.
+    /// The line of a turn, or none if it is not printed.
     fn line(&self, turn: &Turn<A>, ms: u64) -> Result<String<A>, AllocError>
         ensures { IfOk result (λ text. LinesOf self.now.style ms turn.now
             (view_of self.now.driver.engine.agent.asker.follower.client) self.now.watched.items (string_bytes text)) }
@@ -161,7 +161,7 @@ impl<'a, A: Allocator + Copy, D: Dial + Drop, C: Clock + Drop> Watcher<'a, A, D,
         }
     }
 
-    /// What a turn tells of trees counts, where they grow.
+    /// What a turn tells of trees counts, if they grow.
     fn take(&mut self, turn: &Turn<A>) -> Result<(), AllocError>
         ensures engine { self.new.driver.engine ≡ self.old.driver.engine }
         ensures accepted { self.new.is_accepted ≡ self.old.is_accepted }
@@ -178,7 +178,7 @@ impl<'a, A: Allocator + Copy, D: Dial + Drop, C: Clock + Drop> Watcher<'a, A, D,
         }
     }
 
-    /// What is printed of a turn, after this time, and where nothing waits to be told after it, of what is kept. A line tells where a tree
+    /// What is printed of a turn, after this time, and if nothing waits to be told after it, of what is kept. A line tells if a tree
     /// has more nodes than the most, and none had.
     fn printed_turn(&mut self, turn: &Turn<A>, ms: u64) -> Result<String<A>, AllocError>
         ensures engine { self.new.driver.engine ≡ self.old.driver.engine }
@@ -313,7 +313,7 @@ impl<'a, A: Allocator + Copy, D: Dial + Drop, C: Clock + Drop> Watcher<'a, A, D,
         Ok(until)
     }
 
-    /// Ends the session where the client is connected, and waits for that a third of the timeout at most, and 2 seconds.
+    /// Ends the session if the client is connected, and waits for that a third of the timeout at most, and 2 seconds.
     fn close<O: Write>(&mut self, out: &mut O) -> Result<(), Failure>
         ensures ok { OnOk result (WritesEnd
             (stand_of D.Stream.remaining D.Stream.contents D.Stream.far D.Stream.state self.old.driver.engine self.old.watched.items
@@ -332,7 +332,7 @@ impl<'a, A: Allocator + Copy, D: Dial + Drop, C: Clock + Drop> Watcher<'a, A, D,
         self.await_close(until, out)
     }
 
-    /// How a watch ends that cannot go on: where a write has failed, the session is ended first.
+    /// How a watch ends that cannot go on: if a write has failed, the session is ended first.
     fn give_up(&mut self, why: Failure) -> WatchEnd
         ensures over { result ≢ WatchEnd.Over }
         ensures never { result ≢ WatchEnd.NeverConnected }

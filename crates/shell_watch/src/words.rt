@@ -60,7 +60,7 @@ fn one_of<A: Allocator>(watched: &[Watched<A>], ticket: u64) -> Option<&Watched<
     watched.iter().find(|one| one.ticket == ticket)
 }
 
-/// The path of the subject that has a ticket, and nothing where none has.
+/// The path of the subject that has a ticket, and nothing if none has.
 pub(crate) fn path_of<A: Allocator>(watched: &[Watched<A>], ticket: u64) -> &str
     ensures { result.now ≡ path_of watched.now ticket }
 {
@@ -77,7 +77,7 @@ fn has_ticket<A: Allocator>(watched: &[Watched<A>], ticket: u64) -> bool
     watched.iter().any(|one| one.ticket == ticket)
 }
 
-/// Whether it is printed that a read was refused: where a subject has the ticket, unless the watch itself is ending the session.
+/// Whether it is printed that a read was refused: if a subject has the ticket, unless the watch itself is ending the session.
 pub(crate) fn shows_refusal<A: Allocator>(watched: &[Watched<A>], ticket: u64, why: Refusal) -> bool
     ensures { result ≡ shows_refusal ticket watched.now why }
 {
@@ -189,7 +189,7 @@ fn refusal_words<A: Allocator + Copy>(
     Ok(text)
 }
 
-/// The same of the subject that has a ticket, and nothing where it is not printed.
+/// The same of the subject that has a ticket, and nothing if it is not printed.
 fn refused_words<A: Allocator + Copy>(
     alloc: A,
     watched: &[Watched<A>],
@@ -204,7 +204,7 @@ fn refused_words<A: Allocator + Copy>(
     Ok(String::new(alloc))
 }
 
-/// The words of what the agent tells, and none where it is not printed.
+/// The words of what the agent tells, or none if it is not printed.
 fn action_words<A: Allocator + Copy>(
     alloc: A,
     client: &Client<A>,
@@ -223,7 +223,7 @@ fn action_words<A: Allocator + Copy>(
     }
 }
 
-/// The words of a turn, and none where it is not printed.
+/// The words of a turn, or none if it is not printed.
 fn turn_words<A: Allocator + Copy>(
     alloc: A,
     client: &Client<A>,
@@ -242,7 +242,7 @@ fn turn_words<A: Allocator + Copy>(
     }
 }
 
-/// The line of a turn, and none where it is not printed.
+/// The line of a turn, or none if it is not printed.
 pub(crate) fn turn_line<A: Allocator + Copy>(
     alloc: A,
     style: Style,

@@ -37,7 +37,7 @@ abbrev pub StreamsServe : Type 0 → FarEnd → Type 0
 StreamsServe A far = (old new : Flow A far) (after : Shown) → MeetsServers ByStream old new after
     → IsServedFrom after.history (view_of new.course.agent.asker.follower.client)
 
--- and where nothing is known of streams: what was written the servers had, and what was read they had sent
+-- and if nothing is known of streams: what was written the servers had, and what was read they had sent
 abbrev pub BytesServe : Type 0 → FarEnd → Type 0
 BytesServe A far = (old new : Flow A far) (after : Shown) → MeetsServers ByDriver old new after
     → IsServedFrom after.history (view_of new.course.agent.asker.follower.client)

@@ -8,7 +8,7 @@ ghost use Rattle.theory_drivers.specs.ServedDrivers.{BytesServe, StreamsCohere, 
 use std::alloc::Allocator;
 use zk_link::Stream;
 
-/// Over streams that know their bytes: where what each took was what a server of the model had, and what it gave was what this server had
+/// Over streams that know their bytes: if what each took was what a server of the model had, and what it gave was what this server had
 /// sent, the client within was served from the history (`IsServedFrom`). So all that is said of such a client holds.
 pub fn streams_serve<A: Allocator, S: Stream>()
     ensures { StreamsServe A S.far }

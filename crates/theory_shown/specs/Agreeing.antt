@@ -43,7 +43,7 @@ pub record PrintsBench {A : Type 0} {far : FarEnd} (By : List ℕ → List ℕ �
   pub follows : RunBenches By (flow_in first) (flow_in from.ready) before ready
   pub prints : MovesMeet (RunBenches By) from.prints.moves from.ready from.last from.prints.does ready after
 
--- And where its time is over: through the end of its session.
+-- And if its time is over: through the end of its session.
 pub record EndsBench {A : Type 0} {far : FarEnd} (By : List ℕ → List ℕ → Flow A far → Flow A far → Type 0)
     (aims : List (Side × Text)) (roots : List Text) (for_ms : Option ℕ)
     (first : Stand A far) (text : List ℕ) (is_accepted : Bool) (from : EndsFrom aims roots for_ms first text is_accepted) (after : Served)
@@ -101,14 +101,14 @@ NothingIsRead [] old new carries = ⊤
 NothingIsRead (live.Reads ∷ deeds) old new carries = (carries.0.held ≡ []) × NothingIsRead deeds carries.0 new carries.2
 NothingIsRead (deed ∷ deeds) old new carries = NothingIsRead deeds carries.0 new carries.2
 
--- Whatever a client does where nothing comes: each ready bench can go on beside it.
+-- Whatever a client does if nothing comes: each ready bench can go on beside it.
 abbrev pub LivesWait : Type 0
 LivesWait =
     (deeds : List live.Deed) (old new : live.Flow) (carries : FoldsTo live.Carries old deeds new) → NothingIsRead deeds old new carries
     → (before : Served) → IsReady before
     → (after : Served) × DeedsMeet (BefallsBench ByClient) deeds old new carries before after × (after.history ≡ before.history)
 
--- All that `live` prints of its lines, by its contract (`Lives`), is what a list of deeds prints. Where a bench goes on beside these, each
+-- All that `live` prints of its lines, by its contract (`Lives`), is what a list of deeds prints. If a bench goes on beside these, each
 -- good answer that the client has after each of them, and that is looked up and printed, is the answer of the bench's history at the last
 -- seen zxid, wherever pieces and cuts fall.
 abbrev pub LifeAgrees : ((took gave unsent still piece : List ℕ) → (old new : Known) → Type 0) → Served → Type 0

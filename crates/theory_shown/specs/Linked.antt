@@ -51,7 +51,7 @@ pub record HasPrinted (A : Type 0) (past : PastView) (style : Style) (aims : Lis
 abbrev pub PrintsPast : (A : Type 0) → PastView → Style → List (Side × Text) → (roots : List Text) → (most : ℕ) → List ℕ → Type 0
 PrintsPast A past style aims roots most text = (text ≡ []) ⊎ HasPrinted A past style aims roots most text
 
--- The same where its time is over.
+-- The same if its time is over.
 pub record WatchesPast (A : Type 0) (past : PastView) (style : Style) (aims : List (Side × Text)) (roots : List Text) (most : ℕ)
     (for_ms : Option ℕ) (text : List ℕ) (is_accepted : Bool) : Type 0 where
   pub watched : IsWatched A (bench_end past) style aims roots most for_ms text is_accepted

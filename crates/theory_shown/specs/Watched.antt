@@ -45,7 +45,7 @@ pub record PrintsMeet {A : Type 0} {far : FarEnd} (By : List ℕ → List ℕ �
   pub prints : MovesMeet (RunMeets By) from.prints.moves from.ready from.last from.prints.does ready after
   pub history : IsHistory after.history
 
--- And where its time is over: through the end of its session.
+-- And if its time is over: through the end of its session.
 pub record EndsMeet {A : Type 0} {far : FarEnd} (By : List ℕ → List ℕ → Flow A far → Flow A far → Type 0)
     (aims : List (Side × Text)) (roots : List Text) (for_ms : Option ℕ)
     (first : Stand A far) (text : List ℕ) (is_accepted : Bool) (from : EndsFrom aims roots for_ms first text is_accepted) (after : Shown)

@@ -151,7 +151,7 @@ pub fn lives_agree<B: Allocator + Copy>(bench: &Bench<B>)
     known_of(bench);
 }
 
-/// Beside whatever a client of `live` does where nothing comes, each ready bench can go on: what is premise of a bench asks nothing of it
+/// Beside whatever a client of `live` does if nothing comes, each ready bench can go on: what is premise of a bench asks nothing of it
 /// but what its reads bring.
 pub fn lives_wait()
     ensures { LivesWait }

@@ -109,10 +109,10 @@ LetsGoWhere false timeout now old new before after = (new ≡ old) × (after ≡
 abbrev pub LetsGo : {A : Type 0} → (is_over : Bool) → (timeout now : ℕ) → (old new : Dialler A) → (before after : List Told) → Type 0
 LetsGo is_over timeout now old new before after = LetsGoWhere (is_over && is_open old.phase) timeout now old new before after
 
--- Bytes come on a connection that is there, and that it begins is told once it is. A call is handed over where a server has accepted the
+-- Bytes come on a connection that is there, and that it begins is told once it is. A call is handed over if a server has accepted the
 -- connection, and it is the one whose turn it is: the first of those that wait for theirs, in the order of asking. Each subject is followed
 -- before it is: who was to be read is being read, unless its turn has not come. So no call goes out while a subject that is due could be
--- read, and only where as many others are being read as may be is a call sent before it that was asked later.
+-- read, and only if as many others are being read as may be is a call sent before it that was asked later.
 abbrev pub MayHear : {A : Type 0} → (now : ℕ) → Input → Trail A → Type 0
 MayHear now turns.Opened old = is_open old.dialler.phase ≡ true
 MayHear now (turns.Bytes bytes) old = is_open old.dialler.phase ≡ true
@@ -121,7 +121,7 @@ MayHear now (turns.Call ticket asked) old =
 MayHear now _ old = ⊤
 
 -- The client takes an input at a moment, and subjects are read. What it says is told, in order, and then what there is to tell of the
--- subjects. The line, which is this one once the client takes the input, hears the answers, in the same order. Where an answer is too
+-- subjects. The line, which is this one once the client takes the input, hears the answers, in the same order. If an answer is too
 -- long, its call is answered so ahead of that, and at last a subject of its ticket is refused.
 pub record TakesSo {A : Type 0} (now : ℕ) (input : Input) (old_view : View) (old_subjects : List (Subject A))
     (old_line : List (Entry A)) (old_told : List Told)
@@ -136,7 +136,7 @@ pub record TakesSo {A : Type 0} (now : ℕ) (input : Input) (old_view : View) (o
       ++ map news_told (flat_map (news_in new_view given) stepped)
   pub heard : says ≡ heard_in given
 
--- So it hears an input. A connection is hung up where it is over with that.
+-- So it hears an input. A connection is hung up if it is over with that.
 pub record HearsSo {A : Type 0} (now : ℕ) (input : Input) (old new : Trail A) : Type 0 where
   pub may : MayHear now input old
   pub timeout : new.timeout ≡ old.timeout
@@ -147,7 +147,7 @@ pub record HearsSo {A : Type 0} (now : ℕ) (input : Input) (old new : Trail A) 
       (noted new.view.saved.session.timeout now new.view.standing.state (row_after heard.ends_row old.dialler)) new.dialler told new.told
   pub waits : new.waits ≡ waited_after now heard.sent (heard_input old.waits input)
 
--- Where a server says that the session is not its own, the client hears after it that the connection is over.
+-- If a server says that the session is not its own, the client hears after it that the connection is over.
 abbrev pub LeavesWhere : {A : Type 0} → (is_lost : Bool) → (now : ℕ) → (old new : Trail A) → Type 0
 LeavesWhere true now old new = HearsSo now turns.Cut old new
 LeavesWhere false now old new = new ≡ old
@@ -227,7 +227,7 @@ pub record DecidesSo {A : Type 0} (now : ℕ) (due : Option DialDue) (old new : 
 abbrev pub ends_of : {A : Type 0} → Trail A → Option ℕ
 ends_of trail = ends_at trail.view.saved.session.timeout trail.waits
 
--- Where one has waited for so long, and not before, the connection is let go, the program is told so, and the client hears that it is over.
+-- If one has waited for so long, and not before, the connection is let go, the program is told so, and the client hears that it is over.
 pub record LeavesLateSo {A : Type 0} (now : ℕ) (old new : Trail A) : Type 0 where
   pub late : has_come now (ends_of old) ≡ true
   pub between : Trail A
@@ -303,7 +303,7 @@ abbrev pub opened_at : Phase → (now : ℕ) → List Move
 opened_at (Dialling began until) now = Opened now ∷ Hears now turns.Opened ∷ []
 opened_at _ now = HungUp ∷ over_at now
 
--- Bytes are of no connection where there is none: the client hears the moment alone.
+-- Bytes are of no connection if there is none: the client hears the moment alone.
 abbrev pub bytes_at : (is_open : Bool) → (now : ℕ) → List ℕ → List Move
 bytes_at true now bytes = Hears now (turns.Bytes bytes) ∷ []
 bytes_at false now bytes = Hears now (turns.Now now) ∷ []
@@ -333,7 +333,7 @@ given_of dialler now (happens.Unfollow ticket) = Unfollows ticket ∷ Hears now 
 given_of dialler now (happens.FollowTree ticket root most) = Hears now (turns.Now now) ∷ []
 given_of dialler now (happens.UnfollowTree ticket) = Hears now (turns.Now now) ∷ []
 
--- what the bytes of an input answer, where they come on the connection
+-- what the bytes of an input answer, if they come on the connection
 abbrev pub judging_in : {A : Type 0} → AgentInput A → Agent A → Judging
 judging_in input agent =
     judging_of (is_open agent.dialler.phase) (view_of agent.asker.follower.client).standing.state agent.waits.came input

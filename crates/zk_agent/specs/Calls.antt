@@ -20,7 +20,7 @@ use Rattle.zk_agent.specs.Telling.{Told, Says, closed_told, ended_told}
 
 -- What an output makes of the line: an answer is to the first call of its ticket that was handed over, which is settled or waits for its
 -- turn again. With another state no call that was handed over waits any more: the client has answered each before. No two calls have one
--- ticket, and where two have, what cannot be told apart is lost.
+-- ticket, and if two have, what cannot be told apart is lost.
 abbrev pub hears : {A : Type 0} → List (Entry A) → Output → List (Entry A)
 hears entries (Answer ticket outcome) = left (LostOf ticket) (answered ticket outcome entries)
 hears entries (Enters state) = left Lost entries
@@ -38,7 +38,7 @@ endings ending entries = map (ended_told ending) (map ended_of (ended ending ent
 abbrev pub closings : {A : Type 0} → List (Entry A) → List Told
 closings entries = map closed_told (map ended_of entries)
 
--- the answer, where it settles a call of the program
+-- the answer, if it settles a call of the program
 abbrev pub answers : {A : Type 0} → (ticket : ℕ) → Outcome → List (Entry A) → List Told
 answers ticket outcome entries = if settles ticket outcome entries then Says (Answer ticket outcome) ∷ [] else []
 

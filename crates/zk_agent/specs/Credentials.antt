@@ -81,7 +81,7 @@ pub record Verdicts : Type 0 where
   pub answered : ℕ
   pub judged : List (ℕ × ℤ)
 
--- An answer is to the first credential that has none. Where each that was written has one, it is none.
+-- An answer is to the first credential that has none. If each that was written has one, it is none.
 abbrev pub judged_by : (written : ℕ) → Option ℤ → Verdicts → Verdicts
 judged_by written None verdicts = verdicts
 judged_by written (Some code) verdicts =
@@ -110,7 +110,7 @@ stream_at state came papers = record { place = came; is_first = is_connecting st
 abbrev pub before_bytes : State → Frames → Papers → Judging
 before_bytes state came papers = (stream_at state came papers, record { answered = papers.answered; judged = [] })
 
--- Bytes are looked at where a credential waits for its answer, and no others are.
+-- Bytes are looked at if a credential waits for its answer, and no others are.
 abbrev pub judging_where : (is_awaited : Bool) → (written : ℕ) → Judging → List ℕ → Judging
 judging_where true written judging bytes = judged_in written judging bytes
 judging_where false written judging bytes = judging

@@ -24,7 +24,7 @@ is_lost _ = false
 abbrev pub is_over : Output → Bool
 is_over output = ends_connection output || is_lost output
 
--- A reply ends a row of failures, except where one says that the session is not the server's own.
+-- A reply ends a row of failures, except if one says that the session is not the server's own.
 abbrev pub ends_row : List Output → Bool
 ends_row given = list_any is_reply given && not (list_any is_lost given)
 

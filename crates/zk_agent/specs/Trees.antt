@@ -12,13 +12,13 @@ use Rattle.zk_agent.specs.declared.input.AgentInput.TheVariants as happens
 use Rattle.zk_agent.specs.Agents.{moves_of, trail_of, Comes, Trail}
 use Rattle.zk_agent.specs.Telling.{told_by, trees_in, TellsTree}
 
--- A tree is followed, or followed no more, where an input asks for that, and for no other.
+-- A tree is followed, or followed no more, if an input asks for that, and for no other.
 abbrev pub Alters : {A : Type 0} → AgentInput A → (was is : Trees A) → (old new : Footing A) → Type 0
 Alters (happens.FollowTree ticket root most) was is old new = Plants ticket root most was is old new
 Alters (happens.UnfollowTree ticket) was is old new = Uproots ticket was is old new
 Alters input was is old new = (is ≡ was) × (new ≡ old)
 
--- Trees are tended that are due at this moment, by what the client keeps when a step begins; then a tree comes or goes, where the input
+-- Trees are tended that are due at this moment, by what the client keeps when a step begins; then a tree comes or goes, if the input
 -- asks for that. What there is to tell of them is told, in order, and the subjects come and go with it.
 pub record Grows {A : Type 0} (now : ℕ) (input : AgentInput A) (was is : Trees A) (old new : Trail A) : Type 0 where
   pub between : Trees A

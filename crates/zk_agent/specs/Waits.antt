@@ -12,7 +12,7 @@ use Rattle.zk_agent.specs.declared.waits.Waits.{Waits}
 
 -- ---- frames
 
--- A frame is of a call, or of the request that opens the session, where its xid is at least 0, and of a ping where it is -2: the four bytes
+-- A frame is of a call, or of the request that opens the session, if its xid is at least 0, and of a ping if it is -2: the four bytes
 -- of an xid as a number. The others are parts of setWatches, and notices.
 abbrev pub is_of_call : (xid : ℕ) → Bool
 is_of_call xid = nat_lt xid (2 ^ 31)
@@ -45,7 +45,7 @@ place_after byte at = if is_whole (next_place byte at) then record (next_place b
 abbrev pub ends_with : (byte : ℕ) → Frames → Option ℕ
 ends_with byte at = if is_whole (next_place byte at) then Some ((next_place byte at).head % 2 ^ 32) else None
 
--- the xid of a frame that is sent, where it is long enough to have one
+-- the xid of a frame that is sent, if it is long enough to have one
 abbrev pub xid_of : List ℕ → Option ℕ
 xid_of bytes = if nat_le 8 (length bytes) then Some (from_be_bytes w64 (take 8 bytes) % 2 ^ 32) else None
 

@@ -61,7 +61,7 @@ pub enum Action<A: Allocator = Global> {
     Shown {
         ticket: u64,
     },
-    /// A read of the subject was refused, and not for the reason that was told last. It is read again after a second; where its answer is
+    /// A read of the subject was refused, and not for the reason that was told last. It is read again after a second; if its answer is
     /// too long once more, after a minute.
     Refused {
         ticket: u64,

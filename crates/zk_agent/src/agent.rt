@@ -173,7 +173,7 @@ impl<A: Allocator + Copy> Agent<A> {
     }
 
     /// The first moment at which something is due: at the latest then a step is to be made, by [`AgentInput::Moment`] if nothing else
-    /// happens. It may be past; there is none where nothing will be due, as after a close.
+    /// happens. It may be past; there is none if nothing will be due, as after a close.
     pub fn deadline(&self) -> Option<u64>
         ensures before { IfSome result (λ first. (moment : ℕ) → moment < 2 ^ 64 → moment < first → NothingAt self.now moment) }
         ensures due { IfSome result (λ first. ¬ (NothingAt self.now first)) }
@@ -186,7 +186,7 @@ impl<A: Allocator + Copy> Agent<A> {
         first_of(self.first_due(), self.trees.deadline())
     }
 
-    /// The first moment at which something is due, where the session was not closed.
+    /// The first moment at which something is due, if the session was not closed.
     fn first_due(&self) -> Option<u64>
         ensures before { IfSome result (λ first. (moment : ℕ) → moment < 2 ^ 64 → moment < first → NothingOpen self.now moment) }
         ensures due { IfSome result (λ first. ¬ (NothingOpen self.now first)) }
@@ -421,7 +421,7 @@ impl<A: Allocator + Copy> Agent<A> {
         self.step_client(now, zk_client::Input::Cut, actions)
     }
 
-    /// Bytes came. They are of no connection where there is none.
+    /// Bytes came. They are of no connection if there is none.
     fn bytes(
         &mut self,
         now: u64,
@@ -588,7 +588,7 @@ impl<A: Allocator + Copy> Agent<A> {
         self.asker.give_up(now, actions)
     }
 
-    /// Asks for a connection, or gives an attempt up, where its moment has come, and not after a close.
+    /// Asks for a connection, or gives an attempt up, if its moment has come, and not after a close.
     pub(crate) fn dial(
         &mut self,
         now: u64,

@@ -17,7 +17,7 @@ use zk_client::{Call, Client, Input, Output, Path, Side};
 use zk_follow::{Follower, FollowerStop};
 use zk_trees::{TreeNews, Trees};
 
-/// A client with what it is asked for its program: subjects that are followed, and calls. Where a call counts as handed over, the client
+/// A client with what it is asked for its program: subjects that are followed, and calls. If a call counts as handed over, the client
 /// waits for its reply.
 #[derive(Drop)]
 pub(crate) struct Asker<A: Allocator + Copy = Global> {
@@ -207,7 +207,7 @@ impl<A: Allocator + Copy> Asker<A> {
         trees.tend(now, &mut self.follower)
     }
 
-    /// A tree is followed, or followed no more, where an input asks for that: what there is to tell of it.
+    /// A tree is followed, or followed no more, if an input asks for that: what there is to tell of it.
     pub(crate) fn alter(
         &mut self,
         input: &AgentInput<A>,

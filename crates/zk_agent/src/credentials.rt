@@ -115,7 +115,7 @@ impl<A: Allocator> Credentials<A> {
         Ok(())
     }
 
-    /// Notes what bytes answer that come at this place, where an answer is awaited.
+    /// Notes what bytes answer that come at this place, if an answer is awaited.
     pub(crate) fn hear(
         &mut self,
         at: Answering,

@@ -42,7 +42,7 @@ impl<A: Allocator + Copy> Agent<A> {
     ghost use Rattle.zk_agent.specs.Credentials.{judging_of, papers_of, with_judging};
     ghost use Rattle.zk_agent.specs.Trees.{Grows};
 
-    /// Tends the trees that are due, and then follows a tree, or follows one no more, where the input asks for that. These are the agent's,
+    /// Tends the trees that are due, and then follows a tree, or follows one no more, if the input asks for that. These are the agent's,
     /// which a step takes out.
     pub(crate) fn grow(
         &mut self,

@@ -34,14 +34,14 @@ pub enum AgentInput<A: Allocator + Copy = Global> {
         is_listed: bool,
     },
     /// A call is asked. It is handed to the client as soon as a server has accepted the connection and fewer than 1,024 calls are on their
-    /// way, after those that were asked before; and it waits to this moment at most, where there is one. No other call or subject has or
+    /// way, after those that were asked before; and it waits to this moment at most, if there is one. No other call or subject has or
     /// had the ticket.
     Call {
         ticket: u64,
         call: Call<A>,
         until: Option<u64>,
     },
-    /// This credential introduces the session from now on, and each later one: it is written at once where a connection is there, and on
+    /// This credential introduces the session from now on, and each later one: it is written at once if a connection is there, and on
     /// each later connection right after the request that opens it, and after those that were handed in before.
     Credential(Credential<A>),
     /// This subject is followed: the data of the node, or the names of its children. No other call or subject has or had the ticket.
@@ -55,7 +55,7 @@ pub enum AgentInput<A: Allocator + Copy = Global> {
         ticket: u64,
     },
     /// This tree is followed: the data of the root, the names below it, and those of each node below it, as they come to be known. No more
-    /// are taken on where there are more than `most` nodes. The data of the root have this ticket, which no other call or subject has or
+    /// are taken on if there are more than `most` nodes. The data of the root have this ticket, which no other call or subject has or
     /// had; all else has tickets from 2^63 on, which no program uses.
     FollowTree {
         ticket: u64,

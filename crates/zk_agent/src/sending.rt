@@ -18,7 +18,7 @@ impl<A: Allocator + Copy> Agent<A> {
     ghost use Rattle.zk_agent.specs.inner.Calls.{how_many_wait, IsDone};
     ghost use Rattle.zk_agent.specs.Calls.{IsInTime};
 
-    /// Hands the call over whose turn it is, where a server has accepted the connection. Whether another one may be: a call was handed
+    /// Hands the call over whose turn it is, if a server has accepted the connection. Whether another one may be: a call was handed
     /// over, and the client has not said that it cannot be sent now.
     fn send_one(&mut self, now: u64, actions: &mut Vec<Action<A>, A>) -> Result<bool, FollowerStop>
         requires connected { (view_of self.old.asker.follower.client).standing.state ≡ Connected }
@@ -36,7 +36,7 @@ impl<A: Allocator + Copy> Agent<A> {
         Ok(!heard.goes_back)
     }
 
-    /// The same where it is not known that a server has.
+    /// The same if it is not known that a server has.
     fn try_one(&mut self, now: u64, actions: &mut Vec<Action<A>, A>) -> Result<bool, FollowerStop>
         requires followed { AreFollowed now (view_of self.old.asker.follower.client) self.old.asker.follower.subjects.items }
         ensures sends { IfOk result

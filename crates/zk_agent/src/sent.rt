@@ -19,7 +19,7 @@ pub struct Sent {
     pub(crate) pings: u64,
 }
 
-/// The xid of a frame, where it is long enough to have one.
+/// The xid of a frame, if it is long enough to have one.
 fn xid_of(frame: &[u8]) -> Option<u64>
     ensures { result ≡ xid_of frame.now }
 {
@@ -41,7 +41,7 @@ impl Sent {
         }
     }
 
-    /// The state is another one. Where no connection is there, what was sent is over.
+    /// The state is another one. If no connection is there, what was sent is over.
     pub(crate) fn enter(&mut self, state: State)
         ensures { self.new ≡ sent_by self.old (Enters state) }
     {

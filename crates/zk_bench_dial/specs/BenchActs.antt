@@ -38,7 +38,7 @@ EndsHere old new =
     (new ≡ ended old)
     ⊎ ((old.connection.phase ≡ Ended) × (new.connection ≡ old.connection) × GoesOn (history_of old.history) (history_of new.history))
 
--- Bytes come to it, and are lost where it has ended the connection (`ok`, `lost` of `Bench::receive`). The first bytes that it sent are
+-- Bytes come to it, and are lost if it has ended the connection (`ok`, `lost` of `Bench::receive`). The first bytes that it sent are
 -- taken out (`bytes`, `rest` of `Bench::output`). Or it answers.
 abbrev pub Answers : Served → Act → Served → Type 0
 Answers old (Takes bytes) new =

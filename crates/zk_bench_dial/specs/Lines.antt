@@ -31,7 +31,7 @@ pub record LineView : Type 0 where
   pub served : Option Served
   pub waits : ℕ
 
--- The bench answers, and takes a transaction only where an answer wants it. Once the connection is over the stream gives nothing, and what
+-- The bench answers, and takes a transaction only if an answer wants it. Once the connection is over the stream gives nothing, and what
 -- it takes is lost.
 abbrev pub IsAnswering : Option Served → (took gave : List ℕ) → Option Served → Type 0
 IsAnswering (Some old) took gave (Some new) = GoesBy Answers old took gave new

@@ -11,7 +11,7 @@ use std::marker::PhantomData;
 use zk_bench::Bench;
 use zk_link::Dial;
 
-/// Benches over one history, one for each connection, whatever the address. Where none is left, none is made.
+/// Benches over one history, one for each connection, whatever the address. If none is left, none is made.
 #[derive(Drop)]
 pub struct Benches<A: Allocator + Copy, K: Past> {
     lines: Vec<(Bench<A>, u64), A>,

@@ -48,7 +48,7 @@ fn serve<A: Allocator + Copy>(bench: &mut Bench<A>) -> bool
     true
 }
 
-/// Bytes go to a bench, which answers them. The line is over where memory runs out, and where the history is longer then.
+/// Bytes go to a bench, which answers them. The line is over if memory runs out, and if the history is longer then.
 pub(crate) fn deliver<A: Allocator + Copy, K: Past>(
     line: &mut Option<Bench<A>>,
     bytes: &[u8],
@@ -72,7 +72,7 @@ pub(crate) fn deliver<A: Allocator + Copy, K: Past>(
 }
 
 /// All that came was received, and somebody waits: the server takes the next transaction. After the last wait the connection is cut, and
-/// the line is over, as it is where memory runs out. Whether it is still there.
+/// the line is over, as it is if memory runs out. Whether it is still there.
 fn wait<A: Allocator + Copy, K: Past>(
     line: &mut Option<Bench<A>>,
     waits: &mut u64,
@@ -97,14 +97,14 @@ fn wait<A: Allocator + Copy, K: Past>(
     Ok(true)
 }
 
-/// Whether a bench has the connection, and had sent no byte more where there was room for some.
+/// Whether a bench has the connection, and had sent no byte more if there was room for some.
 fn is_idle<A: Allocator + Copy>(bench: &Bench<A>, count: usize, most: usize) -> bool
     ensures { result ≡ true → (is_open bench.now.connection.phase ≡ true) × (count ≡ 0) × (0 < most) }
 {
     count == 0 && most > 0 && bench.is_open()
 }
 
-/// The bytes that a bench sent, as many as there is room for. Where there are none, none come for now, or none any more.
+/// The bytes that a bench sent, as many as there is room for. If there are none, none come for now, or none any more.
 pub(crate) fn fetch<A: Allocator + Copy, K: Past>(
     line: &mut Option<Bench<A>>,
     waits: &mut u64,
@@ -115,7 +115,7 @@ pub(crate) fn fetch<A: Allocator + Copy, K: Past>(
     ensures does { LineDoes (record { served = line.old; waits = waits.old }) [] (front_by result buf.new)
         (record { served = line.new; waits = waits.new }) }
     ensures up { IfSome line.new (IsUp K.past) }
-    // Where nothing comes for now, its server has taken the next transaction; it is cut only after the last wait.
+    // If nothing comes for now, its server has taken the next transaction; it is cut only after the last wait.
     ensures takes { IfErr result (λ fault. error_kind fault ≡ ErrorKind.WouldBlock
         → LineWaits (record { served = line.old; waits = waits.old }) [] [] (record { served = line.new; waits = waits.new })) }
     ensures cut { IsOk result → IsSome line.old → line.new ≡ None → waits.old ≡ 0 }

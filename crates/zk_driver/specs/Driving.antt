@@ -109,17 +109,17 @@ IsShutAgent agent = IsShut (trail_of agent [])
 abbrev pub IsOverdue : {A : Type 0} → Agent A → (moment : ℕ) → Type 0
 IsOverdue agent moment = (first : ℕ) × (first ≤ moment) × ¬ (NothingAt agent first)
 
--- The last read began where something was due already, and brought nothing; or it was the 64th in a row.
+-- The last read began if something was due already, and brought nothing; or it was the 64th in a row.
 abbrev pub IsSeen : {A : Type 0} → Agent A → Option Look → Type 0
 IsSeen agent None = ⊥
 IsSeen agent (Some look) = ((look.is_quiet ≡ true) × IsOverdue agent look.began) ⊎ (64 ≤ look.row)
 
--- A moment may be told: where something was due on a connection before it, what that has brought was read.
+-- A moment may be told: if something was due on a connection before it, what that has brought was read.
 abbrev pub IsTimely : {A : Type 0} → (now : ℕ) → Course A → Type 0
 IsTimely now course = course.channel.is_open ≡ true → NothingAt course.agent (now - 1) ⊎ IsSeen course.agent course.channel.looked
 
 -- What comes on a connection, its end, and what the program asks for while one is there, are handed in at a moment at which nothing is due.
--- A moment itself is told where it may be.
+-- A moment itself is told if it may be.
 abbrev pub IsPatient : {A : Type 0} → (now : ℕ) → AgentInput A → Course A → Type 0
 IsPatient now happens.Moment course = IsTimely now course
 IsPatient now (happens.Bytes bytes) course = 0 < now → NothingAt course.agent now

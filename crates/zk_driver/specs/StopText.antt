@@ -1,4 +1,4 @@
--- What is said where memory ran out.
+-- What is said if memory ran out.
 use Rattle.std.specs.Prelude.{ℕ, List, codes}
 use Rattle.zk_client.specs.FaultText.{halt_words}
 use Rattle.zk_driver.specs.declared.stop.Stop.{Stop}

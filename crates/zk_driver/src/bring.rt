@@ -26,7 +26,7 @@ pub(crate) enum Reading {
     End(Reason),
 }
 
-/// Makes room for a piece, where there is none yet.
+/// Makes room for a piece, if there is none yet.
 pub(crate) fn make_room<A: Allocator>(room: &mut Vec<u8, A>) -> Result<(), AllocError> {
     if room.is_empty() {
         return room.resize(PIECE, 0);
@@ -56,7 +56,7 @@ fn reading_of(read: io::Result<usize>) -> Reading
     }
 }
 
-/// What one read of a connection brings. Why it has ended is kept, where it has.
+/// What one read of a connection brings. Why it has ended is kept, if it has.
 fn read_once<A: Allocator, S: Stream>(
     alloc: A,
     stream: &mut S,
@@ -81,7 +81,7 @@ fn read_once<A: Allocator, S: Stream>(
     }
 }
 
-/// What a connection brings within `ms` milliseconds, at least 1. It ends where it has no more bytes, and where it fails: why is kept.
+/// What a connection brings within `ms` milliseconds, at least 1. It ends if it has no more bytes, and if it fails: why is kept.
 pub(crate) fn bring<A: Allocator, S: Stream>(
     alloc: A,
     stream: &mut S,

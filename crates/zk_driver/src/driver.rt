@@ -110,7 +110,7 @@ impl<'a, A: Allocator + Copy, D: Dial + Drop, C: Clock + Drop> Driver<'a, A, D, 
         self.engine.agent.heard_at()
     }
 
-    /// The clock's moment, in milliseconds; the latest that was told where the clock has gone back.
+    /// The clock's moment, in milliseconds; the latest that was told if the clock has gone back.
     pub fn now(&mut self) -> u64
         ensures engine { self.new.engine ≡ self.old.engine }
         ensures latest { self.new.latest ≡ result }
@@ -143,7 +143,7 @@ impl<'a, A: Allocator + Copy, D: Dial + Drop, C: Clock + Drop> Driver<'a, A, D, 
         self.hand(AgentInput::Unfollow { ticket })
     }
 
-    /// Follows a tree: the data of the root, the names below it, and those of each node below it, as they come to be known. Where there
+    /// Follows a tree: the data of the root, the names below it, and those of each node below it, as they come to be known. If there
     /// are more than `most` nodes, no more are taken on. [`Action::Tree`] tells which sides of nodes are followed for it, and when nothing
     /// is lacking of it. The data of the root have this ticket, which no other call or subject has or had; all else has tickets from 2^63
     /// on, which no program uses.
@@ -170,7 +170,7 @@ impl<'a, A: Allocator + Copy, D: Dial + Drop, C: Clock + Drop> Driver<'a, A, D, 
         self.hand(AgentInput::UnfollowTree { ticket })
     }
 
-    /// Asks a call: it is answered once, by [`Action::Answer`], or times out once, at this moment of the clock where there is one. No other
+    /// Asks a call: it is answered once, by [`Action::Answer`], or times out once, at this moment of the clock if there is one. No other
     /// call or subject has or had the ticket.
     pub fn ask(&mut self, ticket: u64, call: Call<A>, until: Option<u64>) -> Result<(), Stop>
         ensures hands { OnOk result
@@ -227,7 +227,7 @@ impl<'a, A: Allocator + Copy, D: Dial + Drop, C: Clock + Drop> Driver<'a, A, D, 
         }
     }
 
-    /// Hands in what the program asks for, at the clock's moment; where something is due on the connection, at the last moment before that,
+    /// Hands in what the program asks for, at the clock's moment; if something is due on the connection, at the last moment before that,
     /// so that what has come is read before the clock's moment is told.
     fn hand(&mut self, input: AgentInput<A>) -> Result<(), Stop>
         requires { IsAsked input }
@@ -328,7 +328,7 @@ impl<'a, A: Allocator + Copy, D: Dial + Drop, C: Clock + Drop> Driver<'a, A, D, 
         !self.engine.waiting.is_empty()
     }
 
-    /// The address that was dialled last, or that is dialled next where [`Turn::Dials`] was told last: that of the connection where there
+    /// The address that was dialled last, or that is dialled next where [`Turn::Dials`] was told last: that of the connection if there
     /// is one.
     pub fn address(&self) -> Option<&'a str> {
         self.dialled
@@ -343,7 +343,7 @@ impl<'a, A: Allocator + Copy, D: Dial + Drop, C: Clock + Drop> Driver<'a, A, D, 
         }
     }
 
-    /// Dials, where an address is to be dialled, and else waits until this moment at most. The answer is the moment that was told, and what
+    /// Dials, if an address is to be dialled, and else waits until this moment at most. The answer is the moment that was told, and what
     /// has happened.
     fn round(&mut self, until: u64) -> Result<(u64, Event), Stop>
         ensures goes { IfOk result
@@ -396,7 +396,7 @@ impl<'a, A: Allocator + Copy, D: Dial + Drop, C: Clock + Drop> Driver<'a, A, D, 
         }
     }
 
-    /// Listens where there is a connection, and else waits.
+    /// Listens if there is a connection, and else waits.
     fn wait(&mut self, until: u64) -> Result<(u64, Event), Stop>
         requires { self.old.engine.channel.attempt ≡ None }
         ensures goes { IfOk result
@@ -418,7 +418,7 @@ impl<'a, A: Allocator + Copy, D: Dial + Drop, C: Clock + Drop> Driver<'a, A, D, 
     }
 
     /// Reads the connection once, from this moment on and for `ms` milliseconds, and tells the agent what that brings, or that it brings
-    /// nothing. Where something was due before the clock's moment, and the connection may have more, that moment is not told: it is to be
+    /// nothing. If something was due before the clock's moment, and the connection may have more, that moment is not told: it is to be
     /// read again.
     fn read(&mut self, began: u64, is_again: bool, ms: u64) -> Result<Glance, Stop>
         requires none { self.old.engine.channel.attempt ≡ None }
@@ -463,7 +463,7 @@ impl<'a, A: Allocator + Copy, D: Dial + Drop, C: Clock + Drop> Driver<'a, A, D, 
 
     /// Writes what is left, and tells the agent what the connection brings within `ms` milliseconds, or that it brings nothing. Where
     /// something was due before the clock's moment, what the connection has is read before that is told: until it has nothing, and 64 times
-    /// at most, also where the program takes what it is told between two reads.
+    /// at most, even if the program takes what it is told between two reads.
     fn listen(&mut self, began: u64, ms: u64) -> Result<(u64, Event), Stop>
         requires none { self.old.engine.channel.attempt ≡ None }
         requires open { is_some self.old.engine.channel.stream ≡ true }

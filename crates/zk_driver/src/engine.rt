@@ -23,7 +23,7 @@ use std::collections::VecDeque;
 use zk_agent::{Action, Agent, AgentInput};
 use zk_link::{Brought, Stream};
 
-/// The most reads of what a connection has before a moment is told, where something was due before it.
+/// The most reads of what a connection has before a moment is told, if something was due before it.
 pub(crate) const MOST_READS: u32 = 64;
 
 /// An agent, the connection that it has, and the actions that its program is to be given, in order.
@@ -166,7 +166,7 @@ impl<A: Allocator + Copy, S: Stream> Engine<A, S> {
         self.hand(now, AgentInput::Failed)
     }
 
-    /// The connection is over, and the agent is told so with the moment of bytes: when it was over is not known where the program was
+    /// The connection is over, and the agent is told so with the moment of bytes: when it was over is not known if the program was
     /// stopped or was away, and a server that has ended a connection was not silent.
     fn end(&mut self, now: u64) -> Result<u64, Stop>
         requires none { self.old.channel.attempt ≡ None }
@@ -185,7 +185,7 @@ impl<A: Allocator + Copy, S: Stream> Engine<A, S> {
         self.hand(moment, AgentInput::Cut)
     }
 
-    /// The connection is over. Where the agent was told that with a moment before this one, this one is told after it, unless an address is
+    /// The connection is over. If the agent was told that with a moment before this one, this one is told after it, unless an address is
     /// to be dialled. The answer is the moment that was told last.
     fn cut(&mut self, now: u64) -> Result<u64, Stop>
         requires none { self.old.channel.attempt ≡ None }
@@ -221,7 +221,7 @@ impl<A: Allocator + Copy, S: Stream> Engine<A, S> {
         self.hand(now, AgentInput::Moment)
     }
 
-    /// How many milliseconds may be waited from one moment to another: an hour at most, and until something is due; none where either is
+    /// How many milliseconds may be waited from one moment to another: an hour at most, and until something is due; none if either is
     /// past.
     pub(crate) fn wait_ms(&self, now: u64, until: u64) -> u64
         ensures most { result ≤ 3600000 }
@@ -245,7 +245,7 @@ impl<A: Allocator + Copy, S: Stream> Engine<A, S> {
         }
     }
 
-    /// Whether the last read began where something was due already, and brought nothing, or was the last of as many as are made in a row.
+    /// Whether the last read began if something was due already, and brought nothing, or was the last of as many as are made in a row.
     fn has_seen(&self) -> bool
         ensures { result ≡ true → IsSeen self.now.agent self.now.channel.looked }
     {
@@ -255,7 +255,7 @@ impl<A: Allocator + Copy, S: Stream> Engine<A, S> {
         }
     }
 
-    /// Whether the connection that is there is to be read before this moment is told: something was due on it before that, as where the
+    /// Whether the connection that is there is to be read before this moment is told: something was due on it before that, as when the
     /// program was stopped or was away, and what it has may be of use.
     fn is_to_be_read(&self, now: u64) -> bool
         ensures yes { result ≡ true → IsOverdue self.now.agent (now - 1) }
@@ -279,7 +279,7 @@ impl<A: Allocator + Copy, S: Stream> Engine<A, S> {
         }
     }
 
-    /// Whether the connection is to be read again where a read has come to this, and a moment before the clock's was told last: where
+    /// Whether the connection is to be read again if a read has come to this, and a moment before the clock's was told last: if
     /// nothing waits for the program, which is to see what is kept before a further read may change that.
     pub(crate) fn reads_on(&self, event: Event, is_late: bool) -> bool
         ensures none { result ≡ true → self.now.channel.attempt ≡ None }
@@ -298,7 +298,7 @@ impl<A: Allocator + Copy, S: Stream> Engine<A, S> {
         self.channel.attempt.is_none() && self.channel.is_open()
     }
 
-    /// The moment at which what the program asks for is handed in: this one, and where something is due on the connection that is there,
+    /// The moment at which what the program asks for is handed in: this one, and if something is due on the connection that is there,
     /// the last moment before that, so that what has come on it is read first.
     pub(crate) fn moment_of_hand(&self, now: u64) -> u64
         ensures most { result ≤ now }
@@ -310,7 +310,7 @@ impl<A: Allocator + Copy, S: Stream> Engine<A, S> {
         now
     }
 
-    /// The moment that is told with bytes which are read at this one, and with the end of a connection: this one, and where something was
+    /// The moment that is told with bytes which are read at this one, and with the end of a connection: this one, and if something was
     /// due before it, the last moment before that. The program was stopped then, or was away: when the bytes came is not known, and a
     /// server that has sent something is not silent.
     fn moment_of_bytes(&self, now: u64) -> u64
@@ -324,7 +324,7 @@ impl<A: Allocator + Copy, S: Stream> Engine<A, S> {
         }
     }
 
-    /// Bytes came, with the moment of bytes. Where that is before this one, this one is told after it, unless the connection is to be read
+    /// Bytes came, with the moment of bytes. If that is before this one, this one is told after it, unless the connection is to be read
     /// again before that. The answer is the moment that was told last.
     fn bytes(&mut self, now: u64, bytes: Vec<u8, A>) -> Result<u64, Stop>
         requires none { self.old.channel.attempt ≡ None }
@@ -345,7 +345,7 @@ impl<A: Allocator + Copy, S: Stream> Engine<A, S> {
         self.catch_up(now, told)
     }
 
-    /// Tells a moment after another one, where nothing is to be dialled, and what the connection has was read.
+    /// Tells a moment after another one, if nothing is to be dialled, and what the connection has was read.
     fn catch_up(&mut self, now: u64, told: u64) -> Result<u64, Stop>
         requires { told ≤ self.old.agent.latest }
         ensures goes { OnOk result (GoesBy [] (course_of self.old None) (course_of self.new None)) }
@@ -402,7 +402,7 @@ impl<A: Allocator + Copy, S: Stream> Engine<A, S> {
         }
     }
 
-    /// The same, where there is no connection.
+    /// The same, if there is no connection.
     fn settle_closed(&mut self, now: u64) -> Result<u64, Stop>
         requires { is_some self.old.channel.stream ≡ false }
         ensures goes { OnOk result (Goes (course_of self.old None) (course_of self.new None)) }

@@ -18,7 +18,7 @@ const PIECE: usize = 262_144;
 /// The most writes that are made at once.
 const WRITES: u32 = 16;
 
-/// How many bytes a write took, by its result: none where it can't take one for now, and nothing where the connection has failed.
+/// How many bytes a write took, by its result: none if it can't take one for now, and nothing if the connection has failed.
 fn written_by(write: io::Result<usize>) -> Option<usize>
     ensures { result ≡ written_by write }
 {

@@ -79,7 +79,7 @@ fn run_arguments(rt: &HostRuntime, arguments: Args) -> Result<Status, AllocError
     Ok(run_words(rt, texts.as_slice(), servers.as_str()))
 }
 
-/// Runs the command, where the process's arguments are texts.
+/// Runs the command, if the process's arguments are texts.
 fn run_process(rt: &HostRuntime) -> Status {
     match env::args(rt) {
         Ok(arguments) => run_arguments(rt, arguments).unwrap_or(Status::Memory),

@@ -26,7 +26,7 @@ impl<'a, D: Dial + Drop> Noted<'a, D> {
         Noted { alloc, dial, notes }
     }
 
-    /// Notes what came of an address. Where memory runs out, it has no note.
+    /// Notes what came of an address. If memory runs out, it has no note.
     fn note(&self, address: &str, fault: Option<ErrorKind>) {
         let Ok(mut notes) = self.notes.try_borrow_mut() else {
             return;

@@ -28,7 +28,7 @@ pub fn tell_notes<E: Write>(errors: &mut E, notes: &RefCell<Vec<Note>>) {
     }
 }
 
-/// Tells which stream failed: standard output, by its last failure, or standard input, where that has none. Nothing is told where who
+/// Tells which stream failed: standard output, by its last failure, or standard input, if that has none. Nothing is told if who
 /// reads the output has closed it.
 pub fn tell_stream<E: Write>(errors: &mut E, fault: Option<ErrorKind>) {
     let _ = match fault {

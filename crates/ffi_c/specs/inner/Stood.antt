@@ -5,7 +5,7 @@ use Rattle.ffi_device.specs.declared.refusal.DeviceRefusal.{DeviceRefusal}
 use Rattle.ffi_device.specs.declared.standings.Stands.{Stands}
 use Rattle.ffi_device.specs.declared.standings.Stands.TheVariants.{First, After, Unsure}
 
--- The number that is answered, the token and the count. Each of these two is 0 where it is not told.
+-- The number that is answered, the token and the count. Each of these two is 0 if it is not told.
 abbrev pub TellsStands : Result Stands DeviceRefusal → (code token : ℤ) (count : ℕ) → Type 0
 TellsStands (Ok (First first)) code token count = (code ≡ pos 0) × (token ≡ first) × (count ≡ 0)
 TellsStands (Ok (After length)) code token count = (code ≡ pos 2) × (token ≡ pos 0) × (count ≡ length)

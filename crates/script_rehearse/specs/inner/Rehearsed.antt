@@ -19,7 +19,7 @@ position_by told (Some scene) = Staged scene
 abbrev pub position_of : {A : Type 0} → Rehearsal A → Position
 position_of rehearsal = position_by (story.position_of rehearsal.story) (option_map scene_of rehearsal.rig)
 
--- Where a client was made, servers of the laws have served it.
+-- If a client was made, servers of the laws have served it.
 abbrev pub IsServedAt : Position → Type 0
 IsServedAt (Told told) = ⊤
 IsServedAt (Staged scene) = IsServed scene

@@ -11,7 +11,7 @@ abbrev pub IsNoHelp : LineFault → Type 0
 IsNoHelp (Help text) = ⊥
 IsNoHelp fault = Unit {0}
 
--- A refusal, where this holds; or that memory ran out.
+-- A refusal, if this holds; or that memory ran out.
 abbrev pub TellsIf : Type 0 → LineFault → Type 0
 TellsIf why (Help text) = ⊥
 TellsIf why (Refused text) = why

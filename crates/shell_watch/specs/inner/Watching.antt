@@ -32,7 +32,7 @@ stand_of remaining contents far state engine watched is_accepted style growth = 
 abbrev pub LinesOf : {A : Type 0} → Style → (ms : ℕ) → Turn A → View → List (Watched A) → List ℕ → Type 0
 LinesOf style ms turn view watched text = (at : Text) × (text ≡ turn_line style ms watched at view turn)
 
--- Subjects are shown where nothing waits to be told, those that were let go are watched no more then, and this is added to a text.
+-- Subjects are shown if nothing waits to be told, those that were let go are watched no more then, and this is added to a text.
 pub record ShowsThen {A : Type 0} (style : Style) (ms : ℕ) (view : View) (waits : List Told) (old new : List (Watched A))
     (before after : List ℕ) : Type 0 where
   pub here : List (Watched A)

@@ -6,7 +6,7 @@ use Rattle.zk_calls.specs.declared.entry.Entry.{Entry}
 use Rattle.zk_calls.specs.Lines.{next_call, waits_turn}
 use Rattle.zk_agent.specs.Calls.{IsPending, IsAway}
 
--- Where a call counts as handed over, the client waits for its reply.
+-- If a call counts as handed over, the client waits for its reply.
 abbrev pub IsAsked : {A : Type 0} → View → Entry A → Type 0
 IsAsked view entry = entry.is_sent ≡ true → IsPending view entry
 

@@ -7,7 +7,7 @@ use Rattle.zk_agent.specs.Waits.{answered_by, is_of_call, is_of_ping, is_whole, 
 abbrev pub begun : (head : ℕ) → Frames
 begun head = record { held = 8; head = head; left = head / 2 ^ 32 - 4 }
 
--- The next frame begins where one has come whole.
+-- The next frame begins if one has come whole.
 abbrev pub passed_end : Frames → Frames
 passed_end at = if is_whole at then record at { held = 0 } else at
 

@@ -35,7 +35,7 @@ abbrev pub reading_of : Result ℕ Error → Reading
 reading_of (Ok count) = if count == 0 then End reason.EndOfStream else Bytes count
 reading_of (Err fault) = if is_late (error_kind fault) then Nothing else End (reason_of (error_kind fault))
 
--- How many bytes a write took, and none where the connection has failed.
+-- How many bytes a write took, or none if the connection has failed.
 abbrev pub written_by : Result ℕ Error → Option ℕ
 written_by (Ok count) = if count == 0 then None else Some count
 written_by (Err fault) = if is_late (error_kind fault) then Some 0 else None
