@@ -1,4 +1,4 @@
-//! What holds clients back. Tested, and not proved.
+//! A barrier. Tested, not proved.
 
 use crate::cache::Mark;
 use crate::error::Error;
@@ -8,7 +8,7 @@ use crate::request::Request;
 use crate::session::Session;
 use std::time::{Duration, Instant};
 
-/// What holds clients back while its node is there, as kazoo's `Barrier`.
+/// A barrier, as kazoo's `Barrier`: clients wait while its node is there.
 ///
 /// ```no_run
 /// use dirwolleu::{Barrier, Session};
@@ -18,7 +18,7 @@ use std::time::{Duration, Instant};
 /// let session = Session::open("127.0.0.1:2181", Duration::from_secs(10))?;
 /// let barrier = Barrier::new(&session, "/migration");
 /// barrier.put_up()?;
-/// // what the others wait for, who call `barrier.wait()`
+/// // those who call `barrier.wait()` wait until this
 /// barrier.remove()?;
 /// # Ok(())
 /// # }
@@ -39,7 +39,7 @@ impl<'a> Barrier<'a> {
         }
     }
 
-    /// Puts the barrier up, if it is not. The nodes above it are made if they are not there.
+    /// Puts the barrier up, unless it is up. Missing parents are created.
     ///
     /// # Errors
     ///
@@ -48,7 +48,7 @@ impl<'a> Barrier<'a> {
         self.session.ensure_path(&self.path)
     }
 
-    /// Takes the barrier away: whether it was there. If an answer was lost, it may have been.
+    /// Takes the barrier away, and returns whether it was there. If an answer was lost, it may have been.
     ///
     /// # Errors
     ///
@@ -65,16 +65,16 @@ impl<'a> Barrier<'a> {
         }
     }
 
-    /// Waits until there is no barrier. Lost connections are lived through, and expired sessions by one that renews itself.
+    /// Waits until there is no barrier. It outlives lost connections and, in a session that renews itself, expired sessions.
     ///
     /// # Errors
     ///
-    /// Those of reads that do not pass.
+    /// An error of a read that trying again will not mend.
     pub fn wait(&self) -> Result<(), Error> {
         self.wait_until(None).map(drop)
     }
 
-    /// The same for so long at most: whether there is none.
+    /// The same, at most this long. Returns whether the barrier is gone.
     ///
     /// # Errors
     ///

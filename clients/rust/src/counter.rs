@@ -5,10 +5,10 @@ use crate::fault::Code;
 use crate::request::Request;
 use crate::session::Session;
 
-/// A whole number that is changed by compare and set, by the node of kazoo's `Counter`, which is made if it is not there.
+/// A whole number, changed by compare and set, in the node of kazoo's `Counter`, which is created if it is missing.
 ///
-/// Each change happens once, whoever else changes the number. Where the answer to one is lost it is looked for: if it has not happened, it
-/// is asked again; if that can not be told, the error [may have happened](Error::may_have_happened).
+/// Each change happens once, whoever else changes the number. If an answer is lost, the counter finds out whether the change happened, and makes
+/// it again if not; if that cannot be told, the error [may have happened](Error::may_have_happened).
 ///
 /// ```no_run
 /// use dirwolleu::{Counter, Session};
@@ -39,7 +39,7 @@ impl<'a> Counter<'a> {
         }
     }
 
-    /// The number: 0 if the node has no data, or is not there.
+    /// Returns the number: 0 if the node has no data or is missing.
     ///
     /// # Errors
     ///
@@ -48,16 +48,16 @@ impl<'a> Counter<'a> {
         Ok(self.read()?.0)
     }
 
-    /// Adds a number: what it comes to.
+    /// Adds a number and returns the sum.
     ///
     /// # Errors
     ///
-    /// As [`change`](Counter::change); [`ErrorKind::NotNumber`] too if the sum does not fit, and then nothing is changed.
+    /// As [`change`](Counter::change); also [`ErrorKind::NotNumber`] if the sum does not fit: nothing is changed then.
     pub fn add(&self, number: i64) -> Result<i64, Error> {
         self.change_to(|before| before.checked_add(number))
     }
 
-    /// Sets the number to what a function makes of it, and gives that. The function is called again if another client was first.
+    /// Sets the number to what a function makes of it, and returns that. If another client was first, the function is called again.
     ///
     /// # Errors
     ///
@@ -70,7 +70,7 @@ impl<'a> Counter<'a> {
         Error::about(Some(&self.path), ErrorKind::NotNumber)
     }
 
-    /// The number, and the version of the node, which is made if there is none.
+    /// The number and the node's version. A missing node is created.
     fn read(&self) -> Result<(i64, i32), Error> {
         loop {
             let node = match self.session.get(&self.path) {

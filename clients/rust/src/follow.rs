@@ -9,7 +9,7 @@ use std::fmt;
 use std::iter::FusedIterator;
 use std::task::{Context, Poll};
 
-/// What is kept of a node that is followed.
+/// What is kept of a followed node.
 ///
 /// ```no_run
 /// use dirwolleu::{KeptNode, Session};
@@ -29,15 +29,15 @@ use std::task::{Context, Poll};
 pub struct KeptNode {
     /// The data: `None` if they are null, which is another thing than no bytes.
     pub data: Option<Vec<u8>>,
-    /// What is known of the node, and changes with its data alone.
+    /// The fields of the node's `Stat` that change only with its data.
     pub stat: DataStat,
 }
 
-/// What is told of a node.
+/// An event of a node.
 type FollowedNode = Result<Option<KeptNode>, Error>;
 
-/// What a node holds, at first and at each change, or `None` if there is no node: of [`Session::follow`]. It is an iterator, which
-/// waits, and by [`poll_next`](Follow::poll_next) a stream of no runtime. The node is followed until this is dropped.
+/// The content of a node, first as it is and then at each change; `None` if there is no node. From [`Session::follow`]. It is a blocking
+/// iterator and, by [`poll_next`](Follow::poll_next), a stream for any runtime. Dropping it stops following the node.
 ///
 /// ```no_run
 /// use dirwolleu::Session;
@@ -73,7 +73,7 @@ impl<'a> Follow<'a> {
         }
     }
 
-    /// The ticket by which the node is followed, from the first time on that this is asked. If it can't be, it is over.
+    /// The ticket that follows the node; the first call begins to follow it. If that fails, the iterator is over.
     fn begin(&mut self) -> Result<u64, Error> {
         if let Some(ticket) = self.ticket {
             return Ok(ticket);
@@ -84,7 +84,7 @@ impl<'a> Follow<'a> {
         followed.map_err(|fault| Error::about(Some(&self.path), fault.into()))
     }
 
-    /// What is new of the node of this ticket, if something is; why the session is over, or `None` if it is closed.
+    /// The node's next content, if there is one; why the session is over, or `None` if it is closed.
     fn take(&mut self, ticket: u64, engine: &mut Engine) -> Poll<Option<FollowedNode>> {
         let about = |kind| Error::about(Some(&self.path), kind);
         if let Some(found) = engine.take_update(ticket) {
@@ -97,8 +97,8 @@ impl<'a> Follow<'a> {
         Poll::Ready(engine.fault_of_end().map(|kind| Err(about(kind))))
     }
 
-    /// What the node holds, if it is another thing than before; `None` if the session is closed. Else the waker of this context is woken
-    /// when it is to be polled again: by the thread of the session, so it serves under each runtime, or without one.
+    /// The node's content if it changed; `None` if the session is closed. Otherwise the session's thread wakes the waker of this context when
+    /// it is time to poll again, so this works with any runtime, or with none.
     ///
     /// ```no_run
     /// use dirwolleu::{Error, Session};

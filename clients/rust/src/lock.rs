@@ -1,4 +1,4 @@
-//! Locks and elections: contenders of the session's machine, which decides all about them. What is here hands over, and waits.
+//! Locks and elections. The session's proved machine decides who holds; this module hands requests over and waits.
 
 use crate::acl::Acl;
 use crate::contention::Naming;
@@ -21,10 +21,10 @@ use std::pin::Pin;
 use std::task::{Context, Poll};
 use std::time::{Duration, Instant};
 
-/// How much longer than the timeout of its session one waits who only tries to take a lock.
+/// How much longer than the session's timeout an attempt to take a lock waits.
 const PATIENCE: Duration = Duration::from_secs(1);
 
-/// With whom a lock is held at once.
+/// Who may hold a lock at the same time.
 ///
 /// ```no_run
 /// use dirwolleu::{LockOptions, Session, Sharing};
@@ -39,17 +39,16 @@ const PATIENCE: Duration = Duration::from_secs(1);
 /// ```
 #[derive(Clone, Copy, Debug, PartialEq, Eq, Hash)]
 pub enum Sharing {
-    /// With nobody: kazoo's `Lock`, Curator's `InterProcessMutex`.
+    /// One holder: kazoo's `Lock`, Curator's `InterProcessMutex`.
     Exclusive,
-    /// With nobody, in a lock that others share: kazoo's `WriteLock`, the writing half of Curator's `InterProcessReadWriteLock`.
+    /// A writer, alone in a lock that readers share: kazoo's `WriteLock`, the writing half of Curator's `InterProcessReadWriteLock`.
     Writing,
-    /// With others that share it: kazoo's `ReadLock`, the reading half of Curator's `InterProcessReadWriteLock`.
+    /// A reader, beside other readers: kazoo's `ReadLock`, the reading half of Curator's `InterProcessReadWriteLock`.
     Shared,
 }
 
-/// Whose names the places of contenders have. All contenders of a path use names of one kind, since kazoo and Curator see those of their own kind
-/// alone. A lock that finds places of another kind before it holds gives its own up: [`ErrorKind::MixedNames`]. Nodes that are no places make
-/// nobody wait.
+/// How the nodes of contenders (their places) are named. All contenders of a path must use one kind, because kazoo and Curator see only their own.
+/// A lock that finds a place of another kind before it holds gives up with [`ErrorKind::MixedNames`]. Other nodes below the path make nobody wait.
 ///
 /// ```no_run
 /// use dirwolleu::{LockNames, LockOptions, Session};
@@ -63,12 +62,12 @@ pub enum Sharing {
 /// ```
 #[derive(Clone, Copy, Debug, Default, PartialEq, Eq, Hash)]
 pub enum LockNames {
-    /// Those of kazoo, and of the clients of this library for C and Python if nothing else is said.
+    /// kazoo's names: the default in this library's clients for C, Rust and Python.
     #[default]
     Kazoo,
-    /// Those of Curator.
+    /// Curator's names.
     Curator,
-    /// Those of Curator's `LeaderLatch`, which is held alone.
+    /// The names of Curator's `LeaderLatch`, which has one holder.
     Latch,
 }
 
@@ -85,7 +84,7 @@ impl LockNames {
     }
 }
 
-/// A text that no other contender has.
+/// A text that no other contender uses.
 fn new_guid(naming: Naming) -> String {
     let (one, other) = (random(), random());
     match naming {
@@ -103,7 +102,7 @@ fn new_guid(naming: Naming) -> String {
     }
 }
 
-/// How a lock is taken, if [`Lock::acquire`] does not do.
+/// Options for taking a lock, for programs that need more than [`Lock::acquire`].
 ///
 /// ```no_run
 /// use dirwolleu::{LockNames, LockOptions, Session, Sharing};
@@ -133,7 +132,7 @@ impl Default for LockOptions<'_> {
 }
 
 impl<'d> LockOptions<'d> {
-    /// A lock that is held alone, by the names of kazoo, with places without data, for which it waits without an end.
+    /// An exclusive lock with kazoo's names and empty data; it waits without a limit.
     pub const fn new() -> LockOptions<'d> {
         LockOptions {
             names: LockNames::Kazoo,
@@ -144,31 +143,31 @@ impl<'d> LockOptions<'d> {
         }
     }
 
-    /// All contenders of a path use one kind of names: this one.
+    /// Sets the names, which all contenders of a path must share.
     pub const fn names(mut self, names: LockNames) -> Self {
         self.names = names;
         self
     }
 
-    /// With whom it is held at once.
+    /// Sets who may hold it at the same time.
     pub const fn sharing(mut self, sharing: Sharing) -> Self {
         self.sharing = sharing;
         self
     }
 
-    /// What its place says of the one that contends.
+    /// Sets the data of its place, which tell others who contends.
     pub const fn data(mut self, data: &'d [u8]) -> Self {
         self.data = data;
         self
     }
 
-    /// The ACL of its place, and of those nodes at its path and above it that are made. Without an entry everybody has every right.
+    /// Sets the ACL of its place and of the parents it creates. An empty list gives everybody every right.
     pub const fn acls(mut self, acls: &'d [Acl]) -> Self {
         self.acls = acls;
         self
     }
 
-    /// For how long it is waited for at most.
+    /// Sets how long to wait at most.
     pub const fn within(mut self, limit: Duration) -> Self {
         self.limit = Some(limit);
         self
@@ -179,21 +178,21 @@ impl<'d> LockOptions<'d> {
             .and_then(|limit| Instant::now().checked_add(limit))
     }
 
-    /// Waits until the lock is held. The node of the lock is made if it is not there. A place that is taken away, or has gone with a session
-    /// that renews itself, is made again.
+    /// Waits until the lock is held, and creates the lock's node if it is missing. If somebody deletes its place, or it went with a session that
+    /// renews itself, it makes a new one and waits again.
     ///
     /// # Errors
     ///
     /// [`ErrorKind::LockTimeout`] if it is not held in time, [`ErrorKind::MixedNames`] if a place has other names,
-    /// [`ErrorKind::NumbersUsedUp`], those of calls that do not pass, and why the session is over. The contender is given up then, and the
-    /// session deletes its place, on the next connection if that is needed.
+    /// [`ErrorKind::NumbersUsedUp`], an error of a call that trying again will not mend, and why the session is over. The contender then gives up,
+    /// and the session deletes its place, on a later connection if need be.
     pub fn acquire<'s>(self, session: &'s Session, path: &str) -> Result<Lock<'s>, Error> {
         let until = self.until();
         self.contend(session, path)?.wait_until(until)
     }
 
-    /// Takes the lock if nobody is before this one: none if somebody is. It waits for the first word on that, for the timeout of the session and a
-    /// second at most, whatever [`within`](LockOptions::within) says.
+    /// Takes the lock if nobody is ahead; else `None`. It waits only to learn which, for at most the session's timeout and a second, whatever
+    /// [`within`](LockOptions::within) says.
     ///
     /// # Errors
     ///
@@ -215,8 +214,8 @@ impl<'d> LockOptions<'d> {
         contending.wait_until(Some(Instant::now())).map(Some)
     }
 
-    /// Contends for the lock, and does not wait: what this gives is a future of no runtime. It is given up when that is dropped, and
-    /// [`within`](LockOptions::within) says nothing.
+    /// Contends for the lock without waiting, and returns a future that any runtime can poll. Dropping the future gives up.
+    /// [`within`](LockOptions::within) has no effect.
     ///
     /// ```no_run
     /// use dirwolleu::{Error, LockOptions, Session};
@@ -232,17 +231,17 @@ impl<'d> LockOptions<'d> {
     ///
     /// # Errors
     ///
-    /// That the path is none, that memory ran out, and why the session is over.
+    /// The path is invalid, memory ran out, or the session is over.
     pub fn contend<'s>(self, session: &'s Session, path: &str) -> Result<Contending<'s>, Error> {
         Contending::by(self.naming(), session, path, self)
     }
 
-    /// How its place is named.
+    /// The naming of its place.
     pub(crate) const fn naming(&self) -> Naming {
         self.names.naming(self.sharing)
     }
 
-    /// Joins by this naming: the ticket of the contender. Events tell of it, or none do.
+    /// Joins with this naming, and returns the contender's ticket. Events are delivered only if `is_told`.
     pub(crate) fn join(
         self,
         engine: &mut Engine,
@@ -261,7 +260,7 @@ impl<'d> LockOptions<'d> {
     }
 }
 
-/// A contender of a session, which is given up when this is dropped.
+/// A contender of a session. Dropping it gives up.
 #[derive(Debug)]
 struct Stake<'s> {
     session: &'s Session,
@@ -276,7 +275,7 @@ impl<'s> Stake<'s> {
         }
     }
 
-    /// The same contender, which is given up when that is dropped, and no longer when this is.
+    /// Hands the contender over: it gives up when the new owner is dropped, and no longer when this one is.
     fn hand_on(&mut self) -> Stake<'s> {
         Stake {
             session: self.session,
@@ -292,7 +291,7 @@ impl Drop for Stake<'_> {
     }
 }
 
-/// A lock that is contended for, of [`LockOptions::contend`]: a future, which is ready once the lock is held. To drop it gives the place up.
+/// A future from [`LockOptions::contend`] that is ready once the lock is held. Dropping it gives up.
 #[must_use = "to drop it gives the place up"]
 pub struct Contending<'s> {
     stake: Stake<'s>,
@@ -301,7 +300,7 @@ pub struct Contending<'s> {
 }
 
 impl<'s> Contending<'s> {
-    /// One that contends by this naming.
+    /// Contends with this naming.
     pub(crate) fn by(
         naming: Naming,
         session: &'s Session,
@@ -336,7 +335,7 @@ impl<'s> Contending<'s> {
         }
     }
 
-    /// It holds, or is given up for this reason.
+    /// Holds the lock, or gives up for this reason.
     fn end(&mut self, found: Result<Hold, ErrorKind>) -> Result<Lock<'s>, Error> {
         let stake = self.stake.hand_on();
         match found {
@@ -351,7 +350,7 @@ impl<'s> Future for Contending<'s> {
 
     /// # Panics
     ///
-    /// Where it is polled again after its end.
+    /// If polled again after it was ready.
     fn poll(mut self: Pin<&mut Self>, context: &mut Context<'_>) -> Poll<Self::Output> {
         assert!(!self.stake.is_left, "a lock is polled after its end");
         let ticket = self.stake.ticket;
@@ -368,15 +367,15 @@ impl fmt::Debug for Contending<'_> {
     }
 }
 
-/// A lock that is held, until it is let go, somebody takes its place away, or the session has expired.
+/// A held lock: until it is released, somebody deletes its place, or the session expires.
 ///
-/// Held means: at the last zxid that the session has seen, the lock was this one's. While there is no connection it stays so, and another one may
-/// hold by now: [`check`](Lock::check) is false once no server was heard for as long as you allow. A program that was held up does not even ask in
-/// time. So hand the [token](Lock::token) on with each request to what is protected, and have that refuse a token below the greatest one that
-/// it has seen.
+/// *Held* means that this lock came first at the last zxid the session has seen. Without a connection it stays so, although another program may
+/// hold the lock by now: [`check`](Lock::check) is false once no server was heard for as long as you allow. A program that was suspended cannot even
+/// ask in time. So pass the [token](Lock::token) with each request to the protected resource, and let that refuse any token below the greatest it has
+/// seen.
 ///
-/// One that is lost is given up. However it is let go, the session deletes its node: again on each connection, until there is none or the
-/// session is over.
+/// A lost lock gives up by itself. However a lock ends, the session deletes its node, on as many connections as it takes, until no node is left
+/// or the session is over.
 ///
 /// ```no_run
 /// use dirwolleu::{Lock, Session, Sharing};
@@ -410,8 +409,8 @@ impl<'a> Lock<'a> {
         }
     }
 
-    /// Waits until the lock is held, by the names of kazoo. [`LockOptions`] takes one otherwise. The node of the lock is made if it is
-    /// not there, and its places have these data.
+    /// Waits until the lock is held, with kazoo's names ([`LockOptions`] has other ways). Creates the lock's node if it is missing, and puts
+    /// these data into its place.
     ///
     /// # Errors
     ///
@@ -426,19 +425,19 @@ impl<'a> Lock<'a> {
         options.acquire(session, path)
     }
 
-    /// The zxid at which its place was made: that of each later holder is greater.
+    /// The fencing token: the zxid that created its place. Each later holder has a greater one.
     #[must_use]
     pub fn token(&self) -> i64 {
         self.token
     }
 
-    /// The path of its place: [`exists`](Session::exists) of it asks a server.
+    /// The path of its place. [`exists`](Session::exists) of it asks a server.
     #[must_use]
     pub fn place(&self) -> &str {
         &self.place
     }
 
-    /// Whether the lock is held at the [last zxid](Session::last_zxid). It asks nobody.
+    /// Whether the lock is held at the [last zxid](Session::last_zxid). Sends nothing.
     #[must_use]
     pub fn is_held(&self) -> bool {
         self.stake.session.view(|view| self.is_held_in(view))
@@ -448,14 +447,14 @@ impl<'a> Lock<'a> {
         view.held(self.stake.ticket) == Some(self.token)
     }
 
-    /// Whether the lock is held at the last zxid, and a server was heard within this time. It asks nobody.
+    /// Whether the lock is held at the last zxid and a server was heard within this time. Sends nothing.
     #[must_use]
     pub fn check(&self, within: Duration) -> bool {
         let session = self.stake.session;
         session.view(|view| self.is_held_in(view) && view.is_heard_within(within))
     }
 
-    /// Waits until the lock is known to be lost, for so long at most: whether it is.
+    /// Waits until the lock is known to be lost, at most this long. Returns whether it is.
     #[must_use]
     pub fn is_lost_within(&self, limit: Duration) -> bool {
         let until = Instant::now().checked_add(limit);
@@ -464,7 +463,7 @@ impl<'a> Lock<'a> {
         !self.is_held()
     }
 
-    /// A future, of no runtime, which is ready once the lock is known to be lost.
+    /// A future, for any runtime, that is ready once the lock is known to be lost.
     pub fn lost(&self) -> impl Future<Output = ()> + '_ {
         Loss {
             lock: self,
@@ -472,12 +471,12 @@ impl<'a> Lock<'a> {
         }
     }
 
-    /// Lets the lock go, and waits until its node is gone: for twice the timeout of the session at most. To drop it does not wait.
+    /// Releases the lock and waits until its node is gone, at most twice the session's timeout. Dropping the lock releases it without waiting.
     ///
     /// # Errors
     ///
-    /// Why the node is left, whose path the error has: [`ErrorKind::TimedOut`] if the servers were not reached; or why they refuse it. The
-    /// session deletes it still, and it goes with the session at the latest.
+    /// Why the node, whose path the error has, may still be there: [`ErrorKind::TimedOut`] if no server was reached, or why a server refused to
+    /// delete it. The session goes on trying, and the node goes with the session at the latest.
     pub fn release(mut self) -> Result<(), Error> {
         let (session, ticket) = (self.stake.session, self.stake.ticket);
         self.stake.leave();
@@ -510,9 +509,9 @@ impl Future for Loss<'_> {
     }
 }
 
-/// An election: each candidate leads once those before it have resigned or are gone. All candidates of a path use one kind of names,
-/// [`LockNames`]. It is an exclusive lock whose places say who has made them: by the names of kazoo it goes with kazoo's `Election`, by those
-/// of Curator with its `LeaderSelector`, and by those of a latch with its `LeaderLatch`.
+/// An election: each candidate leads once those before it have resigned or are gone. It is an exclusive lock whose places say who made them. All
+/// candidates of a path must use the same [`LockNames`]: kazoo's work with kazoo's `Election`, Curator's with its `LeaderSelector`, and a latch's
+/// with its `LeaderLatch`.
 ///
 /// ```no_run
 /// use dirwolleu::{Election, Session};
@@ -546,7 +545,7 @@ const OF_CANDIDATES: Markers<'_> = Markers {
 const AFTER_ALL: &str = "__lock__9999999999";
 
 impl<'a> Election<'a> {
-    /// The election at this node, which is made if it is not there, by the names of kazoo.
+    /// The election at this node, with kazoo's names. The node is created if it is missing.
     #[must_use]
     pub fn new(session: &'a Session, path: &str) -> Election<'a> {
         Election {
@@ -557,21 +556,21 @@ impl<'a> Election<'a> {
         }
     }
 
-    /// The same by these names, which all candidates use.
+    /// The same with these names, which all candidates must use.
     #[must_use]
     pub fn names(mut self, names: LockNames) -> Election<'a> {
         self.names = names;
         self
     }
 
-    /// The same with this ACL for the places, and for those nodes at the path and above it that are made. Without an entry everybody has every right.
+    /// The same with this ACL for the places and for the parents it creates. An empty list gives everybody every right.
     #[must_use]
     pub fn acls(mut self, acls: &[Acl]) -> Election<'a> {
         self.acls = acls.to_vec();
         self
     }
 
-    /// Becomes a candidate, and waits until it leads. The office is a [`Lock`]: hand its token on, and release it to resign.
+    /// Becomes a candidate and waits until it leads. The office is a [`Lock`]: pass its token on, and release it to resign.
     ///
     /// # Errors
     ///
@@ -580,7 +579,7 @@ impl<'a> Election<'a> {
         self.contend(data)?.wait_until(None)
     }
 
-    /// Becomes a candidate, and does not wait: what this gives is a future of no runtime, as of [`LockOptions::contend`].
+    /// Becomes a candidate without waiting, and returns a future as [`LockOptions::contend`] does.
     ///
     /// # Errors
     ///
@@ -590,11 +589,11 @@ impl<'a> Election<'a> {
         options.acls(&self.acls).contend(self.session, &self.path)
     }
 
-    /// What the candidates have said of themselves, the one that leads first.
+    /// The data of the candidates, the leader's first.
     ///
     /// # Errors
     ///
-    /// Those of reads that do not pass.
+    /// An error of a read that trying again will not mend.
     pub fn candidates(&self) -> Result<Vec<Vec<u8>>, Error> {
         loop {
             match candidates(&mut &*self.session, &self.path) {
@@ -604,17 +603,17 @@ impl<'a> Election<'a> {
         }
     }
 
-    /// What the one that leads has said of itself, or `None` if there is no candidate.
+    /// The leader's data, or `None` if there is no candidate.
     ///
     /// # Errors
     ///
-    /// Those of reads that do not pass.
+    /// An error of a read that trying again will not mend.
     pub fn leader(&self) -> Result<Option<Vec<u8>>, Error> {
         Ok(self.candidates()?.into_iter().next())
     }
 }
 
-/// What the candidates of an election have said of themselves, the one that leads first.
+/// The data of an election's candidates, the leader's first.
 pub(crate) fn candidates(session: &mut impl Caller, path: &str) -> Result<Vec<Vec<u8>>, Error> {
     let (names, listed) = match session.answer(Request::listing(path)) {
         Err(error) if error.code() == Some(Code::NO_NODE) => return Ok(Vec::new()),

@@ -1,4 +1,4 @@
-//! Entries that each go to one of those that take them. Tested, and not proved.
+//! A queue: each entry goes to one taker. Tested, not proved.
 
 use crate::cache::Mark;
 use crate::error::Error;
@@ -10,7 +10,7 @@ use crate::request::Request;
 use crate::session::Session;
 use std::time::{Duration, Instant};
 
-/// The priority of an entry if nothing else is said.
+/// The default priority of an entry.
 const USUAL_PRIORITY: u16 = 100;
 
 /// The greatest priority, which is taken last.
@@ -19,11 +19,11 @@ const LAST_PRIORITY: u16 = 999;
 /// How many digits the server adds to a name.
 const DIGITS: usize = 10;
 
-/// A queue: entries go out by priority, and then in the order in which they were made, each to one of those that take them. Its nodes have the
-/// names of kazoo's `Queue`, with a tag more.
+/// A queue: entries leave by priority, and then in the order of their creation, each to one taker. Its nodes have the names of kazoo's `Queue`, plus
+/// a tag.
 ///
-/// An entry that was put is there once, even if an answer was lost. It is deleted before it is worked on: if its taker ends then, nobody
-/// works on it.
+/// An entry that was put is there once, even if an answer was lost. It is deleted before it is worked on: if its taker crashes then, nobody works
+/// on it.
 ///
 /// ```no_run
 /// use dirwolleu::{Queue, Session};
@@ -45,7 +45,7 @@ pub struct Queue<'a> {
     path: String,
 }
 
-/// The priority and the number of an entry, if the name is that of one.
+/// The priority and the number of an entry, if this is the name of one.
 fn order_of(name: &str) -> Option<(u16, &str)> {
     let rest = name.strip_prefix("entry-")?;
     let (priority, rest) = (rest.get(..3)?, rest.get(3..)?);
@@ -56,7 +56,7 @@ fn order_of(name: &str) -> Option<(u16, &str)> {
     (are_digits == [true; 2] && is_parted).then_some((priority.parse().ok()?, number))
 }
 
-/// The names of entries, that which is taken first in front.
+/// The names of the entries, in the order of taking.
 fn in_turn(mut names: Vec<String>) -> Vec<String> {
     names.retain(|name| order_of(name).is_some());
     names.sort_by(|one, other| order_of(one).cmp(&order_of(other)));
@@ -64,7 +64,7 @@ fn in_turn(mut names: Vec<String>) -> Vec<String> {
 }
 
 impl<'a> Queue<'a> {
-    /// The queue at this node, which is made if it is not there.
+    /// The queue at this node, which is created if it is missing.
     #[must_use]
     pub fn new(session: &'a Session, path: &str) -> Queue<'a> {
         Queue {
@@ -73,16 +73,16 @@ impl<'a> Queue<'a> {
         }
     }
 
-    /// Adds an entry: the path of its node.
+    /// Adds an entry and returns the path of its node.
     ///
     /// # Errors
     ///
-    /// Those of calls. If it [may have happened](Error::may_have_happened), the entry may be there.
+    /// Those of a call. If it [may have happened](Error::may_have_happened), the entry may be there.
     pub fn put(&self, data: &[u8]) -> Result<String, Error> {
         self.put_with_priority(data, USUAL_PRIORITY)
     }
 
-    /// The same with a priority, of which the least is taken first: 0 to 999, and what is above is 999. Without one it is 100.
+    /// The same with a priority from 0, which is taken first, to 999; a greater one counts as 999. The default is 100.
     ///
     /// # Errors
     ///
@@ -109,7 +109,7 @@ impl<'a> Queue<'a> {
         }
     }
 
-    /// The entry of this tag, once its create has happened or can't happen any more.
+    /// The entry with this tag, once its create has happened or cannot happen any more.
     fn find(&self, tag: &str) -> Result<Option<String>, Error> {
         self.session.sync(&self.path)?;
         let (names, _) = self.session.children(&self.path)?;
@@ -117,17 +117,17 @@ impl<'a> Queue<'a> {
         Ok(found.map(|name| child_of(&self.path, name)))
     }
 
-    /// Takes the first entry out, and waits until there is one: its data. None once the session is closed.
+    /// Takes the first entry and returns its data; waits until there is one. `None` once the session is closed.
     ///
     /// # Errors
     ///
-    /// Those of calls. If it [may have happened](Error::may_have_happened), the entry of the path of the error may be gone.
+    /// Those of a call. If it [may have happened](Error::may_have_happened), the entry at the error's path may be gone.
     pub fn take(&self) -> Result<Option<Vec<u8>>, Error> {
         self.take_until(None)
     }
 
-    /// The same, and waits for so long at most: `None` if there was no entry. A limit of nothing tries once. The answer to the delete of an
-    /// entry is waited for all the same, as that of any call.
+    /// The same, but waits at most this long: `None` if there was no entry. A limit of zero tries once. The answer to an entry's delete is
+    /// awaited regardless, as that of any call.
     ///
     /// # Errors
     ///
@@ -160,7 +160,7 @@ impl<'a> Queue<'a> {
         }
     }
 
-    /// Deletes an entry: its data, or `None` if another one was faster.
+    /// Deletes an entry and returns its data, or `None` if another client was faster.
     fn claim(&self, path: &str) -> Result<Option<Vec<u8>>, Error> {
         let is_gone =
             |error: &Error| matches!(error.code(), Some(Code::NO_NODE | Code::BAD_VERSION));
@@ -174,7 +174,7 @@ impl<'a> Queue<'a> {
         }
     }
 
-    /// How many entries there are.
+    /// Returns how many entries there are.
     ///
     /// # Errors
     ///

@@ -1,4 +1,4 @@
-//! A node that says that a process is there. Tested, and not proved.
+//! A node that shows that a process is running. Tested, not proved.
 
 use crate::cache::Mark;
 use crate::error::Error;
@@ -13,14 +13,14 @@ use std::sync::Arc;
 use std::thread::{Builder, JoinHandle};
 use std::time::{Duration, Instant};
 
-/// The time from a refusal that passes to the next try.
+/// The pause after a refusal that may pass, before the next try.
 const BETWEEN_REFUSALS: Duration = Duration::from_secs(1);
 
 /// A registration: an ephemeral node of these data, which a thread makes, and makes again if it has gone, as with a session that has
 /// [renewed](crate::SessionOptions::renews) itself. It is given up with [`end`](Registration::end), or when this is dropped, or the
 /// session is over.
 ///
-/// If a process has begun again before its old session has expired, the node of that one is there still: it is waited for.
+/// If a process restarts before its old session has expired, that session's node is still there: the registration waits until it is gone.
 ///
 /// ```no_run
 /// use dirwolleu::{Registration, SessionOptions};
@@ -41,7 +41,7 @@ pub struct Registration {
     thread: Option<JoinHandle<Result<(), Error>>>,
 }
 
-/// What the thread of a registration has.
+/// What a registration's thread owns.
 #[derive(Clone, Debug)]
 struct Registrar {
     session: SharedSession,
@@ -51,11 +51,11 @@ struct Registrar {
 }
 
 impl Registration {
-    /// Begins to register. The node above has to be there.
+    /// Begins to register. The parent must exist.
     ///
     /// # Errors
     ///
-    /// That the system has not made a thread.
+    /// The system made no thread.
     pub fn begin(session: &SharedSession, path: &str, data: &[u8]) -> io::Result<Registration> {
         let registrar = Registrar {
             session: session.clone(),
@@ -69,7 +69,7 @@ impl Registration {
         Ok(Registration { registrar, thread })
     }
 
-    /// Whether the node is there and is of this session, as far as the session knows.
+    /// Whether the node is there and belongs to this session, as far as the session knows.
     #[must_use]
     pub fn is_registered(&self) -> bool {
         self.registrar
@@ -77,11 +77,11 @@ impl Registration {
             .view(|view| self.registrar.is_mine(view))
     }
 
-    /// Gives the registration up: the node is deleted, if it is of this session.
+    /// Ends the registration, and deletes the node if it belongs to this session.
     ///
     /// # Errors
     ///
-    /// Why it could not be kept, or not be deleted. It goes with the session at the latest.
+    /// Why the node could not be kept, or not be deleted. It goes with the session at the latest.
     pub fn end(mut self) -> Result<(), Error> {
         self.registrar.stop();
         let thread = self.thread.take();
@@ -106,7 +106,7 @@ impl Registrar {
         self.is_over.load(Ordering::SeqCst)
     }
 
-    /// Whether the node is there and is of this session, by what is kept.
+    /// Whether the kept node is there and belongs to this session.
     fn is_mine(&self, view: View<'_>) -> bool {
         let is_good = matches!(view.data_mark(&self.path), Ok(Some(Mark::Good)));
         let owner = view.owner(&self.path);
@@ -127,13 +127,13 @@ impl Registrar {
         }
     }
 
-    /// Lets some time pass after a server has refused something for a while.
+    /// Waits a while after a refusal that may pass.
     fn rest(&self) {
         let until = Instant::now().checked_add(BETWEEN_REFUSALS);
         self.session.wait_until(until, |_| !self.is_over());
     }
 
-    /// Makes the node if there is none, and else waits for a change of it.
+    /// Creates the node if it is missing, else waits until it changes.
     fn go_on(&self) -> Result<(), Error> {
         if self.session.watch(&self.path)?.is_none() {
             let made = self.session.create(&self.path, &self.data, Mode::Ephemeral);
@@ -149,7 +149,7 @@ impl Registrar {
         Ok(())
     }
 
-    /// Deletes the node, if it is of this session. What is kept may be of before the node was made.
+    /// Deletes the node if it belongs to this session. What is kept may be older than the node.
     fn give_up(&self) -> Result<(), Error> {
         if self.session.data_mark(&self.path)? != Some(Mark::Good) {
             match self.session.watch(&self.path) {

@@ -1,4 +1,4 @@
-//! A lock that several hold at a time: contenders of the session's machine, once the node of the path says how many. That number is read here.
+//! A semaphore: contenders of the session's machine, once the node at its path says how many may hold it. That number is read here.
 
 use crate::acl::Acl;
 use crate::contention::Naming;
@@ -15,11 +15,11 @@ use std::time::{Duration, Instant};
 /// The node below which Curator's `InterProcessSemaphoreV2` has its leases.
 const OF_CURATOR: &str = "leases";
 
-/// A lock that several hold at a time, each by a lease: an ephemeral node below the path. The first as many as there may be hold it, as the core
-/// decides: see [`Naming::Leases`].
+/// A lock with several holders, each by a lease: an ephemeral node below the path. The core decides who holds, the first ones up to the limit:
+/// see [`Naming::Leases`].
 ///
-/// The node of the path says how many there may be, by a number below 0. Semaphores of kazoo, which count other nodes, have one above it, and
-/// Curator's have other nodes below it: neither goes into a path of the other, which is an error, [`ErrorKind::MixedNames`].
+/// The node at the path has the limit as a negative number. kazoo's semaphores, which count other nodes, have a positive one there, and Curator's
+/// have other nodes below it: using a path of theirs is an error, [`ErrorKind::MixedNames`].
 ///
 /// ```no_run
 /// use dirwolleu::{Semaphore, Session};
@@ -44,11 +44,11 @@ pub struct Semaphore<'a> {
     acls: Vec<Acl>,
 }
 
-/// What is held of a [`Semaphore`]: a [`Lock`] beside others. Its token is of no use to fence, since theirs may be greater.
+/// A lease of a [`Semaphore`]: a [`Lock`] beside others. Its token cannot fence, because other holders' tokens may be greater.
 pub type Lease<'a> = Lock<'a>;
 
 impl<'a> Semaphore<'a> {
-    /// The semaphore at this node, which is made if it is not there, and says how many hold it at most: one at least.
+    /// The semaphore at this node, for at most so many holders, at least one. The node is created if it is missing.
     #[must_use]
     pub fn new(session: &'a Session, path: &str, most: u32) -> Semaphore<'a> {
         Semaphore {
@@ -59,24 +59,24 @@ impl<'a> Semaphore<'a> {
         }
     }
 
-    /// The same with this ACL for the leases, and for those nodes at the path and above it that are made. Without an entry everybody has every right.
+    /// The same with this ACL for the leases and for the nodes at the path and above it that it creates. An empty list gives everybody every right.
     #[must_use]
     pub fn acls(mut self, acls: &[Acl]) -> Semaphore<'a> {
         self.acls = acls.to_vec();
         self
     }
 
-    /// Waits for a lease, whose node has these data.
+    /// Waits for a lease whose node has these data.
     ///
     /// # Errors
     ///
-    /// As [`LockOptions::acquire`](crate::LockOptions::acquire); [`ErrorKind::OtherNumber`] if the node says another number, and
-    /// [`ErrorKind::MixedNames`] if it is that of a semaphore of kazoo's or Curator's.
+    /// As [`LockOptions::acquire`](crate::LockOptions::acquire); [`ErrorKind::OtherNumber`] if the node has another limit, and
+    /// [`ErrorKind::MixedNames`] if the node is a semaphore of kazoo's or Curator's.
     pub fn acquire(&self, data: &[u8]) -> Result<Lease<'a>, Error> {
         self.take(data, None)
     }
 
-    /// The same, and waits for so long at most.
+    /// The same, but waits at most this long.
     ///
     /// # Errors
     ///
@@ -85,8 +85,8 @@ impl<'a> Semaphore<'a> {
         self.take(data, Instant::now().checked_add(limit))
     }
 
-    /// Contends for a lease: what this gives is a future of no runtime, as of [`LockOptions::contend`](crate::LockOptions::contend). It waits for the
-    /// number of the node alone.
+    /// Contends for a lease and returns a future, as [`LockOptions::contend`](crate::LockOptions::contend) does. It waits only until it has read the
+    /// node's limit.
     ///
     /// # Errors
     ///
@@ -105,7 +105,7 @@ impl<'a> Semaphore<'a> {
         self.begin(data, until)?.wait_until(until)
     }
 
-    /// Sees to it that the node says how many hold it at most. Lost connections are lived through, and expired sessions by one that renews itself.
+    /// Makes sure that the node has the limit. It outlives lost connections and, in a session that renews itself, expired sessions.
     fn agree(&self, until: Option<Instant>) -> Result<Naming, Error> {
         let number = LeaseNumber {
             path: &self.path,
@@ -126,17 +126,17 @@ impl<'a> Semaphore<'a> {
     }
 }
 
-/// How many hold a semaphore at most, as the node of its path is to say.
+/// A semaphore's limit, which the node at its path is to have.
 pub(crate) struct LeaseNumber<'a> {
     pub(crate) path: &'a str,
     pub(crate) most: NonZeroU32,
     pub(crate) acls: &'a [Acl],
-    /// Until when its calls wait at most.
+    /// How long its calls may wait.
     pub(crate) until: Option<Instant>,
 }
 
 impl LeaseNumber<'_> {
-    /// Sees to it that the node says so: how the places of leases are named.
+    /// Makes sure that the node has it, and returns the naming of the leases.
     pub(crate) fn agree(&self, session: &mut impl Caller) -> Result<Naming, Error> {
         while !self.check(session)? {}
         Ok(Naming::Leases { most: self.most })
@@ -146,7 +146,7 @@ impl LeaseNumber<'_> {
         Error::about(Some(self.path), kind)
     }
 
-    /// Whether the node is there, and says the same number. It may be used for something else too, which says nothing. If it is not there, it is made.
+    /// Whether the node is there and has the same limit, or none, as a node that is used for something else too. A missing node is created.
     fn check(&self, session: &mut impl Caller) -> Result<bool, Error> {
         let node = match session.answer(Request::get(self.path).until(self.until)) {
             Err(error) if error.code() == Some(Code::NO_NODE) => {

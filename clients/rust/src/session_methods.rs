@@ -7,22 +7,22 @@ use crate::request::Request;
 use crate::view::View;
 use std::time::Duration;
 
-/// A session that asks, and waits for answers.
+/// A session that asks and waits for the answer.
 pub(crate) trait Caller {
-    /// Asks, and waits for the answer.
+    /// Asks and waits for the answer.
     fn answer<T>(&mut self, request: Request<T>) -> Result<T, Error>;
 
-    /// Waits for so long, unless the session ends before.
+    /// Waits this long, or until the session ends.
     fn pass(&mut self, time: Duration) -> Result<(), Fault>;
 
-    /// Looks several things up at one moment.
+    /// Looks up several things at one moment.
     fn view<R>(&self, look: impl FnOnce(View<'_>) -> R) -> R;
 }
 
-/// The pause before the next read of data that a server does not find, of a node that it does find.
+/// The pause before reading again, when a server finds a node but not its data.
 const BETWEEN_READS: Duration = Duration::from_secs(1);
 
-/// Reads the data of a node, and leaves a watch on its path even if there is no node.
+/// Reads a node's data and leaves a watch on its path, even if there is no node.
 pub(crate) fn watch(session: &mut impl Caller, path: &str) -> Result<Option<Node>, Error> {
     loop {
         match session.answer(Request::get(path).watched()) {
@@ -39,7 +39,7 @@ pub(crate) fn watch(session: &mut impl Caller, path: &str) -> Result<Option<Node
 /// The calls of a session. Each asks by `call` and waits.
 macro_rules! calls {
     ($this:ident: [$($receiver:tt)+] $asks:expr) => {
-        /// What is known of a node, or `None` if there is none.
+        /// Returns the `Stat` of a node, or `None` if there is no node.
         ///
         /// # Errors
         ///
@@ -48,7 +48,7 @@ macro_rules! calls {
             $this.call_lent(LentRequest::exists(path))
         }
 
-        /// The data of a node. If there is none it fails with [`Code::NO_NODE`](crate::Code::NO_NODE).
+        /// Returns the data and the `Stat` of a node. Without a node it fails with [`Code::NO_NODE`](crate::Code::NO_NODE).
         ///
         /// # Errors
         ///
@@ -57,8 +57,8 @@ macro_rules! calls {
             $this.call_lent(LentRequest::get(path))
         }
 
-        /// The names of the children of a node, in an order that means nothing, and what is known of it. If there is no node it
-        /// fails with [`Code::NO_NODE`](crate::Code::NO_NODE).
+        /// Returns the names of a node's children, in no particular order, and the node's `Stat`. Without a node it fails with
+        /// [`Code::NO_NODE`](crate::Code::NO_NODE).
         ///
         /// # Errors
         ///
@@ -67,10 +67,10 @@ macro_rules! calls {
             $this.call_lent(LentRequest::children(path))
         }
 
-        /// The data of a node, or `None` if there is none. It leaves a watch on the path in both cases, so that the next change is
-        /// reported, whatever it is; and what it brings is kept.
+        /// Returns the data of a node, or `None` if there is no node. Either way it leaves a watch on the path, so that the next change is
+        /// reported, whatever it is, and the answer is kept.
         ///
-        /// If there is a node, of which the server says that it has no data, they are read again after a second, until the two agree.
+        /// If the server finds the node but not its data, both are read again after a second, until they agree.
         ///
         /// # Errors
         ///
@@ -79,7 +79,7 @@ macro_rules! calls {
             watch($asks, path)
         }
 
-        /// The same as [`children`](Self::children), and it leaves a watch if there is a node; what it brings is kept then.
+        /// As [`children`](Self::children), but leaves a watch if there is a node, and then the answer is kept.
         ///
         /// # Errors
         ///
@@ -88,26 +88,26 @@ macro_rules! calls {
             $this.call(Request::children(path).watched())
         }
 
-        /// Sets the data of a node that has this version; [`ANY_VERSION`](crate::ANY_VERSION) is that of each node.
+        /// Sets the data of a node if it has this version; [`ANY_VERSION`](crate::ANY_VERSION) matches any.
         ///
         /// # Errors
         ///
-        /// As [`call`](Self::call): of the server [`Code::NO_NODE`](crate::Code::NO_NODE) and [`Code::BAD_VERSION`](crate::Code::BAD_VERSION).
+        /// As [`call`](Self::call); the server refuses with [`Code::NO_NODE`](crate::Code::NO_NODE) or [`Code::BAD_VERSION`](crate::Code::BAD_VERSION).
         pub fn set($($receiver)+, path: &str, data: &[u8], version: i32) -> Result<Stat, Error> {
             $this.call_lent(LentRequest::set(path, data, version))
         }
 
-        /// Makes a node, and tells its path, which ends in ten digits more if it is sequential.
+        /// Creates a node and returns its path, to which a sequential create appends ten digits.
         ///
         /// # Errors
         ///
-        /// As [`call`](Self::call): of the server [`Code::NODE_EXISTS`](crate::Code::NODE_EXISTS), and if the parent is not there
-        /// [`Code::NO_NODE`](crate::Code::NO_NODE).
+        /// As [`call`](Self::call); the server refuses with [`Code::NODE_EXISTS`](crate::Code::NODE_EXISTS), or with
+        /// [`Code::NO_NODE`](crate::Code::NO_NODE) if the parent is missing.
         pub fn create($($receiver)+, path: &str, data: &[u8], mode: Mode) -> Result<String, Error> {
             $this.call_lent(LentRequest::create(path, data, mode))
         }
 
-        /// Makes a node with this ACL, as [`Request::create_with_acls`] says. As [`create`](Self::create) otherwise.
+        /// Creates a node with this ACL, as [`Request::create_with_acls`] says; otherwise as [`create`](Self::create).
         ///
         /// # Errors
         ///
@@ -122,7 +122,7 @@ macro_rules! calls {
             $this.call(Request::create_with_acls(path, data, mode, acls))
         }
 
-        /// The same, and tells what is known of the node, too.
+        /// The same, and also returns the new node's `Stat`.
         ///
         /// # Errors
         ///
@@ -137,7 +137,7 @@ macro_rules! calls {
             $this.call(Request::create2(path, data, mode, acls))
         }
 
-        /// Makes a container: a node that the servers delete once it had children and has none any more.
+        /// Creates a container: a node that the servers delete once its last child is gone.
         ///
         /// # Errors
         ///
@@ -146,13 +146,13 @@ macro_rules! calls {
             $this.call(Request::create_container(path, data, acls))
         }
 
-        /// Makes a node that the servers delete once it was not changed and has had no children for so long, as
+        /// Creates a node that the servers delete once it has had no change and no children for this long, as
         /// [`Request::create_with_ttl`] says.
         ///
         /// # Errors
         ///
-        /// As [`create_with_acls`](Self::create_with_acls); [`Fault::EphemeralWithTtl`]; of the server
-        /// [`Code::UNIMPLEMENTED`](crate::Code::UNIMPLEMENTED) and [`Code::BAD_ARGUMENTS`](crate::Code::BAD_ARGUMENTS).
+        /// As [`create_with_acls`](Self::create_with_acls), and [`Fault::EphemeralWithTtl`]; the server may refuse with
+        /// [`Code::UNIMPLEMENTED`](crate::Code::UNIMPLEMENTED) or [`Code::BAD_ARGUMENTS`](crate::Code::BAD_ARGUMENTS).
         pub fn create_with_ttl(
             $($receiver)+,
             path: &str,
@@ -164,7 +164,7 @@ macro_rules! calls {
             $this.call(Request::create_with_ttl(path, data, mode, ttl, acls))
         }
 
-        /// Reads several nodes at one zxid: what each read has brought, in their order, or with which code the server has refused it.
+        /// Reads several nodes at one zxid, and returns in their order each one's answer, or the code with which the server refused it.
         ///
         /// # Errors
         ///
@@ -173,7 +173,7 @@ macro_rules! calls {
             $this.call(Request::multi_read(reads))
         }
 
-        /// The paths of the session's ephemeral nodes that begin with this path, as [`Request::ephemerals`] says.
+        /// Returns the paths of the session's ephemeral nodes that begin with this one, as [`Request::ephemerals`] says.
         ///
         /// # Errors
         ///
@@ -182,7 +182,7 @@ macro_rules! calls {
             $this.call(Request::ephemerals(prefix))
         }
 
-        /// How many nodes are below a node, at all depths. If there is no node it fails with [`Code::NO_NODE`](crate::Code::NO_NODE).
+        /// Counts the nodes below a node, at all depths. Without a node it fails with [`Code::NO_NODE`](crate::Code::NO_NODE).
         ///
         /// # Errors
         ///
@@ -191,16 +191,16 @@ macro_rules! calls {
             $this.call(Request::all_children_number(path))
         }
 
-        /// As whom the server knows the session: by its address, and by its credentials.
+        /// Returns the identities under which the server knows the session: its address, and its credentials.
         ///
         /// # Errors
         ///
-        /// As [`call`](Self::call): of a server before version 3.7 [`Code::UNIMPLEMENTED`](crate::Code::UNIMPLEMENTED).
+        /// As [`call`](Self::call); a server before version 3.7 refuses with [`Code::UNIMPLEMENTED`](crate::Code::UNIMPLEMENTED).
         pub fn who_am_i($($receiver)+) -> Result<Vec<Id>, Error> {
             $this.call(Request::who_am_i())
         }
 
-        /// The ACL of a node, and what is known of it.
+        /// Returns the ACL and the `Stat` of a node.
         ///
         /// # Errors
         ///
@@ -209,28 +209,28 @@ macro_rules! calls {
             $this.call(Request::acls(path))
         }
 
-        /// Sets the ACL of a node whose ACL has this version ([`Stat::aversion`]); [`ANY_VERSION`](crate::ANY_VERSION) is that of each.
+        /// Sets the ACL of a node if the ACL has this version ([`Stat::aversion`]); [`ANY_VERSION`](crate::ANY_VERSION) matches any.
         ///
         /// # Errors
         ///
-        /// As [`call`](Self::call): of the server [`Code::BAD_VERSION`](crate::Code::BAD_VERSION) and [`Code::INVALID_ACL`](crate::Code::INVALID_ACL).
+        /// As [`call`](Self::call); the server refuses with [`Code::BAD_VERSION`](crate::Code::BAD_VERSION) or [`Code::INVALID_ACL`](crate::Code::INVALID_ACL).
         pub fn set_acls($($receiver)+, path: &str, acls: &[Acl], version: i32) -> Result<Stat, Error> {
             $this.call(Request::set_acls(path, acls, version))
         }
 
-        /// Tells servers who the session is, in the words of a scheme, as `digest` and `user:password`: now, and on each later connection
-        /// before anything else. It ends once a server has accepted that.
+        /// Authenticates the session by a scheme and its credential, for instance `digest` and `user:password`: now, and first of all on
+        /// each later connection. It returns once a server has accepted the credential.
         ///
         /// # Errors
         ///
-        /// [`Code::AUTH_FAILED`](crate::Code::AUTH_FAILED) if a server does not take it: then the session is over, as
+        /// [`Code::AUTH_FAILED`](crate::Code::AUTH_FAILED) if a server refuses it: the session is over then, as
         /// [`SessionOptions::auth`](crate::SessionOptions::auth) says. Else as [`call`](Self::call).
         pub fn add_auth($($receiver)+, scheme: &str, credentials: &[u8]) -> Result<(), Error> {
             $this.call(Request::auth(scheme, credentials))
         }
 
-        /// Has the server that the session is connected to catch up with the leader: a read that is asked after it is of no state that
-        /// is older than what the leader had when this was asked.
+        /// Makes the connected server catch up with the leader: a later read shows no state older than the leader's when this was
+        /// asked.
         ///
         /// # Errors
         ///
@@ -239,16 +239,16 @@ macro_rules! calls {
             $this.call(Request::sync(path))
         }
 
-        /// Makes a node without data, and those above it, as far as they are not there. What is lost with a connection is asked again.
+        /// Creates a node without data, and its parents, as far as they are missing. Calls that are lost with a connection are made again.
         ///
         /// # Errors
         ///
-        /// As [`call`](Self::call): those that were made before that stay.
+        /// As [`call`](Self::call). Nodes created before the error stay.
         pub fn ensure_path($($receiver)+, path: &str) -> Result<(), Error> {
             paths::ensure($asks, path, &[])
         }
 
-        /// The same with this ACL for the nodes that are made. As [`ensure_path`](Self::ensure_path) otherwise.
+        /// As [`ensure_path`](Self::ensure_path), with this ACL for the nodes it creates.
         ///
         /// # Errors
         ///
@@ -261,22 +261,22 @@ macro_rules! calls {
             paths::ensure($asks, path, acls)
         }
 
-        /// Deletes a node and all that are below it, from below: how many. There may be none. Others may make nodes there meanwhile; they are
-        /// deleted too. What is lost with a connection is asked again.
+        /// Deletes a node and everything below it, bottom up, and returns how many nodes it deleted; there may be none. Nodes that others
+        /// create there meanwhile are deleted too. Calls that are lost with a connection are made again.
         ///
         /// # Errors
         ///
-        /// As [`call`](Self::call): those that were deleted before that are gone.
+        /// As [`call`](Self::call). Nodes deleted before the error stay deleted.
         pub fn delete_recursive($($receiver)+, path: &str) -> Result<usize, Error> {
             paths::delete_all($asks, path)
         }
 
-        /// Deletes a node that has this version and no children; [`ANY_VERSION`](crate::ANY_VERSION) is that of each node.
+        /// Deletes a node if it has this version and no children; [`ANY_VERSION`](crate::ANY_VERSION) matches any.
         ///
         /// # Errors
         ///
-        /// As [`call`](Self::call): of the server [`Code::NO_NODE`](crate::Code::NO_NODE), [`Code::BAD_VERSION`](crate::Code::BAD_VERSION)
-        /// and [`Code::NOT_EMPTY`](crate::Code::NOT_EMPTY).
+        /// As [`call`](Self::call); the server refuses with [`Code::NO_NODE`](crate::Code::NO_NODE),
+        /// [`Code::BAD_VERSION`](crate::Code::BAD_VERSION) or [`Code::NOT_EMPTY`](crate::Code::NOT_EMPTY).
         pub fn delete($($receiver)+, path: &str, version: i32) -> Result<(), Error> {
             $this.call_lent(LentRequest::delete(path, version))
         }
@@ -286,12 +286,12 @@ macro_rules! calls {
 /// The look-ups of a session.
 macro_rules! look_ups {
     () => {
-        /// Looks several things up at one moment. The session waits meanwhile, so do not wait there, and ask nothing of it.
+        /// Looks up several things at one moment. The session stands still meanwhile: do not wait inside, and call none of its methods.
         pub fn view<R>(&self, look: impl FnOnce(View<'_>) -> R) -> R {
             self.inner().look(|engine| look(View::of(engine)))
         }
 
-        /// What is kept about the data of a path that was read with a watch, with its mark; see [`View::peek`].
+        /// Returns the kept data of a path that was read with a watch, with their mark; see [`View::peek`].
         ///
         /// # Errors
         ///
@@ -300,7 +300,7 @@ macro_rules! look_ups {
             self.view(|view| view.peek(path))
         }
 
-        /// What is kept about the children of a path that were read with a watch, with its mark; see [`View::peek_children`].
+        /// Returns the kept names of a path's children that were read with a watch, with their mark; see [`View::peek_children`].
         ///
         /// # Errors
         ///
@@ -309,7 +309,7 @@ macro_rules! look_ups {
             self.view(|view| view.peek_children(path))
         }
 
-        /// The mark of what is kept about the data of a path; see [`View::data_mark`].
+        /// Returns the mark of a path's kept data; see [`View::data_mark`].
         ///
         /// # Errors
         ///
@@ -318,7 +318,7 @@ macro_rules! look_ups {
             self.view(|view| view.data_mark(path))
         }
 
-        /// The mark of what is kept about the children of a path; see [`View::children_mark`].
+        /// Returns the mark of a path's kept children; see [`View::children_mark`].
         ///
         /// # Errors
         ///
@@ -327,8 +327,8 @@ macro_rules! look_ups {
             self.view(|view| view.children_mark(path))
         }
 
-        /// What is kept of these nodes, and of the names below these parents, all of it of one moment, if all of it is kept and good;
-        /// see [`View::snapshot`].
+        /// Returns these nodes and the names below these parents, all of one moment, if all of them are kept and good; see
+        /// [`View::snapshot`].
         ///
         /// # Errors
         ///
@@ -341,40 +341,40 @@ macro_rules! look_ups {
             self.view(|view| view.snapshot(nodes, parents))
         }
 
-        /// The greatest zxid seen, not below 0.
+        /// Returns the greatest zxid seen, at least 0.
         pub fn last_zxid(&self) -> i64 {
             self.view(|view| view.last_zxid())
         }
 
-        /// What the session has counted since it was opened, and what it holds now.
+        /// Returns what the session counted since it was opened, and what it holds now.
         pub fn stats(&self) -> Stats {
             self.inner().look(Engine::stats)
         }
 
-        /// The timeout of the session: the one that a server granted last, or the one to ask for.
+        /// Returns the session's timeout: the one a server granted last, or else the one to ask for.
         pub fn timeout(&self) -> Duration {
             self.view(|view| view.timeout())
         }
 
-        /// How long ago a server was heard last, without the time in which the machine was suspended; see [`View::age`].
+        /// Returns how long ago a server was last heard, without the time for which the computer was suspended; see [`View::age`].
         pub fn age(&self) -> Option<Duration> {
             self.view(|view| view.age())
         }
 
-        /// The number of the session, which its ephemeral nodes have as their owner; see [`View::id`].
+        /// Returns the session's id, which owns its ephemeral nodes; see [`View::id`].
         ///
         /// # Errors
         ///
-        /// [`Fault::NoMemory`] alone.
+        /// Only [`Fault::NoMemory`].
         pub fn id(&self) -> Result<i64, Fault> {
             self.view(|view| view.id())
         }
 
-        /// The session, to be taken up by [`SessionOptions::resume`](crate::SessionOptions::resume), maybe in another process.
+        /// Returns the session, for [`SessionOptions::resume`](crate::SessionOptions::resume), perhaps in another process.
         ///
         /// # Errors
         ///
-        /// [`Fault::NoMemory`] alone.
+        /// Only [`Fault::NoMemory`].
         pub fn saved(&self) -> Result<SavedSession, Fault> {
             self.view(|view| view.saved())
         }
