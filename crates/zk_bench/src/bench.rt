@@ -507,8 +507,14 @@ impl<A: Allocator + Copy> Bench<A> {
             Request::Create(r) => self.create(xid, r),
             Request::SetData(r) => self.set_data(xid, r),
             Request::Delete(r) => self.delete(xid, &r),
-            Request::Ping => self.pong().map_err(From::from),
-            Request::CloseSession => self.close(xid).map_err(From::from),
+            Request::Ping => {
+                self.pong()?;
+                Ok(())
+            }
+            Request::CloseSession => {
+                self.close(xid)?;
+                Ok(())
+            }
             other => {
                 let outcome = self.read(xid, &other);
                 drop(other);
@@ -608,7 +614,8 @@ impl<A: Allocator + Copy> Bench<A> {
         ensures rest { self.new ≡ record self.old { history = self.new.history; taken = self.new.taken; connection = self.new.connection } }
     {
         append_write(&mut self.history, self.time, change)?;
-        self.catch_up().map_err(From::from)
+        self.catch_up()?;
+        Ok(())
     }
 
     // The mode of a create, for which the connected server has taken all transactions that are left.
@@ -682,7 +689,8 @@ impl<A: Allocator + Copy> Bench<A> {
         }
         let outcome = self.send_created(xid, made.as_str());
         drop(made);
-        outcome.map_err(From::from)
+        outcome?;
+        Ok(())
     }
 
     fn send_created(&mut self, xid: i32, text: &str) -> Result<(), Stop>
@@ -765,7 +773,8 @@ impl<A: Allocator + Copy> Bench<A> {
             return Err(Refusal::Code(Code::NoNode));
         };
         let out = &mut self.connection.output;
-        send_result(self.alloc, xid, zxid, stat, out).map_err(From::from)
+        send_result(self.alloc, xid, zxid, stat, out)?;
+        Ok(())
     }
 
     // Answers a delete: the codes of the specification in their order, or a header alone.
@@ -784,6 +793,7 @@ impl<A: Allocator + Copy> Bench<A> {
         self.catch_up()?;
         let path = deleted_path(&self.newest(), request)?;
         self.write(Change::Delete(path))?;
-        self.send_err(xid, 0).map_err(From::from)
+        self.send_err(xid, 0)?;
+        Ok(())
     }
 }

@@ -53,7 +53,8 @@ fn tell_change<A: Allocator + Copy>(
 {
     let (event, path) = match change {
         Change::Set(path, _) => {
-            return send_event(alloc, Event::DataChanged, path.as_str(), connection);
+            send_event(alloc, Event::DataChanged, path.as_str(), connection)?;
+            return Ok(());
         }
         Change::Create(path, _, _) => (Event::Created, path),
         Change::Delete(path) => (Event::Deleted, path),
@@ -63,7 +64,8 @@ fn tell_change<A: Allocator + Copy>(
         return Ok(());
     };
     send_event(alloc, event, path.as_str(), connection)?;
-    send_event(alloc, Event::ChildrenChanged, parent, connection)
+    send_event(alloc, Event::ChildrenChanged, parent, connection)?;
+    Ok(())
 }
 
 /// Sends the notices of a transaction's changes, in their order: all of them, or with an error none.

@@ -45,5 +45,6 @@ pub(crate) fn next_request<A: Allocator + Copy>(
     ensures unknown { (operation : RawOperation) (given : List ℕ) (xid : ℤ)
         → IsReadAs (Ask (Raw operation given)) xid (first length (drop 4 bytes.now)) → OnOk result ⊥ }
 {
-    Request::take(alloc, &mut Cursor::new(&bytes[4..4 + length])).map_err(From::from)
+    let request = Request::take(alloc, &mut Cursor::new(&bytes[4..4 + length]))?;
+    Ok(request)
 }

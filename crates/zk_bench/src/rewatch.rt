@@ -68,9 +68,10 @@ fn watch<A: Allocator + Copy>(
     ensures { IsPathText path.now → OnOk result (watched watches.new ≡ with_watch (side_of list) (path_of path.now) (watched watches.old)) }
 {
     match list {
-        Watched::Data | Watched::Exist => add_watch(alloc, &mut watches.data, path),
-        Watched::Child => add_watch(alloc, &mut watches.child, path),
+        Watched::Data | Watched::Exist => add_watch(alloc, &mut watches.data, path)?,
+        Watched::Child => add_watch(alloc, &mut watches.child, path)?,
     }
+    Ok(())
 }
 
 // Sends what was missed at a path, or leaves the watch.
@@ -142,7 +143,8 @@ fn rewatch_lists<A: Allocator + Copy>(
     let exist = request.exist_watches.or_empty();
     rewatch_all(tree, Watched::Exist, exist, relative, connection)?;
     let child = request.child_watches.or_empty();
-    rewatch_all(tree, Watched::Child, child, relative, connection)
+    rewatch_all(tree, Watched::Child, child, relative, connection)?;
+    Ok(())
 }
 
 /// Answers setWatches: sets the watches, or sends what was missed, path by path: the data, the exist and the child list.

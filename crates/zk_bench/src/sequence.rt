@@ -84,5 +84,6 @@ pub(crate) fn numbered<A: Allocator + Copy>(
         return Err(Refusal::Code(Code::BadArguments));
     }
     let text = format!(in alloc; "{}{:010}", path.as_str(), number)?;
-    Path::new(alloc, text.as_str()).map_err(From::from)
+    let path = Path::new(alloc, text.as_str())?;
+    Ok(path)
 }
