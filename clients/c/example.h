@@ -1,4 +1,4 @@
-/* What the example programs share: they print the data of nodes, and end at a signal. */
+/* What the example programs share: they open a session, print the data of nodes, and end at a signal. */
 #ifndef EXAMPLE_H
 #define EXAMPLE_H
 
@@ -21,6 +21,22 @@ static inline void wake(int signal_number)
     (void)signal_number;
     (void)written;
     errno = kept;
+}
+
+/* A session at the hosts of a command, HOSTS PATH. A program that has none says why, and ends. */
+static inline dws_session *open_session(const char *program, int argc, char **argv)
+{
+    char why[DWS_LONGEST_LINE];
+    dws_options options;
+    memset(&options, 0, sizeof options);
+    options.told = dws_print_event;
+    snprintf(why, sizeof why, "usage: %s HOST:PORT[,HOST:PORT..][/CHROOT] PATH", program);
+    dws_session *session = argc == 3 ? dws_open(argv[1], &options, why, sizeof why) : NULL;
+    if (session == NULL) {
+        fprintf(stderr, "%s: %s\n", program, why);
+        exit(2);
+    }
+    return session;
 }
 
 /* Prints bytes in quotes. */
@@ -65,6 +81,20 @@ static inline void turn_until_signal(dws_session *session)
         }
         dws_go_on(session, polled[1].revents);
     }
+}
+
+/* Goes on where a path is followed by now, else says why it is not, and frees the session. It answers what the program ends with. */
+static inline int go_on_with(const char *program, dws_session *session, enum dw_result result, const char *path)
+{
+    char why[DWS_LONGEST_LINE];
+    if (result != DW_OK) {
+        dws_write_result(why, sizeof why, result, path);
+        fprintf(stderr, "%s: %s\n", program, why);
+    } else {
+        turn_until_signal(session);
+    }
+    dws_free(session);
+    return result == DW_OK ? EXIT_SUCCESS : EXIT_FAILURE;
 }
 
 #endif

@@ -13,7 +13,6 @@
 
 #include <inttypes.h>
 #include <stdio.h>
-#include <stdlib.h>
 
 static const char *path;
 
@@ -33,21 +32,8 @@ static void show(dws_session *session, dws_subject *node)
 int main(int argc, char **argv)
 {
     static dws_subject node;
-    char why[DWS_LONGEST_LINE];
-    dws_options options = {.told = dws_print_event};
-    dws_session *session = argc == 3 ? dws_open(argv[1], &options, why, sizeof why) : NULL;
-    if (session == NULL) {
-        fprintf(stderr, "follow: %s\n", argc == 3 ? why : "usage: follow HOST:PORT[,HOST:PORT..][/CHROOT] PATH");
-        return 2;
-    }
+    dws_session *session = open_session("follow", argc, argv);
     path = argv[2];
     enum dw_result result = dws_follow(session, &node, path, show);
-    if (result != DW_OK) {
-        dws_write_result(why, sizeof why, result, path);
-        fprintf(stderr, "follow: %s\n", why);
-    } else {
-        turn_until_signal(session);
-    }
-    dws_free(session);
-    return result == DW_OK ? EXIT_SUCCESS : EXIT_FAILURE;
+    return go_on_with("follow", session, result, path);
 }

@@ -17,7 +17,6 @@
 
 #include <inttypes.h>
 #include <stdio.h>
-#include <stdlib.h>
 
 static void show(dws_session *session, dws_tree *tree)
 {
@@ -39,20 +38,7 @@ static void show(dws_session *session, dws_tree *tree)
 int main(int argc, char **argv)
 {
     static dws_tree tree;
-    char why[DWS_LONGEST_LINE];
-    dws_options options = {.told = dws_print_event};
-    dws_session *session = argc == 3 ? dws_open(argv[1], &options, why, sizeof why) : NULL;
-    if (session == NULL) {
-        fprintf(stderr, "tree: %s\n", argc == 3 ? why : "usage: tree HOST:PORT[,HOST:PORT..][/CHROOT] PATH");
-        return 2;
-    }
+    dws_session *session = open_session("tree", argc, argv);
     enum dw_result result = dws_follow_tree(session, &tree, argv[2], 0, show);
-    if (result != DW_OK) {
-        dws_write_result(why, sizeof why, result, argv[2]);
-        fprintf(stderr, "tree: %s\n", why);
-    } else {
-        turn_until_signal(session);
-    }
-    dws_free(session);
-    return result == DW_OK ? EXIT_SUCCESS : EXIT_FAILURE;
+    return go_on_with("tree", session, result, argv[2]);
 }
