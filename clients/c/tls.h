@@ -50,19 +50,21 @@ static inline bool tls_expect(SSL *ssl, const char *host)
     return SSL_set1_host(ssl, host) == 1 && SSL_set_tlsext_host_name(ssl, host) == 1;
 }
 
-/* The connection, which begins with the first call. */
+/* The connection, which begins with the first call; of what failed before, OpenSSL says nothing more. NULL where it can't begin. */
 static inline SSL *tls_of(dws_wire *wire, void *context)
 {
     if (wire->state == NULL) {
         SSL *ssl = SSL_new((SSL_CTX *)context);
         if (ssl == NULL || SSL_set_fd(ssl, wire->socket) != 1 || !tls_expect(ssl, wire->host)) {
             SSL_free(ssl);
+            errno = ENOMEM;
             return NULL;
         }
         SSL_set_connect_state(ssl);
         wire->state = ssl;
         wire->release = tls_release;
     }
+    ERR_clear_error();
     return (SSL *)wire->state;
 }
 
@@ -93,23 +95,13 @@ static inline ssize_t tls_answer(SSL *ssl, dws_wire *wire, int count)
 static inline ssize_t tls_read(dws_wire *wire, void *room, size_t size, void *context)
 {
     SSL *ssl = tls_of(wire, context);
-    if (ssl == NULL) {
-        errno = ENOMEM;
-        return -1;
-    }
-    ERR_clear_error();
-    return tls_answer(ssl, wire, SSL_read(ssl, room, size < INT_MAX ? (int)size : INT_MAX));
+    return ssl == NULL ? -1 : tls_answer(ssl, wire, SSL_read(ssl, room, size < INT_MAX ? (int)size : INT_MAX));
 }
 
 static inline ssize_t tls_write(dws_wire *wire, const void *bytes, size_t size, void *context)
 {
     SSL *ssl = tls_of(wire, context);
-    if (ssl == NULL) {
-        errno = ENOMEM;
-        return -1;
-    }
-    ERR_clear_error();
-    return tls_answer(ssl, wire, SSL_write(ssl, bytes, size < INT_MAX ? (int)size : INT_MAX));
+    return ssl == NULL ? -1 : tls_answer(ssl, wire, SSL_write(ssl, bytes, size < INT_MAX ? (int)size : INT_MAX));
 }
 
 #endif

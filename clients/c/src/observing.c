@@ -1,6 +1,15 @@
 /* What an observer sees, and the events that a program hears of. */
 #include "internal.h"
 
+/* An observation of this kind, which says no more yet. */
+static dws_observation dws_observation_of(enum dws_observed kind)
+{
+    dws_observation seen;
+    memset(&seen, 0, sizeof seen);
+    seen.kind = kind;
+    return seen;
+}
+
 static void dws_observe(dws_session *s, const dws_observation *seen)
 {
     if (s->options.observe != NULL) {
@@ -10,9 +19,7 @@ static void dws_observe(dws_session *s, const dws_observation *seen)
 
 static void dws_observe_event(dws_session *s, enum dws_event event, const char *words)
 {
-    dws_observation seen;
-    memset(&seen, 0, sizeof seen);
-    seen.kind = DWS_SAW_EVENT;
+    dws_observation seen = dws_observation_of(DWS_SAW_EVENT);
     seen.event = event;
     seen.cause = s->cause;
     seen.server = s->server;
@@ -23,24 +30,14 @@ static void dws_observe_event(dws_session *s, enum dws_event event, const char *
 
 void dws_observe_bytes(dws_session *s, enum dws_observed kind, size_t count)
 {
-    dws_observation seen;
-    if (s->options.observe == NULL) {
-        return;
-    }
-    memset(&seen, 0, sizeof seen);
-    seen.kind = kind;
+    dws_observation seen = dws_observation_of(kind);
     seen.bytes = count;
     dws_observe(s, &seen);
 }
 
 void dws_observe_answer(dws_session *s, const dws_call *call)
 {
-    dws_observation seen;
-    if (s->options.observe == NULL) {
-        return;
-    }
-    memset(&seen, 0, sizeof seen);
-    seen.kind = DWS_SAW_ANSWER;
+    dws_observation seen = dws_observation_of(DWS_SAW_ANSWER);
     seen.call = call;
     seen.path = call->path != NULL ? dws_inner(s, call->path) : NULL;
     seen.took_us = call->asked_us != 0 ? dws_now_us() - call->asked_us : 0;
