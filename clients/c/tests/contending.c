@@ -169,12 +169,14 @@ static void go_on_until(struct side *side, int kind)
     }
 }
 
-static void contend(struct side *side, uint32_t naming)
+/* Contends, and goes on until it was told this. */
+static void contend(struct side *side, uint32_t naming, int kind)
 {
     side->told = (enum dw_kind)0;
     do_all(side);
     expect_ok(dw_session_contend(&side->session, now_ms, TICKET, DIRECTORY, strlen(DIRECTORY), naming, GUIDS[side - sides], 32,
                                  (const uint8_t *)"", 0, true, false, NULL, 0));
+    go_on_until(side, kind);
 }
 
 static void give_up(struct side *side)
@@ -209,10 +211,8 @@ static void delete_place(struct side *side)
 /* One waits for the other, and holds once the place before it is gone; who has lost its place contends on. */
 static void hand_over(void)
 {
-    contend(&sides[0], DW_NAMING_KAZOO);
-    go_on_until(&sides[0], DW_KIND_HOLDS);
-    contend(&sides[1], DW_NAMING_KAZOO);
-    go_on_until(&sides[1], DW_KIND_WAITS);
+    contend(&sides[0], DW_NAMING_KAZOO, DW_KIND_HOLDS);
+    contend(&sides[1], DW_NAMING_KAZOO, DW_KIND_WAITS);
     EXPECT_NUMBER(2, count_names(&sides[1]));
     delete_place(&sides[0]);
     go_on_until(&sides[0], DW_KIND_WAITS);
@@ -228,8 +228,7 @@ static void cut_at_each_request(void)
 {
     for (int at = 1; at <= REQUESTS; at++) {
         left = at;
-        contend(&sides[0], DW_NAMING_CURATOR_LOCK);
-        go_on_until(&sides[0], DW_KIND_HOLDS);
+        contend(&sides[0], DW_NAMING_CURATOR_LOCK, DW_KIND_HOLDS);
         EXPECT_NUMBER(1, count_names(&sides[1]));
         give_up(&sides[0]);
         EXPECT_NUMBER(0, count_names(&sides[1]));
@@ -243,8 +242,7 @@ static void read_together(void)
     int64_t token = 0;
     most = 2;
     for (int i = 0; i < 2; i++) {
-        contend(&sides[i], DW_NAMING_KAZOO_READER);
-        go_on_until(&sides[i], DW_KIND_HOLDS);
+        contend(&sides[i], DW_NAMING_KAZOO_READER, DW_KIND_HOLDS);
     }
     for (int i = 0; i < 2; i++) {
         EXPECT(sides[i].token > 0);
@@ -260,8 +258,7 @@ static void lease(void)
     most = 2;
     for (int leaver = 0; leaver < 2; leaver++) {
         for (int i = 0; i < SIDES; i++) {
-            contend(&sides[i], DW_NAMING_LEASES + 2);
-            go_on_until(&sides[i], i < most ? DW_KIND_HOLDS : DW_KIND_WAITS);
+            contend(&sides[i], DW_NAMING_LEASES + 2, i < most ? DW_KIND_HOLDS : DW_KIND_WAITS);
         }
         give_up(&sides[leaver]);
         go_on_until(&sides[2], DW_KIND_HOLDS);
@@ -275,18 +272,14 @@ static void lease(void)
 /* Beside a name of another family nobody comes to hold. Whoever gives up at that leaves no place; whoever goes on holds once that name is gone. */
 static void mix(uint32_t naming, uint32_t other)
 {
-    contend(&sides[0], naming);
-    go_on_until(&sides[0], DW_KIND_HOLDS);
-    contend(&sides[1], other);
-    go_on_until(&sides[1], DW_KIND_PAUSES);
+    contend(&sides[0], naming, DW_KIND_HOLDS);
+    contend(&sides[1], other, DW_KIND_PAUSES);
     EXPECT_NUMBER(2, count_names(&sides[2]));
     give_up(&sides[1]);
     EXPECT_NUMBER(1, count_names(&sides[2]));
     EXPECT_NUMBER(DW_KIND_HOLDS, sides[0].told);
-    contend(&sides[1], other);
-    go_on_until(&sides[1], DW_KIND_PAUSES);
-    contend(&sides[2], other);
-    go_on_until(&sides[2], DW_KIND_PAUSES);
+    contend(&sides[1], other, DW_KIND_PAUSES);
+    contend(&sides[2], other, DW_KIND_PAUSES);
     give_up(&sides[0]);
     go_on_until(&sides[1], DW_KIND_HOLDS);
     go_on_until(&sides[2], DW_KIND_WAITS);
@@ -314,10 +307,8 @@ static void follow_beside(void)
     expect_ok(dw_session_follow_tree(&sides[0].session, now_ms, TREE, "/locks", 6, MOST_MEMBERS));
     do_all(&sides[0]);
     expect_ok(dw_session_follow_names(&sides[0].session, now_ms, SUBJECT, DIRECTORY, strlen(DIRECTORY)));
-    contend(&sides[0], DW_NAMING_KAZOO);
-    go_on_until(&sides[0], DW_KIND_HOLDS);
-    contend(&sides[1], DW_NAMING_KAZOO);
-    go_on_until(&sides[1], DW_KIND_WAITS);
+    contend(&sides[0], DW_NAMING_KAZOO, DW_KIND_HOLDS);
+    contend(&sides[1], DW_NAMING_KAZOO, DW_KIND_WAITS);
     EXPECT_NUMBER(2, count_names(&sides[0]));
     EXPECT(member_count > 4);
     give_up(&sides[0]);
@@ -359,8 +350,7 @@ static void refuse(void)
 /* With the session it is over. */
 static void close_session(void)
 {
-    contend(&sides[0], DW_NAMING_KAZOO);
-    go_on_until(&sides[0], DW_KIND_HOLDS);
+    contend(&sides[0], DW_NAMING_KAZOO, DW_KIND_HOLDS);
     expect_ok(dw_session_close(&sides[0].session, now_ms, LISTING, UINT64_MAX));
     go_on_until(&sides[0], DW_KIND_GIVEN_UP);
 }

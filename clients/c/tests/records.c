@@ -484,6 +484,15 @@ static void add_set(struct bytes *bytes, int32_t xid)
     end_answer(bytes, begin);
 }
 
+/* An answer ends, which began there and does not read. */
+static void end_unread(size_t begin)
+{
+    end_answer(&came, begin);
+    answer_all();
+    EXPECT_NUMBER(DW_OUTCOME_LOST, request.call.why);
+    close_session();
+}
+
 /* A reply with a null where a text has to be does not read. */
 static void leave_out_texts(void)
 {
@@ -493,10 +502,7 @@ static void leave_out_texts(void)
     size_t begin = begin_answer(&came, 1, 0);
     put_int(&came, -1);
     put_stat(&came, &STAT);
-    end_answer(&came, begin);
-    answer_all();
-    EXPECT_NUMBER(DW_OUTCOME_LOST, request.call.why);
-    close_session();
+    end_unread(begin);
 }
 
 /* A vector of more entries than its bytes have room for does not read, and takes no memory; nor does one of less than none. */
@@ -509,10 +515,7 @@ static void count_too_many(void)
         hear_request(1, operations[i / 3], NULL);
         size_t begin = begin_answer(&came, 1, 0);
         put_int(&came, counts[i % 3]);
-        end_answer(&came, begin);
-        answer_all();
-        EXPECT_NUMBER(DW_OUTCOME_LOST, request.call.why);
-        close_session();
+        end_unread(begin);
     }
 }
 
@@ -538,10 +541,7 @@ static void mix_types(void)
             put_int(&came, 0); /* no names, or data of no bytes */
         }
         put_type(&came, -1, 1);
-        end_answer(&came, begin);
-        answer_all();
-        EXPECT_NUMBER(DW_OUTCOME_LOST, request.call.why);
-        close_session();
+        end_unread(begin);
     }
 }
 
