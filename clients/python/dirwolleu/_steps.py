@@ -95,6 +95,22 @@ def run(plan: Plan[Result], retry: Optional[Retry], until: Optional[float]) -> S
         return result
 
 
+def drive(steps: Steps[Result], do: Callable[[Step], Any]) -> Result:
+    """Does steps in this thread, one after the other. The steps handle the errors and interrupts that they raise."""
+    try:
+        step = next(steps)
+        while True:
+            try:
+                answer = do(step)
+            except BaseException as error:
+                step = steps.throw(error)
+            else:
+                step = steps.send(answer)
+    except StopIteration as end:
+        result: Result = end.value
+        return result
+
+
 def bounded(steps: Steps[Result], until: Optional[float]) -> Steps[Result]:
     """The same steps, up to a moment: then the step that waits raises `TimeIsOver`, and what cleans up after it may wait."""
     try:

@@ -325,25 +325,14 @@ class Client(Shown):
     def _drive(self, steps: Steps[Result], news: Optional[News] = None) -> Result:
         """Does steps in this thread, one after the other. The steps handle the errors and interrupts that they raise."""
         self._check_process()
-        news = news or News()
         try:
-            step = next(steps)
-            while True:
-                try:
-                    answer = self._do(step, news)
-                except BaseException as error:
-                    step = steps.throw(error)
-                else:
-                    step = steps.send(answer)
-        except StopIteration as end:
-            result: Result = end.value
-            return result
+            return steps_of.drive(steps, functools.partial(self._do, news or News()))
         except KeyboardInterrupt as interrupt:
             raise interrupt.with_traceback(None)  # where within a wait it came says nothing
         finally:
             ending.rest()
 
-    def _do(self, step: Step, news: News) -> Any:
+    def _do(self, news: News, step: Step) -> Any:
         if isinstance(step, Wait):
             return news.wait(step.seconds)
         if isinstance(step, (Call, GetNews)):

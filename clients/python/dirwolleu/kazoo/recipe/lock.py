@@ -16,7 +16,7 @@ from dirwolleu import _library as library
 from dirwolleu import exceptions as own
 from dirwolleu._contenders import Contender
 from dirwolleu._locks import KAZOO, Taken, TurnIsNotYet, contend, in_line, mixed_names
-from dirwolleu._steps import SHORTEST_ASK, Result, Step, Steps, Wait
+from dirwolleu._steps import SHORTEST_ASK, Result, Step, Steps, Wait, drive
 from dirwolleu.kazoo._checks import own_acls
 from dirwolleu.kazoo.exceptions import (
     CancelledError,
@@ -152,17 +152,7 @@ class Lock:
     def _drive(self, steps: Steps[Result], event: Any) -> Result:
         """Does steps in this thread, which wait for news alone, by an event that nobody else waits for. Raises kazoo's errors."""
         try:
-            step = next(steps)
-            while True:
-                try:
-                    answer = self._done(step, event)
-                except BaseException as error:
-                    step = steps.throw(error)
-                else:
-                    step = steps.send(answer)
-        except StopIteration as end:
-            result: Result = end.value
-            return result
+            return drive(steps, lambda step: self._done(step, event))
         except own.MixedNamesError as error:
             raise self._mixed_names() from error
         except own.ZookeeperError as error:
