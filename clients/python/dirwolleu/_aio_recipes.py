@@ -5,6 +5,7 @@ from __future__ import annotations
 import asyncio
 import contextlib
 from collections.abc import Awaitable, Coroutine
+from contextlib import AbstractAsyncContextManager
 from types import TracebackType
 from typing import TYPE_CHECKING, Any, Callable, Optional, TypeVar, cast, overload
 
@@ -55,7 +56,7 @@ def _does(
     return shown(does, call)
 
 
-class Held(BaseHeld["Client"]):
+class Held(BaseHeld["Client"], AbstractAsyncContextManager["Held"]):
     """A lock or a lease that was taken, as `dirwolleu.Held` is.
 
         async with dirwolleu.aio.Lock(client, "/locks/job") as held:
@@ -65,9 +66,6 @@ class Held(BaseHeld["Client"]):
 
     release = _does(BaseHeld._release)
     wait_lost = _does(BaseHeld._losing)
-
-    async def __aenter__(self) -> Held:
-        return self
 
     async def __aexit__(
         self, kind: Optional[type[BaseException]], error: Optional[BaseException], trace: Optional[TracebackType]
@@ -162,7 +160,7 @@ class Election:
         return next(iter(await self._lock.contenders(1)), None)
 
 
-class Registration(BaseRegistration["Client"]):
+class Registration(BaseRegistration["Client"], AbstractAsyncContextManager["Registration"]):
     """An ephemeral node that is made again in each new session, as `dirwolleu.Registration` is.
 
         async with dirwolleu.aio.Registration(client, "/workers/host-1", b"10.0.0.1:80") as registration:
@@ -172,9 +170,6 @@ class Registration(BaseRegistration["Client"]):
     def __init__(self, client: Client, path: str, value: bytes = b"") -> None:
         self._is_there = asyncio.Event()
         super().__init__(client, path, value, self._is_there)
-
-    async def __aenter__(self) -> Registration:
-        return self
 
     async def __aexit__(
         self, kind: Optional[type[BaseException]], error: Optional[BaseException], trace: Optional[TracebackType]

@@ -3,6 +3,7 @@
 from __future__ import annotations
 
 from collections.abc import AsyncGenerator, Generator
+from contextlib import AbstractAsyncContextManager, AbstractContextManager
 from types import TracebackType
 from typing import Any, Callable, Optional, Protocol
 
@@ -96,7 +97,7 @@ class _Client(Protocol):
     def _drive(self, steps: Steps[Any]) -> Any: ...
 
 
-class Tree(_Grown):
+class Tree(_Grown, AbstractContextManager["Tree"]):
     """All nodes at and below a path, kept as the servers have them: what `client.tree` gives. A thread of the client reads, and reads
     again what changes, through lost connections and new sessions: which nodes, the proved core decides.
 
@@ -111,9 +112,6 @@ class Tree(_Grown):
     def __init__(self, client: _Client, path: str, most: int) -> None:
         super().__init__(client._engine, path, most)
         self._client = client
-
-    def __enter__(self) -> Tree:
-        return self
 
     def __exit__(
         self, kind: Optional[type[BaseException]], error: Optional[BaseException], trace: Optional[TracebackType]
@@ -146,7 +144,7 @@ class _AsyncClient(Protocol):
     async def _drive(self, steps: Steps[Any]) -> Any: ...
 
 
-class AsyncTree(_Grown):
+class AsyncTree(_Grown, AbstractAsyncContextManager["AsyncTree"]):
     """`dirwolleu.Tree` for asyncio: what `client.tree` of `dirwolleu.aio` gives.
 
         async with client.tree("/config") as tree:
@@ -158,9 +156,6 @@ class AsyncTree(_Grown):
     def __init__(self, client: _AsyncClient, path: str, most: int) -> None:
         super().__init__(client._engine, path, most)
         self._client = client
-
-    async def __aenter__(self) -> AsyncTree:
-        return self
 
     async def __aexit__(
         self, kind: Optional[type[BaseException]], error: Optional[BaseException], trace: Optional[TracebackType]

@@ -6,6 +6,7 @@ The proved core contends for locks; the rest is tested. `dirwolleu.aio` has the 
 from __future__ import annotations
 
 import threading
+from contextlib import AbstractContextManager
 from types import TracebackType
 from typing import TYPE_CHECKING, Any, Callable, Optional, TypeVar, cast, overload
 
@@ -54,7 +55,7 @@ def _does(call: Callable[Concatenate[Any, Given], Steps[Result]]) -> Callable[Co
     return shown(does, call)
 
 
-class Held(BaseHeld[Client]):
+class Held(BaseHeld[Client], AbstractContextManager["Held"]):
     """A lock or a lease that was taken: see `Lock`.
 
         with dirwolleu.Lock(client, "/locks/job") as held:
@@ -64,9 +65,6 @@ class Held(BaseHeld[Client]):
 
     release = _does(BaseHeld._release)
     wait_lost = _does(BaseHeld._losing)
-
-    def __enter__(self) -> Held:
-        return self
 
     def __exit__(
         self, kind: Optional[type[BaseException]], error: Optional[BaseException], trace: Optional[TracebackType]
@@ -228,7 +226,7 @@ class Election:
         return next(iter(self._lock.contenders(1)), None)
 
 
-class Registration(BaseRegistration[Client]):
+class Registration(BaseRegistration[Client], AbstractContextManager["Registration"]):
     """An ephemeral node that is made again in each new session, until it is withdrawn.
 
     A node of an earlier session of this program is waited for until it is gone. Where somebody deletes the node, it is
@@ -243,9 +241,6 @@ class Registration(BaseRegistration[Client]):
     def __init__(self, client: Client, path: str, value: bytes = b"") -> None:
         self._is_there = threading.Event()
         super().__init__(client, path, value, self._is_there)
-
-    def __enter__(self) -> Registration:
-        return self
 
     def __exit__(
         self, kind: Optional[type[BaseException]], error: Optional[BaseException], trace: Optional[TracebackType]

@@ -3,6 +3,7 @@
 from __future__ import annotations
 
 from collections.abc import Awaitable
+from contextlib import AbstractAsyncContextManager, AbstractContextManager
 from types import TracebackType
 from typing import Callable, NamedTuple, Optional, Union
 
@@ -118,7 +119,7 @@ def _raise(parts: list[_Part], codes: list[int]) -> None:
     raise TransactionFailedError(f"operation {index} was refused, and nothing has happened: {error}", index, error) from error
 
 
-class Transaction(_Operations):
+class Transaction(_Operations, AbstractContextManager["Transaction"]):
     """Several changes that happen together or not at all, in their order.
 
     `commit` sends them. In a `with` block, the end of the block does, unless an error leaves it.
@@ -145,9 +146,6 @@ class Transaction(_Operations):
         self.results = self._ask(self.request(), timeout)
         return self.results
 
-    def __enter__(self) -> Transaction:
-        return self
-
     def __exit__(
         self, kind: Optional[type[BaseException]], error: Optional[BaseException], trace: Optional[TracebackType]
     ) -> None:
@@ -155,7 +153,7 @@ class Transaction(_Operations):
             self.commit()
 
 
-class AsyncTransaction(_Operations):
+class AsyncTransaction(_Operations, AbstractAsyncContextManager["AsyncTransaction"]):
     """A `Transaction` of the client for asyncio: `commit` is a coroutine, and the end of an `async with` block commits."""
 
     def __init__(self, ask: Callable[[RawRequest[list[Outcome]], Optional[float]], Awaitable[list[Outcome]]]) -> None:
@@ -168,9 +166,6 @@ class AsyncTransaction(_Operations):
         """Does all operations, as `Transaction.commit` does."""
         self.results = await self._ask(self.request(), timeout)
         return self.results
-
-    async def __aenter__(self) -> AsyncTransaction:
-        return self
 
     async def __aexit__(
         self, kind: Optional[type[BaseException]], error: Optional[BaseException], trace: Optional[TracebackType]

@@ -4,6 +4,7 @@ from __future__ import annotations
 
 import functools
 from collections.abc import Sequence
+from contextlib import AbstractContextManager
 from types import TracebackType
 from typing import TYPE_CHECKING, Any, Optional
 
@@ -22,7 +23,7 @@ if TYPE_CHECKING:
     from dirwolleu.kazoo.client import KazooClient
 
 
-class TransactionRequest:
+class TransactionRequest(AbstractContextManager["TransactionRequest"]):
     """Several changes that happen together or not at all, in their order. `with` commits them at its end."""
 
     def __init__(self, client: KazooClient) -> None:
@@ -76,9 +77,6 @@ class TransactionRequest:
         self._check_open()
         self.committed = True
         return self.client._send(_request_of(self.operations))
-
-    def __enter__(self) -> TransactionRequest:
-        return self
 
     def __exit__(
         self, kind: Optional[type[BaseException]], error: Optional[BaseException], trace: Optional[TracebackType]
