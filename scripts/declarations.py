@@ -471,9 +471,9 @@ def tables_of_python(description: Part, version: str) -> str:
 
 
 def bench_of_python(description: Part, _version: str) -> str:
+    """The constants and functions of the server in memory. Its handle is like that of a session, and `_library.py` has it."""
     lines = [f"{one.constant} = {one.number}" for one in constants_of(description)]
-    lines += ["", "", "class _Slot(Structure):", '    _fields_ = [("at", c_void_p)]', "", "", "class _Handle(Structure):"]
-    return "\n".join([*lines, '    _fields_ = [("is_open", c_bool), ("slot", _Slot)]', "", "", *functions_of_python(description, "")]) + "\n"
+    return "\n".join([*lines, "", *functions_of_python(description, "")]) + "\n"
 
 
 def functions_of_python(description: Part, *beginnings: str) -> Iterator[str]:

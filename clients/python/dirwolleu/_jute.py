@@ -17,7 +17,7 @@ ERROR = -1
 
 
 class Malformed(Exception):
-    """The bytes of an answer do not read."""
+    """The bytes of a record do not read."""
 
 
 def integer(value: int) -> bytes:

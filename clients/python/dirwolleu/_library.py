@@ -371,14 +371,19 @@ def _check_version(file: str, library: ctypes.PyDLL) -> None:
         )
 
 
-def _load(file: str) -> ctypes.PyDLL:
-    library = ctypes.PyDLL(file)
-    _check_version(file, library)
-    for name, (result, parameters) in _FUNCTIONS.items():
+def declare(file: str, library: ctypes.CDLL, functions: dict[str, tuple[Any, tuple[Any, ...]]]) -> None:
+    """Says what the functions of a library answer and take. Fails in words where it lacks one."""
+    for name, (result, parameters) in functions.items():
         function = getattr(library, name, None)
         if function is None:
             raise ImportError(f"{file} is of another version than this package: it has no {name}")
         function.restype, function.argtypes = result, parameters
+
+
+def _load(file: str) -> ctypes.PyDLL:
+    library = ctypes.PyDLL(file)
+    _check_version(file, library)
+    declare(file, library, _FUNCTIONS)
     return library
 
 

@@ -13,9 +13,10 @@ import struct
 import time
 from typing import Optional
 
+from dirwolleu._jute import Malformed
 from dirwolleu.testing import _frames as frames
 from dirwolleu.testing import _raw as raw
-from dirwolleu.testing._frames import Malformed, Record, Reply
+from dirwolleu.testing._frames import Record, Reply
 from dirwolleu.testing._library import DELETED, MADE, WRITTEN, Bench
 
 COMMANDS = {"create": MADE, "set": WRITTEN, "delete": DELETED}
@@ -167,12 +168,12 @@ class Ensemble:
         if self.sessions.get(session.number) is not session:
             return
         if kind == frames.DELETE:
-            self.forget(record.take_text())
+            self.forget(record.text())
         elif kind == frames.CREATE:
-            record.take_text(), record.take_buffer()
-            path, acl = Record(reply.body).take_text(), record.take_acl()
+            record.text(), record.buffer()
+            path, acl = Record(reply.body).text(), record.acls()
             self.acls[path] = raw.Acl(acl)
-            if record.take_int() & frames.EPHEMERAL:
+            if record.integer() & frames.EPHEMERAL:
                 session.ephemerals.add(path)
 
     def trial_of(self, session: Session) -> Session:
@@ -305,8 +306,8 @@ class Connection(asyncio.Protocol):
     def connect(self, frame: bytes) -> None:
         """Hands in the request to connect. The server admits the client, or says why not, or ends the connection."""
         record = Record(frame[4:])
-        record.take_int(), record.take_long(), record.take_int()
-        session = self.server.session_of(record.take_long(), record.take_buffer())
+        record.integer(), record.long(), record.integer()
+        session = self.server.session_of(record.long(), record.buffer())
         session.drop()
         session.bench.connect(1)
         session.users.clear()
@@ -321,7 +322,7 @@ class Connection(asyncio.Protocol):
     def request(self, session: Session, frame: bytes) -> None:
         """Hands in a later request."""
         record = Record(frame[4:])
-        xid, kind = record.take_int(), record.take_int()
+        xid, kind = record.integer(), record.integer()
         if session.is_lagging and kind not in frames.READS:
             self.server.catch_up(session)
         if kind == frames.CLOSE_SESSION:

@@ -6,6 +6,8 @@ import struct
 from collections.abc import Iterator
 from typing import NamedTuple, Optional
 
+from dirwolleu._jute import Malformed, Reader
+
 CREATE, DELETE, EXISTS, GET_DATA, SET_DATA, GET_ACL, SET_ACL, GET_CHILDREN, SYNC = 1, 2, 3, 4, 5, 6, 7, 8, 9
 PING, GET_CHILDREN2, CHECK, MULTI, CREATE2, AUTH, SET_WATCHES, CLOSE_SESSION, ERROR = 11, 12, 13, 14, 15, 100, 101, -11, -1
 CREATE_CONTAINER, CREATE_TTL, MULTI_READ, GET_EPHEMERALS, GET_ALL_CHILDREN_NUMBER, WHO_AM_I = 19, 21, 22, 103, 104, 107
@@ -24,50 +26,27 @@ LONGEST = 4_194_304
 """The greatest length of a frame that is taken: more than real servers take by default, which is 1,048,575."""
 
 
-class Malformed(Exception):
-    """The bytes of a request do not read."""
-
-
-class Record:
+class Record(Reader):
     """Reads the fields of a record, from left to right."""
-
-    def __init__(self, payload: bytes) -> None:
-        self._payload, self._place = payload, 0
-
-    def _take(self, count: int) -> bytes:
-        taken = self._payload[self._place : self._place + count]
-        if count < 0 or len(taken) < count:
-            raise Malformed
-        self._place += count
-        return taken
 
     def rest(self) -> bytes:
         return self._payload[self._place :]
 
-    def take_int(self) -> int:
-        return int(struct.unpack(">i", self._take(4))[0])
-
-    def take_long(self) -> int:
+    def long(self) -> int:
         return int(struct.unpack(">q", self._take(8))[0])
 
-    def take_boolean(self) -> bool:
-        return self._take(1) != b"\0"
-
-    def take_buffer(self) -> Optional[bytes]:
-        length = self.take_int()
-        return None if length == -1 else self._take(length)
-
-    def take_text(self) -> str:
+    def text(self) -> str:
+        """A text. One that is null is empty."""
         try:
-            return (self.take_buffer() or b"").decode()
+            return (self.buffer() or b"").decode()
         except UnicodeDecodeError:
             raise Malformed from None
 
-    def take_acl(self) -> bytes:
+    def acls(self) -> bytes:
         """The bytes of an ACL."""
         begin = self._place
-        for _ in range(self.take_int()):
-            self.take_int(), self.take_text(), self.take_text()
+        for _ in range(self.integer()):
+            self.integer(), self.text(), self.text()
         return self._payload[begin : self._place]
 
 
@@ -78,11 +57,6 @@ class Reply(NamedTuple):
     zxid: int
     code: int
     body: bytes
-
-
-def put_text(text: str) -> bytes:
-    spelled = text.encode()
-    return struct.pack(">i", len(spelled)) + spelled
 
 
 def framed(payload: bytes) -> bytes:
@@ -104,8 +78,8 @@ def split(output: bytes) -> Iterator[bytes]:
 def read_password(frame: bytes) -> Optional[bytes]:
     """The password in the answer to a request to connect."""
     record = Record(frame[4:])
-    record.take_int(), record.take_int(), record.take_long()
-    return record.take_buffer()
+    record.integer(), record.integer(), record.long()
+    return record.buffer()
 
 
 def read_reply(frame: bytes) -> Reply:

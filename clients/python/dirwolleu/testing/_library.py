@@ -4,9 +4,11 @@ from __future__ import annotations
 
 import os
 import pathlib
-from ctypes import CDLL, POINTER, Structure, byref, c_bool, c_int32, c_int64, c_size_t, c_uint64, c_void_p
+from ctypes import CDLL, POINTER, byref, c_bool, c_int32, c_int64, c_size_t, c_uint64, c_void_p
 from ctypes import create_string_buffer, string_at
 from typing import Any
+
+from dirwolleu._library import _Handle, declare
 
 # made by scripts/interface from include/bench.toml
 OK = 0
@@ -26,15 +28,6 @@ NOT_EMPTY = -111
 MADE = 1
 WRITTEN = 2
 DELETED = 3
-
-
-class _Slot(Structure):
-    _fields_ = [("at", c_void_p)]
-
-
-class _Handle(Structure):
-    _fields_ = [("is_open", c_bool), ("slot", _Slot)]
-
 
 _HANDLE = POINTER(_Handle)
 _FUNCTIONS: dict[str, tuple[Any, tuple[Any, ...]]] = {
@@ -77,11 +70,7 @@ def _find() -> str:
 
 def _load(file: str) -> CDLL:
     library = CDLL(file)
-    for name, (result, parameters) in _FUNCTIONS.items():
-        function = getattr(library, name, None)
-        if function is None:
-            raise ImportError(f"{file} is of another version than this package: it has no {name}")
-        function.restype, function.argtypes = result, parameters
+    declare(file, library, _FUNCTIONS)
     return library
 
 

@@ -13,6 +13,8 @@ import struct
 from collections.abc import Iterator
 from typing import TYPE_CHECKING, Callable, NamedTuple
 
+from dirwolleu import _jute as jute
+from dirwolleu._jute import Malformed
 from dirwolleu.testing import _frames as frames
 from dirwolleu.testing._frames import (
     CHECK,
@@ -27,10 +29,8 @@ from dirwolleu.testing._frames import (
     SEQUENTIAL,
     SET_DATA,
     TTL,
-    Malformed,
     Record,
     Reply,
-    put_text,
 )
 
 if TYPE_CHECKING:
@@ -38,7 +38,7 @@ if TYPE_CHECKING:
 
 RUNTIME_INCONSISTENCY, BAD_VERSION, AUTH_FAILED = -2, -103, -115
 ANY_VERSION = -1
-OPEN_ACL = struct.pack(">ii", 1, 31) + put_text("world") + put_text("anyone")
+OPEN_ACL = struct.pack(">ii", 1, 31) + jute.text("world") + jute.text("anyone")
 ACL_VERSION = slice(40, 44)
 """Where a Stat has the version of the ACL."""
 
@@ -69,7 +69,7 @@ def ask(session: Session, kind: int, body: bytes, notices: list[bytes]) -> Reply
 
 def stat_of(session: Session, path: str, notices: list[bytes]) -> bytes:
     """The Stat of a node that is there."""
-    reply = ask(session, EXISTS, put_text(path) + b"\0", notices)
+    reply = ask(session, EXISTS, jute.text(path) + b"\0", notices)
     if reply.code != OK:
         raise Refused(reply.code)
     return reply.body
@@ -80,32 +80,32 @@ def with_version(stat: bytes, acl: Acl) -> bytes:
 
 
 def sync(_server: Ensemble, _session: Session, record: Record, _notices: list[bytes]) -> bytes:
-    return put_text(record.take_text())
+    return jute.text(record.text())
 
 
 def number_below(server: Ensemble, session: Session, folder: str) -> str:
     """The digits of the next sequential node below a path that ends with a slash, which another server finds by making one."""
     trial = server.trial_of(session)
     trial.learn(session.bench)
-    reply = ask(trial, CREATE, put_text(f"{folder}n") + put_text("") + OPEN_ACL + struct.pack(">i", SEQUENTIAL), [])
+    reply = ask(trial, CREATE, jute.text(f"{folder}n") + jute.text("") + OPEN_ACL + struct.pack(">i", SEQUENTIAL), [])
     if reply.code != OK:
         raise Refused(reply.code)
-    return Record(reply.body).take_text()[-10:]
+    return Record(reply.body).text()[-10:]
 
 
 def modelled(server: Ensemble, session: Session, record: Record) -> bytes:
     """A create as the model has it, without a TTL, and with the whole path of a node that has no name but its digits."""
-    path, rest = record.take_text(), record.rest()
-    record.take_buffer(), record.take_acl()
-    spelled, flags = rest[: len(rest) - len(record.rest())], record.take_int()
+    path, rest = record.text(), record.rest()
+    record.buffer(), record.acls()
+    spelled, flags = rest[: len(rest) - len(record.rest())], record.integer()
     if flags in (TTL, TTL + 1):
         flags = SEQUENTIAL * (flags - TTL)
-        record.take_long()
+        record.long()
     if flags == frames.CONTAINER:
         flags = 0
     if flags & SEQUENTIAL and path.endswith("/"):
         path, flags = path + number_below(server, session, path), flags - SEQUENTIAL
-    return put_text(path) + spelled + struct.pack(">i", flags)
+    return jute.text(path) + spelled + struct.pack(">i", flags)
 
 
 def create2(server: Ensemble, session: Session, record: Record, notices: list[bytes]) -> bytes:
@@ -114,17 +114,17 @@ def create2(server: Ensemble, session: Session, record: Record, notices: list[by
     if reply.code != OK:
         raise Refused(reply.code)
     server.note(session, CREATE, body, reply)
-    return reply.body + stat_of(session, Record(reply.body).take_text(), notices)
+    return reply.body + stat_of(session, Record(reply.body).text(), notices)
 
 
 def get_acl(server: Ensemble, session: Session, record: Record, notices: list[bytes]) -> bytes:
-    path = record.take_text()
+    path = record.text()
     stat, acl = stat_of(session, path, notices), server.acls.get(path, Acl())
     return acl.spelled + with_version(stat, acl)
 
 
 def set_acl(server: Ensemble, session: Session, record: Record, notices: list[bytes]) -> bytes:
-    path, spelled, version = record.take_text(), record.take_acl(), record.take_int()
+    path, spelled, version = record.text(), record.acls(), record.integer()
     stat, acl = stat_of(session, path, notices), server.acls.get(path, Acl())
     if version not in (ANY_VERSION, acl.version):
         raise Refused(BAD_VERSION)
@@ -135,13 +135,13 @@ def set_acl(server: Ensemble, session: Session, record: Record, notices: list[by
 def take_part(record: Record, kind: int) -> bytes:
     """The bytes of an operation of a transaction."""
     before = record.rest()
-    record.take_text()
+    record.text()
     if kind in (CREATE, CREATE2):
-        record.take_buffer(), record.take_acl(), record.take_int()
+        record.buffer(), record.acls(), record.integer()
     elif kind in (DELETE, CHECK):
-        record.take_int()
+        record.integer()
     elif kind == SET_DATA:
-        record.take_buffer(), record.take_int()
+        record.buffer(), record.integer()
     else:
         raise Malformed
     return before[: len(before) - len(record.rest())]
@@ -151,8 +151,8 @@ def take_parts(record: Record) -> list[tuple[int, bytes]]:
     """The operations of a transaction."""
     parts = list[tuple[int, bytes]]()
     while True:
-        kind = record.take_int()
-        record.take_boolean(), record.take_int()
+        kind = record.integer()
+        record.boolean(), record.integer()
         if kind == ERROR:
             return parts
         parts.append((kind, take_part(record, kind)))
@@ -164,7 +164,7 @@ def operate(server: Ensemble, session: Session, kind: int, part: bytes, notices:
         return create2(server, session, Record(part), notices)
     if kind == CHECK:
         record = Record(part)
-        stat, version = stat_of(session, record.take_text(), notices), record.take_int()
+        stat, version = stat_of(session, record.text(), notices), record.integer()
         if version not in (ANY_VERSION, struct.unpack(">i", stat[32:36])[0]):
             raise Refused(BAD_VERSION)
         return b""
@@ -205,12 +205,12 @@ def transact(server: Ensemble, session: Session, record: Record, notices: list[b
 
 
 def put_texts(texts: list[str]) -> bytes:
-    return struct.pack(">i", len(texts)) + b"".join(map(put_text, texts))
+    return struct.pack(">i", len(texts)) + b"".join(map(jute.text, texts))
 
 
 def read_one(session: Session, kind: int, path: str, notices: list[bytes]) -> bytes:
     """What a read of several brings."""
-    reply = ask(session, kind, put_text(path) + b"\0", notices)
+    reply = ask(session, kind, jute.text(path) + b"\0", notices)
     if reply.code != OK:
         return put_header(ERROR, reply.code) + struct.pack(">i", reply.code)
     return put_header(kind, OK) + reply.body
@@ -219,47 +219,47 @@ def read_one(session: Session, kind: int, path: str, notices: list[bytes]) -> by
 def read_all(_server: Ensemble, session: Session, record: Record, notices: list[bytes]) -> bytes:
     """Reads the data or the names of several nodes."""
     found = b""
-    while (kind := record.take_int()) != ERROR:
-        record.take_boolean(), record.take_int()
+    while (kind := record.integer()) != ERROR:
+        record.boolean(), record.integer()
         if kind not in (GET_DATA, GET_CHILDREN):
             raise Malformed
-        path, _ = record.take_text(), record.take_boolean()
+        path, _ = record.text(), record.boolean()
         found += read_one(session, kind, path, notices)
     return found + END
 
 
 def below(session: Session, path: str, notices: list[bytes]) -> Iterator[str]:
     """The paths of all nodes below one that is there."""
-    reply = ask(session, GET_CHILDREN, put_text(path) + b"\0", notices)
+    reply = ask(session, GET_CHILDREN, jute.text(path) + b"\0", notices)
     if reply.code != OK:
         raise Refused(reply.code)
     names = Record(reply.body)
-    for _ in range(names.take_int()):
-        child = f"{path.rstrip('/')}/{names.take_text()}"
+    for _ in range(names.integer()):
+        child = f"{path.rstrip('/')}/{names.text()}"
         yield child
         yield from below(session, child, notices)
 
 
 def count_below(_server: Ensemble, session: Session, record: Record, notices: list[bytes]) -> bytes:
-    return struct.pack(">i", len(list(below(session, record.take_text(), notices))))
+    return struct.pack(">i", len(list(below(session, record.text(), notices))))
 
 
 def ephemerals(_server: Ensemble, session: Session, record: Record, _notices: list[bytes]) -> bytes:
-    prefix = record.take_text()
+    prefix = record.text()
     return put_texts(sorted(path for path in session.ephemerals if path.startswith(prefix)))
 
 
 def who_am_i(_server: Ensemble, session: Session, _record: Record, _notices: list[bytes]) -> bytes:
     ids = [*(("digest", user) for user in session.users), ("ip", "127.0.0.1")]
-    return struct.pack(">i", len(ids)) + b"".join(put_text(scheme) + put_text(one) for scheme, one in ids)
+    return struct.pack(">i", len(ids)) + b"".join(jute.text(scheme) + jute.text(one) for scheme, one in ids)
 
 
 def introduce(_server: Ensemble, session: Session, record: Record, _notices: list[bytes]) -> bytes:
     """Takes credentials."""
-    record.take_int()
-    if record.take_text() != "digest":
+    record.integer()
+    if record.text() != "digest":
         raise Refused(AUTH_FAILED)
-    session.users.append((record.take_buffer() or b"").decode(errors="replace").partition(":")[0])
+    session.users.append((record.buffer() or b"").decode(errors="replace").partition(":")[0])
     return b""
 
 
