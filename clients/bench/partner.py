@@ -16,8 +16,8 @@ from collections.abc import Iterator
 from typing import Any, Callable, NamedTuple, Optional
 
 __all__ = [
-    "CLOSE_SESSION", "EXISTS", "GET_DATA", "PASSWORD", "PING", "SET_WATCHES", "STAT", "WAIT", "Asked", "Connected", "Partner", "Peer", "RawServer",
-    "begin_making", "buffer", "data_reply", "framed", "notice", "reply", "text", "texts",
+    "CLOSE_SESSION", "EXISTS", "GET_DATA", "PASSWORD", "PING", "SET_WATCHES", "STAT", "WAIT", "Asked", "Connected", "Listener", "Partner", "Peer",
+    "RawServer", "begin_making", "buffer", "data_reply", "framed", "notice", "reply", "text", "texts",
 ]  # fmt: skip
 
 WAIT = 60.0
@@ -181,32 +181,46 @@ def data_reply(asked: Asked, data: bytes, zxid: int = 5) -> bytes:
     return reply(asked, buffer(data) + STAT, zxid=zxid)
 
 
-class RawServer:
-    """A server of which a test writes what it does: each connection is served by a function, in a thread of its own."""
+class Listener:
+    """What takes connections at a port of its own, in a thread of its own, until it is stopped."""
 
-    def __init__(self, serve: Callable[[Any], object], peer: type[Peer] = Peer) -> None:
-        self._serve, self._peer = serve, peer
+    def __init__(self) -> None:
         self._listener = socket.create_server(("127.0.0.1", 0))
-        self.host = f"127.0.0.1:{self._listener.getsockname()[1]}"
-        self.dials: list[float] = []
-        """The moments of the connections."""
-        self.ends: list[float] = []
-        """The moments at which connections have ended."""
+        self.port: int = self._listener.getsockname()[1]
+        self.host = f"127.0.0.1:{self.port}"
         threading.Thread(target=self._accept, daemon=True).start()
 
     def _accept(self) -> None:
         with contextlib.suppress(OSError):
             while True:
-                connection, _ = self._listener.accept()
-                self.dials.append(time.monotonic())
-                threading.Thread(target=self._run, args=(connection,), daemon=True).start()
+                self._take(self._listener.accept()[0])
 
-    def _run(self, connection: socket.socket) -> None:
-        with connection, contextlib.suppress(OSError):
-            self._serve(self._peer(connection))
-        self.ends.append(time.monotonic())
+    def _take(self, connection: socket.socket) -> None:
+        """Begins with a connection, and returns."""
+        raise NotImplementedError
 
     def stop(self) -> None:
         with contextlib.suppress(OSError):
             self._listener.shutdown(socket.SHUT_RDWR)
         self._listener.close()
+
+
+class RawServer(Listener):
+    """A server of which a test writes what it does: each connection is served by a function, in a thread of its own."""
+
+    def __init__(self, serve: Callable[[Any], object], peer: type[Peer] = Peer) -> None:
+        self._serve, self._peer = serve, peer
+        self.dials: list[float] = []
+        """The moments of the connections."""
+        self.ends: list[float] = []
+        """The moments at which connections have ended."""
+        super().__init__()
+
+    def _take(self, connection: socket.socket) -> None:
+        self.dials.append(time.monotonic())
+        threading.Thread(target=self._run, args=(connection,), daemon=True).start()
+
+    def _run(self, connection: socket.socket) -> None:
+        with connection, contextlib.suppress(OSError):
+            self._serve(self._peer(connection))
+        self.ends.append(time.monotonic())

@@ -21,7 +21,7 @@ from partner import WAIT, Partner, Peer, RawServer  # noqa: E402
 import dirwolleu  # noqa: E402
 from dirwolleu._clock import moment  # noqa: E402
 
-__all__ = ["CLIENTS", "LIMIT", "TIMEOUT", "ClientCase", "PartnerCase", "let_pass", "within"]
+__all__ = ["CLIENTS", "LIMIT", "TIMEOUT", "ClientCase", "PartnerCase", "let_pass", "passed_in_child", "within"]
 __all__ += partner.__all__
 
 partner.begin_making()  # before trials/test forks a process for each class: so all share it
@@ -51,6 +51,18 @@ def within(condition: Callable[[], Any], seconds: float = WAIT) -> Any:
             raise AssertionError("this has not come to pass in time")
         time.sleep(0.005)
     return answer
+
+
+def passed_in_child(calls: list[Callable[[], object]]) -> int:
+    """How many of these calls of a forked child do not raise an error that tells of the fork."""
+    passed = 0
+    for call in calls:
+        try:
+            call()
+            passed += 1
+        except (dirwolleu.ConnectionClosedError, dirwolleu.LockLostError) as error:
+            passed += "fork" not in str(error)
+    return passed
 
 
 class PartnerCase(unittest.TestCase):

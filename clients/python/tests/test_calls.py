@@ -17,7 +17,7 @@ from typing import Any, Callable
 from unittest import mock
 
 from both import in_thread
-from support import CLIENTS, GET_DATA, LIMIT, SET_WATCHES, WAIT, ClientCase, Peer, data_reply, let_pass, reply, within
+from support import CLIENTS, GET_DATA, LIMIT, SET_WATCHES, WAIT, ClientCase, Peer, data_reply, let_pass, passed_in_child, reply, within
 
 from dirwolleu import (
     CallTimeoutError,
@@ -589,15 +589,7 @@ asyncio.run(main())
         self.assertEqual(os.waitpid(child, 0)[1], 0)
 
     def try_in_child(self, client: Client) -> int:
-        failures = 0
-        calls: list[Callable[[], object]] = [
+        return passed_in_child([
             lambda: client.kept("/"), lambda: client.kept_children("/"), lambda: client.get_async("/"), client.sync,
             lambda: client.ensure_path("/a/b"), lambda: client.transaction().commit(),
-        ]  # fmt: skip
-        for call in calls:
-            try:
-                call()
-                failures += 1
-            except ConnectionClosedError as error:
-                failures += "fork" not in str(error)
-        return failures
+        ])  # fmt: skip

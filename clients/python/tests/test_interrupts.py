@@ -18,12 +18,12 @@ import time
 import unittest
 from collections.abc import Iterator
 from types import FrameType
-from typing import Any, Callable, Optional
+from typing import Any, Optional
 from unittest import mock
 
-from support import CLIENTS, WAIT, ClientCase, within
+from support import CLIENTS, WAIT, ClientCase, passed_in_child, within
 
-from dirwolleu import Barrier, Client, ConnectionClosedError, Counter, Held, Lock, LockLostError, Queue, Registration, State, WatchedEvent
+from dirwolleu import Barrier, Client, ConnectionClosedError, Counter, Held, Lock, Queue, Registration, State, WatchedEvent
 
 INTERRUPTED_CALLS, LONGEST = 100_000, 8.0
 
@@ -142,20 +142,13 @@ class ForkTest(InterruptedCase):
         held.check()
 
     def try_in_child(self, client: Client, held: Held, registration: Registration) -> int:
-        failures = 0
-        calls: list[Callable[[], object]] = [
+        failures = passed_in_child([
             lambda: client.get("/"), lambda: next(client.follow("/")), client.start, client.fresh,
             lambda: next(client.follow_children("/")), lambda: client.ensure_path_async("/a"),
             lambda: client.DataWatch("/a", print), lambda: Lock(client, "/lock").acquire(), held.release, held.check,
             registration.wait, lambda: registration.is_registered, registration.withdraw, lambda: Registration(client, "/x"),
             Barrier(client, "/barrier").wait, Counter(client, "/count").get, Queue(client, "/queue").get,
-        ]  # fmt: skip
-        for call in calls:
-            try:
-                call()
-                failures += 1
-            except (ConnectionClosedError, LockLostError) as error:
-                failures += "fork" not in str(error)
+        ])  # fmt: skip
         failures += held.is_held
         client.stop()
         client.close()

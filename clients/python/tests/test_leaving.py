@@ -16,7 +16,7 @@ from typing import Any, Callable, Optional
 from unittest import mock
 
 from both import AioCase, Blocking, BothCase
-from support import WAIT, within
+from support import WAIT, Listener, within
 
 from dirwolleu import ConnectionLoss, LockTimeout, MixedNamesError, aio
 from dirwolleu._steps import left_of
@@ -27,13 +27,11 @@ OUTAGE = 0.5
 """For how long there is no server after a cut, where there is none, in seconds."""
 
 
-class Relay:
+class Relay(Listener):
     """What stands between a client and a server: it cuts the connection at a request or at its answer, or keeps a request back, once."""
 
     def __init__(self, port: int) -> None:
-        self._port = port
-        self._listener = socket.create_server(("127.0.0.1", 0))
-        self.host = f"127.0.0.1:{self._listener.getsockname()[1]}"
+        self._server = port
         self.kind, self.at, self.outage, self.cuts = NONE, "", 0.0, 0
         self.kinds = list[int]()
         """The types of the requests that came since a cut was asked for."""
@@ -41,7 +39,7 @@ class Relay:
         self._opens_at = 0.0
         self.hear: Callable[[bytes], object] = lambda _: None
         """Is called with each request, before it passes."""
-        threading.Thread(target=self._accept, daemon=True).start()
+        super().__init__()
 
     def cut(self, kind: int, at: str, outage: float) -> None:
         """Cuts at the next request of this type, or at the answer to it; then there is no server for so long, or until `open`. With
@@ -54,21 +52,13 @@ class Relay:
         assert self._opens_at > time.monotonic()
         self._opens_at = 0.0
 
-    def stop(self) -> None:
-        with contextlib.suppress(OSError):
-            self._listener.shutdown(socket.SHUT_RDWR)
-        self._listener.close()
-
-    def _accept(self) -> None:
-        with contextlib.suppress(OSError):
-            while True:
-                client, _ = self._listener.accept()
-                if time.monotonic() < self._opens_at:
-                    client.close()
-                    continue
-                server = socket.create_connection(("127.0.0.1", self._port))
-                for ends, passes in (((client, server), self._passes_request), ((server, client), self._passes_answer)):
-                    threading.Thread(target=self._run, args=(*ends, passes), daemon=True).start()
+    def _take(self, connection: socket.socket) -> None:
+        if time.monotonic() < self._opens_at:
+            connection.close()
+            return
+        server = socket.create_connection(("127.0.0.1", self._server))
+        for ends, passes in (((connection, server), self._passes_request), ((server, connection), self._passes_answer)):
+            threading.Thread(target=self._run, args=(*ends, passes), daemon=True).start()
 
     def _run(self, source: socket.socket, target: socket.socket, passes: Callable[[bytes], Optional[bool]]) -> None:
         """Passes frames on until one does not pass, or an end is closed. One of which neither is said is left out."""

@@ -14,7 +14,7 @@ import threading
 import unittest
 from typing import Any, Optional
 
-from support import TIMEOUT, WAIT, Partner, PartnerCase, Peer, within
+from support import TIMEOUT, WAIT, Listener, Partner, PartnerCase, Peer, within
 
 from dirwolleu import Client, ConnectionClosedError, State, aio, tls_context
 from dirwolleu.kazoo._checks import own_key
@@ -53,20 +53,15 @@ class Authority:
         subprocess.run(["openssl", *words], check=True, capture_output=True, timeout=3 * WAIT)
 
 
-class Wrapper:
+class Wrapper(Listener):
     """A port at which TLS is spoken, in front of a partner."""
 
     def __init__(self, partner: Partner, context: ssl.SSLContext) -> None:
         self._partner, self._context = partner, context
-        self._listener = socket.create_server(("127.0.0.1", 0))
-        self.port = self._listener.getsockname()[1]
-        threading.Thread(target=self._accept, daemon=True).start()
+        super().__init__()
 
-    def _accept(self) -> None:
-        with contextlib.suppress(OSError):
-            while True:
-                connection, _ = self._listener.accept()
-                threading.Thread(target=self._serve, args=(connection,), daemon=True).start()
+    def _take(self, connection: socket.socket) -> None:
+        threading.Thread(target=self._serve, args=(connection,), daemon=True).start()
 
     def _serve(self, connection: socket.socket) -> None:
         with contextlib.suppress(OSError), connection:
@@ -82,11 +77,6 @@ class Wrapper:
                 sink.sendall(data)
         with contextlib.suppress(OSError):
             sink.shutdown(socket.SHUT_RDWR)
-
-    def stop(self) -> None:
-        with contextlib.suppress(OSError):
-            self._listener.shutdown(socket.SHUT_RDWR)
-        self._listener.close()
 
 
 @unittest.skipUnless(shutil.which("openssl"), "there is no openssl")
