@@ -8,7 +8,7 @@ import logging
 import sys
 
 import dirwolleu.aio
-from measure import AT_ONCE, DATA, NODE, mark, tell
+from measure import AT_ONCE, DATA, NODE, mark, tell, watcher
 
 
 async def ask_over(client, write, count, times):
@@ -34,15 +34,8 @@ async def ask_each(ask, count):
 
 
 async def measure_watches(client, count):
-    reports = 0
     all_reported = asyncio.Event()
-
-    def reported(event):
-        nonlocal reports
-        reports += event.type == "CHANGED"
-        if reports == count:
-            all_reported.set()
-
+    reported = watcher(count, all_reported)
     await ask_each(client.get_async, count)
     since = mark()
     await ask_each(lambda path: client.get_async(path, watch=reported), count)

@@ -1,4 +1,4 @@
-"""What the programs in Python share: the nodes, and what a phase took."""
+"""What the programs in Python share: the nodes, what watches report, and what a phase took."""
 
 import resource
 import time
@@ -6,6 +6,19 @@ import time
 NODE = "/real"
 DATA = b"0123456789" * 10
 AT_ONCE = 1000
+
+
+def watcher(count, all_reported):
+    """What a watch calls: it sets an event with the last of so many changes."""
+    reports = 0
+
+    def reported(event):
+        nonlocal reports
+        reports += event.type == "CHANGED"
+        if reports == count:
+            all_reported.set()
+
+    return reported
 
 
 def mark():

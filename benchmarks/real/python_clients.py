@@ -9,7 +9,7 @@ import operator
 import sys
 import threading
 
-from measure import AT_ONCE, DATA, NODE, mark, tell
+from measure import AT_ONCE, DATA, NODE, mark, tell, watcher
 
 # The module of each client, its class, and how its answers are taken.
 CLIENTS = {"kazoo": ("kazoo.client", "KazooClient", "get"), "dirwolleu": ("dirwolleu", "Client", "result")}
@@ -44,15 +44,8 @@ def measure_over(client, write, count, times):
 
 
 def measure_watches(client, count):
-    reports = 0
     all_reported = threading.Event()
-
-    def reported(event):
-        nonlocal reports
-        reports += event.type == "CHANGED"
-        if reports == count:
-            all_reported.set()
-
+    reported = watcher(count, all_reported)
     ask_each(client.get_async, count)
     since = mark()
     ask_each(lambda path: client.get_async(path, watch=reported), count)
