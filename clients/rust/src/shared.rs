@@ -387,28 +387,16 @@ pub(crate) fn ask<T>(shared: &Arc<Shared>, mut request: Request<T>) -> Ticket<T>
 
 #[cfg(test)]
 mod tests {
-    use super::{Engine, Shared, Writer};
-    use crate::engine::EngineOptions;
-    use crate::hosts::{DialOrder, Hosts};
-    use crate::machine::Limits;
+    use super::{Shared, Writer};
+    use crate::engine::tests::engine_at;
+    use crate::hosts::Hosts;
     use std::cell::Cell;
     use std::sync::atomic::{AtomicUsize, Ordering};
     use std::sync::{mpsc, Arc};
     use std::thread;
-    use std::time::Duration;
 
     fn shared() -> Arc<Shared> {
-        let options = EngineOptions {
-            timeout: Duration::from_secs(10),
-            limits: Limits::default(),
-            hosts: Hosts::default(),
-            order: DialOrder::Shuffled,
-            saved: None,
-            renews: true,
-            limit: None,
-            credentials: Vec::new(),
-        };
-        Shared::new(Engine::new(options).unwrap(), Writer::Passing, None)
+        Shared::new(engine_at(Hosts::default()), Writer::Passing, None)
     }
 
     #[test]

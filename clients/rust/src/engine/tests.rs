@@ -33,11 +33,12 @@ fn address() -> SocketAddr {
     SocketAddr::from(([127, 0, 0, 1], 1))
 }
 
-fn engine() -> Engine {
+/// One whose session renews itself.
+pub(crate) fn engine_at(hosts: Hosts) -> Engine {
     Engine::new(EngineOptions {
         timeout: Duration::from_secs(10),
         limits: Limits::default(),
-        hosts: Hosts::from(address()),
+        hosts,
         order: DialOrder::Shuffled,
         saved: None,
         renews: true,
@@ -45,6 +46,10 @@ fn engine() -> Engine {
         credentials: Vec::new(),
     })
     .unwrap()
+}
+
+fn engine() -> Engine {
+    engine_at(Hosts::from(address()))
 }
 
 /// A response that admits the session of this number with this timeout. Zeros say that it has expired.
