@@ -16,7 +16,7 @@ use crate::node::{Mode, Node, Stat};
 use crate::options::{OpenError, SessionOptions};
 use crate::paths;
 use crate::request::{LentRequest, Request};
-use crate::retry::{Retry, Tries};
+use crate::retry::{Retry, Terms};
 use crate::saved::SavedSession;
 use crate::semaphore::LeaseNumber;
 use crate::session_methods::{calls, look_ups, watch, Caller};
@@ -56,9 +56,7 @@ use std::time::{Duration, Instant};
 /// ```
 pub struct LocalSession {
     driver: Driver,
-    retry: Retry,
-    limit: Option<Duration>,
-    renews: bool,
+    terms: Terms,
 }
 
 /// How a session begins and ends.
@@ -77,18 +75,8 @@ impl LocalSession {
         SessionOptions::new(timeout).open_local(hosts)
     }
 
-    pub(crate) fn driven_by(
-        driver: Driver,
-        retry: Retry,
-        limit: Option<Duration>,
-        renews: bool,
-    ) -> LocalSession {
-        LocalSession {
-            driver,
-            retry,
-            limit,
-            renews,
-        }
+    pub(crate) fn driven_by(driver: Driver, terms: Terms) -> LocalSession {
+        LocalSession { driver, terms }
     }
 
     /// Goes on with a new machine, as [`Session::renew`](crate::Session::renew) does.
@@ -125,8 +113,8 @@ impl LocalSession {
     ///
     /// As [`Session::call`](crate::Session::call).
     pub fn call<T>(&mut self, mut request: Request<T>) -> Result<T, Error> {
-        let tries = Tries::of(self.retry, self.renews, request.limit.or(self.limit));
-        for pause in self.retry.pauses() {
+        let tries = self.terms.tries(request.limit);
+        for pause in self.terms.retry.pauses() {
             match self.call_once(&request.lend()) {
                 Err(error) if tries.goes_on(&request, &error, pause) => self.pass(pause)?,
                 answer => return answer,
@@ -139,7 +127,7 @@ impl LocalSession {
     /// The same of a request whose path and data need not be kept where it is asked once.
     #[inline]
     fn call_lent<T>(&mut self, request: LentRequest<'_, T>) -> Result<T, Error> {
-        if self.retry == Retry::never() {
+        if self.terms.retry == Retry::never() {
             return self.call_once(&request);
         }
         self.call(request.into())

@@ -11,7 +11,7 @@ use crate::local_session::LocalSession;
 use crate::machine::Limits;
 use crate::outbox::Writer;
 use crate::recording::Recorder;
-use crate::retry::Retry;
+use crate::retry::{Retry, Terms};
 use crate::sasl::{Begin, LogIn, LoggingIn};
 use crate::saved::SavedSession;
 use crate::session::Session;
@@ -114,9 +114,7 @@ impl From<Infallible> for OpenError {
 pub struct SessionOptions {
     timeout: Duration,
     order: DialOrder,
-    renews: bool,
-    pub(crate) retry: Retry,
-    pub(crate) limit: Option<Duration>,
+    terms: Terms,
     limits: Limits,
     saved: Option<SavedSession>,
     credentials: Vec<Credential>,
@@ -136,9 +134,7 @@ impl SessionOptions {
         SessionOptions {
             timeout,
             order: DialOrder::Shuffled,
-            renews: false,
-            retry: Retry::never(),
-            limit: None,
+            terms: Terms::default(),
             limits: Limits::default(),
             saved: None,
             credentials: Vec::new(),
@@ -165,13 +161,13 @@ impl SessionOptions {
     /// [`State(Expired)`](crate::Event::State) tells that the ephemeral nodes and the watches of the old one are gone. Calls that wait then
     /// are answered [`SessionExpired`](crate::NoReply::SessionExpired), unless they are asked again by [`retry`](SessionOptions::retry).
     pub fn renews(mut self, renews: bool) -> SessionOptions {
-        self.renews = renews;
+        self.terms.renews = renews;
         self
     }
 
     /// How often calls are asked again.
     pub fn retry(mut self, retry: Retry) -> SessionOptions {
-        self.retry = retry;
+        self.terms.retry = retry;
         self
     }
 
@@ -179,7 +175,7 @@ impl SessionOptions {
     /// it is the timeout of the session, and a second at least, each time that it is asked. [`Request::within`](crate::Request::within)
     /// says it of one call.
     pub fn limit(mut self, limit: Duration) -> SessionOptions {
-        self.limit = Some(limit);
+        self.terms.limit = Some(limit);
         self
     }
 
@@ -321,9 +317,8 @@ impl SessionOptions {
         H: TryInto<Hosts>,
         OpenError: From<H::Error>,
     {
-        let (retry, limit, renews) = (self.retry, self.limit, self.renews);
-        let driver = self.driver(hosts.try_into()?, Writer::Passing)?;
-        Session::driven_by(driver, retry, limit, renews).map_err(OpenError::Thread)
+        let (driver, terms) = self.begin(hosts.try_into()?, Writer::Passing)?;
+        Session::driven_by(driver, terms).map_err(OpenError::Thread)
     }
 
     /// Opens a session without a thread, for a loop of the program's own. It dials at the first call.
@@ -336,12 +331,11 @@ impl SessionOptions {
         H: TryInto<Hosts>,
         OpenError: From<H::Error>,
     {
-        let (retry, limit, renews) = (self.retry, self.limit, self.renews);
-        let driver = self.driver(hosts.try_into()?, Writer::Alone)?;
-        Ok(LocalSession::driven_by(driver, retry, limit, renews))
+        let (driver, terms) = self.begin(hosts.try_into()?, Writer::Alone)?;
+        Ok(LocalSession::driven_by(driver, terms))
     }
 
-    fn driver(self, hosts: Hosts, writer: Writer) -> Result<Driver, OpenError> {
+    fn begin(self, hosts: Hosts, writer: Writer) -> Result<(Driver, Terms), OpenError> {
         let saved = self.saved.clone();
         let mut engine = Engine::new(EngineOptions {
             timeout: self.timeout,
@@ -349,8 +343,8 @@ impl SessionOptions {
             hosts,
             order: self.order,
             saved: self.saved,
-            renews: self.renews,
-            limit: self.limit,
+            renews: self.terms.renews,
+            limit: self.terms.limit,
             credentials: self.credentials,
         })?;
         if let Some(file) = &self.record {
@@ -367,7 +361,7 @@ impl SessionOptions {
             }),
             None => dial,
         };
-        Ok(Driver::new(shared, dial, self.order))
+        Ok((Driver::new(shared, dial, self.order), self.terms))
     }
 }
 
@@ -377,9 +371,9 @@ impl fmt::Debug for SessionOptions {
         f.debug_struct("SessionOptions")
             .field("timeout", &self.timeout)
             .field("order", &self.order)
-            .field("renews", &self.renews)
-            .field("retry", &self.retry)
-            .field("limit", &self.limit)
+            .field("renews", &self.terms.renews)
+            .field("retry", &self.terms.retry)
+            .field("limit", &self.terms.limit)
             .field("limits", &self.limits)
             .field("saved", &self.saved)
             .finish_non_exhaustive()

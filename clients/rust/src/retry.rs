@@ -59,6 +59,27 @@ pub(crate) fn is_expired(error: &Error) -> bool {
     error.no_reply() == Some(NoReply::SessionExpired)
 }
 
+/// How the calls of a session are asked, unless they say otherwise.
+#[derive(Clone, Copy, Default)]
+pub(crate) struct Terms {
+    pub(crate) retry: Retry,
+    pub(crate) limit: Option<Duration>,
+    /// Whether another session goes on after an expiry.
+    pub(crate) renews: bool,
+}
+
+impl Terms {
+    /// The times of a call that has this limit. One that is asked once needs no look at the clock.
+    pub(crate) fn tries(self, limit: Option<Duration>) -> Tries {
+        let limit = limit.or(self.limit);
+        let limit = limit.filter(|_| self.retry != Retry::never());
+        Tries {
+            renews: self.renews,
+            until: limit.and_then(|limit| Instant::now().checked_add(limit)),
+        }
+    }
+}
+
 /// All times that a call is asked, within its limit.
 #[derive(Clone, Copy)]
 pub(crate) struct Tries {
@@ -67,13 +88,6 @@ pub(crate) struct Tries {
 }
 
 impl Tries {
-    /// Of a session that renews itself, or does not. A call that is asked once needs no look at the clock.
-    pub(crate) fn of(retry: Retry, renews: bool, limit: Option<Duration>) -> Tries {
-        let limit = limit.filter(|_| retry != Retry::never());
-        let until = limit.and_then(|limit| Instant::now().checked_add(limit));
-        Tries { renews, until }
-    }
-
     /// What is left of the limit, where there is one.
     pub(crate) fn left(self) -> Option<Duration> {
         let left = |until: Instant| until.saturating_duration_since(Instant::now());

@@ -16,7 +16,7 @@ use crate::node::{Mode, Node, Stat};
 use crate::options::{OpenError, SessionOptions};
 use crate::paths;
 use crate::request::{LentRequest, Request};
-use crate::retry::{is_expired, Retry, Tries};
+use crate::retry::{is_expired, Terms};
 use crate::saved::SavedSession;
 use crate::session_methods::{calls, look_ups, watch, Caller};
 use crate::shared::{ask, Poller, Shared};
@@ -74,9 +74,7 @@ const LATENESS: u32 = 6;
 /// ```
 pub struct Session {
     shared: Arc<Shared>,
-    retry: Retry,
-    limit: Option<Duration>,
-    renews: bool,
+    terms: Terms,
 }
 
 /// How a session begins and ends.
@@ -96,21 +94,11 @@ impl Session {
     }
 
     /// A session whose keeper runs in a thread.
-    pub(crate) fn driven_by(
-        driver: Driver,
-        retry: Retry,
-        limit: Option<Duration>,
-        renews: bool,
-    ) -> io::Result<Session> {
+    pub(crate) fn driven_by(driver: Driver, terms: Terms) -> io::Result<Session> {
         let shared = Arc::clone(driver.shared());
         let thread = Builder::new().name(String::from("dirwolleu"));
         thread.spawn(move || driver.run())?;
-        Ok(Session {
-            shared,
-            retry,
-            limit,
-            renews,
-        })
+        Ok(Session { shared, terms })
     }
 
     /// Waits until a server has accepted the session, for so long at most.
@@ -183,8 +171,8 @@ impl Session {
     /// [`ErrorKind::Fault`](crate::ErrorKind::Fault) of [`Fault::NotPath`], [`Fault::NoMemory`], [`Fault::Halted`],
     /// [`Fault::UnknownNumber`] or [`Fault::Panicked`]. [`QueueFull`](crate::ErrorKind::QueueFull) where too much waits to be written.
     pub fn call<T>(&self, mut request: Request<T>) -> Result<T, Error> {
-        let tries = Tries::of(self.retry, self.renews, request.limit.or(self.limit));
-        for pause in self.retry.pauses() {
+        let tries = self.terms.tries(request.limit);
+        for pause in self.terms.retry.pauses() {
             match self.ask(request.clone()).wait() {
                 Err(error) if tries.goes_on(&request, &error, pause) => thread::sleep(pause),
                 answer => return answer,
@@ -200,7 +188,7 @@ impl Session {
 
     /// Whether another session goes on after this error.
     pub(crate) fn lives_through(&self, error: &Error) -> bool {
-        self.renews && is_expired(error)
+        self.terms.renews && is_expired(error)
     }
 
     /// Begins a transaction: operations that happen together or not at all.
