@@ -83,7 +83,7 @@ static inline void turn_until_signal(dws_session *session)
     }
 }
 
-/* Goes on where a path is followed by now, else says why it is not, and frees the session. It answers what the program ends with. */
+/* Runs until a signal if the path is followed, else says why it is not; then frees the session. Returns the exit status. */
 static inline int go_on_with(const char *program, dws_session *session, enum dw_result result, const char *path)
 {
     char why[DWS_LONGEST_LINE];

@@ -50,7 +50,7 @@ static inline bool tls_expect(SSL *ssl, const char *host)
     return SSL_set1_host(ssl, host) == 1 && SSL_set_tlsext_host_name(ssl, host) == 1;
 }
 
-/* The connection, which begins with the first call; of what failed before, OpenSSL says nothing more. NULL where it can't begin. */
+/* The connection, which begins with the first call; of what failed before, OpenSSL says nothing more. NULL if it cannot begin. */
 static inline SSL *tls_of(dws_wire *wire, void *context)
 {
     if (wire->state == NULL) {

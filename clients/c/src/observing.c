@@ -30,6 +30,9 @@ static void dws_observe_event(dws_session *s, enum dws_event event, const char *
 
 void dws_observe_bytes(dws_session *s, enum dws_observed kind, size_t count)
 {
+    if (s->options.observe == NULL) {
+        return;
+    }
     dws_observation seen = dws_observation_of(kind);
     seen.bytes = count;
     dws_observe(s, &seen);
@@ -37,6 +40,9 @@ void dws_observe_bytes(dws_session *s, enum dws_observed kind, size_t count)
 
 void dws_observe_answer(dws_session *s, const dws_call *call)
 {
+    if (s->options.observe == NULL) {
+        return;
+    }
     dws_observation seen = dws_observation_of(DWS_SAW_ANSWER);
     seen.call = call;
     seen.path = call->path != NULL ? dws_inner(s, call->path) : NULL;

@@ -372,7 +372,7 @@ def _check_version(file: str, library: ctypes.PyDLL) -> None:
 
 
 def declare(file: str, library: ctypes.CDLL, functions: dict[str, tuple[Any, tuple[Any, ...]]]) -> None:
-    """Says what the functions of a library answer and take. Fails in words where it lacks one."""
+    """Declares what the functions of a library take and return. Raises `ImportError` if it lacks one."""
     for name, (result, parameters) in functions.items():
         function = getattr(library, name, None)
         if function is None:
