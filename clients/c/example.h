@@ -50,7 +50,7 @@ static inline void print_quoted(const char *bytes, size_t length)
     putchar('"');
 }
 
-/* Writes what was printed. A program that nobody can read ends. With musl a line end writes too, and where that fails fflush has nothing left. */
+/* Writes what was printed. A program that nobody can read ends. With musl a line end writes too, and if that fails fflush has nothing left. */
 static inline void flush_output(const char *program)
 {
     if (fflush(stdout) != 0 || ferror(stdout)) {

@@ -20,7 +20,7 @@
 #include <openssl/ssl.h>
 #include <openssl/x509v3.h>
 
-/* What admits servers whose certificates an authority of this file has signed; NULL where the file has none. */
+/* What admits servers whose certificates an authority of this file has signed; NULL if the file has none. */
 static inline SSL_CTX *tls_of_ca(const char *file)
 {
     SSL_CTX *made = SSL_CTX_new(TLS_client_method());

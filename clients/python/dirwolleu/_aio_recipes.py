@@ -79,7 +79,7 @@ class _Taker(BaseTaker["Client", Held]):
     async def acquire(self, timeout: Optional[float] = None) -> Held:
         """Waits until the lock is held, as `dirwolleu.Lock.acquire` does.
 
-        Raises `LockTimeout`. Where it is cancelled it leaves no contender.
+        Raises `LockTimeout`. If it is cancelled it leaves no contender.
         """
         return await self._client._drive(self._taking(timeout))
 
@@ -156,7 +156,7 @@ class Election:
         return await self._lock.contenders()
 
     async def leader(self) -> Optional[str]:
-        """The identifier of the one that leads, or None where nobody stands."""
+        """The identifier of the one that leads, or None if nobody stands."""
         return next(iter(await self._lock.contenders(1)), None)
 
 

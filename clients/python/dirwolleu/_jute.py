@@ -13,7 +13,7 @@ from dirwolleu.types import Stat
 Item = TypeVar("Item")
 _STAT = struct.Struct(">qqqqiiiqiiq")
 ERROR = -1
-"""Stands for an operation in a multi, where a part of it was refused, and at its end."""
+"""Stands for an operation in a multi, if a part of it was refused, and at its end."""
 
 
 class Malformed(Exception):

@@ -347,7 +347,7 @@ def _installed() -> Optional[str]:
 
 
 def _check_machine() -> None:
-    """Fails in words where the library can't run."""
+    """Fails in words if the library can't run."""
     system = os.uname() if hasattr(os, "uname") else None
     machine, name = (system.machine, system.sysname) if system else ("another machine", sys.platform)
     if (machine.lower(), name) not in (("x86_64", "Linux"), ("amd64", "Linux")):
@@ -362,7 +362,7 @@ def version_text(number: int) -> str:
 
 
 def _check_version(file: str, library: ctypes.PyDLL) -> None:
-    """Fails in words where the library is not of the version that this package was written for."""
+    """Fails in words if the library is not of the version that this package was written for."""
     function = getattr(library, "dw_version", None)
     found = version_text(function()) if function else "0.2.0 or earlier"
     if found != version_text(VERSION):
@@ -460,7 +460,7 @@ class UnknownNumber(RuntimeError):
 
 
 def known(what: str, number: int, among: Collection[int]) -> int:
-    """The number, where it is one of those that there are."""
+    """The number, if it is one of those that there are."""
     if number not in among:
         raise UnknownNumber(f"the library gives the {what} {number}, which this package does not know: take both of one version")
     return number

@@ -18,7 +18,7 @@ from dirwolleu.exceptions import CallTimeoutError, ZookeeperError
 Result = TypeVar("Result")
 
 SHORTEST_ASK = 1.0
-"""How long an answer is waited for at least, in seconds, where a wait has less left: so a wait of no time tries once."""
+"""How long an answer is waited for at least, in seconds, if a wait has less left: so a wait of no time tries once."""
 
 
 class Ask(NamedTuple):
@@ -41,7 +41,7 @@ class GetNews(NamedTuple):
 
 
 class Call(NamedTuple):
-    """Call a function of the program. Where it is a coroutine function of asyncio, what it answers is awaited."""
+    """Call a function of the program. If it is a coroutine function of asyncio, what it answers is awaited."""
 
     function: Callable[[], Any]
 
@@ -65,7 +65,7 @@ def until_of(seconds: Optional[float]) -> Optional[float]:
 
 
 def by_policy(request: Request[Any], retry: Optional[Retry], until: Optional[float]) -> Steps[Any]:
-    """Asks once, and again by a policy where there is one, up to a moment."""
+    """Asks once, and again by a policy if there is one, up to a moment."""
     if retry is None:
         return (yield Ask(request, left_of(until)))
     attempts = retry.attempts()

@@ -24,7 +24,7 @@ class _Grown:
     def __init__(self, engine: Engine, path: str, most: int) -> None:
         if checked_int("the bound of a tree", most, 64) < 1:
             raise ValueError("a tree has one node at least")
-        engine.kept(path)  # a ValueError where it is no path
+        engine.kept(path)  # a ValueError if it is no path
         self._engine = engine
         self._waiting: list[Callable[[], None]] = []
         self._tree_view = TreeView(engine, path, most, self._told)
@@ -37,7 +37,7 @@ class _Grown:
 
     @property
     def current(self) -> Optional[TreeSnapshot]:
-        """The newest snapshot, where nothing that the client was told since has ended it, else None.
+        """The newest snapshot, if nothing that the client was told since has ended it, else None.
 
         So it is the servers' tree at the client's last seen zxid.
         """
@@ -45,7 +45,7 @@ class _Grown:
 
     @property
     def trouble(self) -> Optional[Exception]:
-        """Why there is no newer snapshot, or None where that is only that reads are under way.
+        """Why there is no newer snapshot, or None if that is only that reads are under way.
 
         `NoNodeError`: there is no root. Another error of a server: what it refused to read. `ValueError`: there are more
         nodes than the tree was to have.
@@ -62,7 +62,7 @@ class _Grown:
             wake()
 
     def _first(self, timeout: Optional[float]) -> Steps[TreeSnapshot]:
-        """Waits for a snapshot where there is none."""
+        """Waits for a snapshot if there is none."""
         try:
             found = yield from bounded(self._next(None), until_of(timeout))
         except TimeIsOver:
@@ -119,7 +119,7 @@ class Tree(_Grown, AbstractContextManager["Tree"]):
         self.close()
 
     def wait(self, timeout: Optional[float] = None) -> TreeSnapshot:
-        """The newest snapshot. Where there is none yet it waits, for at most this many seconds: None is no bound.
+        """The newest snapshot. If there is none yet it waits, for at most this many seconds: None is no bound.
 
         Raises `CallTimeoutError` where none came in time, and the `trouble` that keeps it from coming.
         """
@@ -129,7 +129,7 @@ class Tree(_Grown, AbstractContextManager["Tree"]):
     def snapshots(self) -> Generator[TreeSnapshot, None, None]:
         """Yields the newest snapshot, and each newer one. Where several come between two of them, the last one is told.
 
-        It ends where the tree is closed or the client is stopped.
+        It ends if the tree is closed or the client is stopped.
         """
         told = None
         while (told := self._client._drive(self._next(told))) is not None:

@@ -483,7 +483,7 @@ class Client(Shown):
         threads = self._running.setdefault("threads", made)
         if threads is made:
             _started[weakref.ref(self, _started.pop)] = None
-            if ending.has_come():  # after the line above: where it comes later, it finds the client
+            if ending.has_come():  # after the line above: if it comes later, it finds the client
                 raise ConnectionClosedError("the program ends")
             made.start()
             return made

@@ -79,7 +79,7 @@ class _Taker(BaseTaker[Client, Held]):
         """Waits until the lock is held. It is not reentrant: who holds it and takes it again waits for itself.
 
         Raises `LockTimeout` after `timeout` seconds, and leaves no contender then; a timeout of 0 tries once. It waits until no
-        contender is left, for twice the timeout of the session at most, as where there is no connection; after that the core goes on to
+        contender is left, for twice the timeout of the session at most, as when there is no connection; after that the core goes on to
         delete it. Lost connections, expired sessions and calls without an answer are lived through: no `CallTimeoutError` is
         raised. Raises `MixedNamesError` if others contend by other names; `ConnectionClosedError` when the client is stopped;
         another `ZookeeperError` if a server refuses to make or to show the nodes, and one that says so when their numbers at
@@ -104,10 +104,10 @@ class Lock(_Taker, BaseLock[Client, Held]):
     kind of `names`: kazoo's or Curator's.
 
     The contenders are ephemeral nodes below the path, in the order of their numbers. The proved core contends: it makes the
-    node, finds it again where an answer was lost, watches it and the last one before it, and deletes it when the lock is
+    node, finds it again if an answer was lost, watches it and the last one before it, and deletes it when the lock is
     released or a wait ends. It says whether the node holds, and by which token: no other one was before it in a listing
     that was answered after it was made, and it is there, at the last seen zxid. After an expiry a wait goes on by another
-    node. What is proved is so where all contenders at the path are made as these are, and by fewer than 2,147,483,648
+    node. What is proved is so if all contenders at the path are made as these are, and by fewer than 2,147,483,648
     creates; what is here, which waits for what the core tells, is tested.
 
     With `names="kazoo"` kazoo's `Lock`, and those of Dirwolleu in C and Rust by these names, are in the same line; with
@@ -121,7 +121,7 @@ class Lock(_Taker, BaseLock[Client, Held]):
     in small steps, `check` before each, and hand the `token` on. `on_lost` is called once, in the thread of the
     callbacks, when the lock is lost: with the connection, the session or the node. With `keeps_while_suspended` a lost
     connection alone does not end it, as long as the session goes on: it is held as of the last seen zxid, and `check(within)`
-    says when that is too long ago. What was lost once stays lost: release it. Where the node is gone, or its data were set, the
+    says when that is too long ago. What was lost once stays lost: release it. If the node is gone, or its data were set, the
     core does not take it again, and another one may hold.
 
         lock = dirwolleu.Lock(client, "/locks/job", identifier="host-1")
@@ -212,7 +212,7 @@ class Election:
         """Waits until this candidate leads, calls a function with the lock that it holds, and answers what that does. Before that
         it raises what `Lock.acquire` raises.
 
-        Leadership ends with the function. It is for the function to `check`, and to return where the lock is lost.
+        Leadership ends with the function. It is for the function to `check`, and to return if the lock is lost.
         """
         with self._lock as held:
             return lead(held)
@@ -222,7 +222,7 @@ class Election:
         return self._lock.contenders()
 
     def leader(self) -> Optional[str]:
-        """The identifier of the one that leads, or None where nobody stands. Whoever asks need not stand: it is a look at the nodes of a moment."""
+        """The identifier of the one that leads, or None if nobody stands. Whoever asks need not stand: it is a look at the nodes of a moment."""
         return next(iter(self._lock.contenders(1)), None)
 
 
@@ -230,7 +230,7 @@ class Registration(BaseRegistration[Client], AbstractContextManager["Registratio
     """An ephemeral node that is made again in each new session, until it is withdrawn.
 
     A node of an earlier session of this program is waited for until it is gone. Where somebody deletes the node, it is
-    made again, and where somebody sets other data, these are set again. The thread of the callbacks sees to it, and is
+    made again, and if somebody sets other data, these are set again. The thread of the callbacks sees to it, and is
     not held up by it.
 
         with dirwolleu.Registration(client, "/workers/host-1", b"10.0.0.1:80") as registration:
@@ -288,7 +288,7 @@ class Counter(BaseCounter[Client, Number]):
     """A number that is changed by compare and set, by the node of kazoo's `Counter`: an int or a float, as `default` is.
 
     Each change happens once, whoever else changes the number. Where the answer to one was lost it is looked for: if it
-    has not happened, it is asked again; where that can't be told, `ConnectionLoss` says that it may have happened.
+    has not happened, it is asked again; if that can't be told, `ConnectionLoss` says that it may have happened.
 
         counter = dirwolleu.Counter(client, "/jobs", default=0)
         before = counter.get()
@@ -309,21 +309,21 @@ class Counter(BaseCounter[Client, Number]):
         return self._client._drive(self._getting())
 
     def add(self, number: Number) -> Number:
-        """Adds a number, and answers what it comes to. Raises `TypeError`, and changes nothing, where a counter of ints would have no int."""
+        """Adds a number, and answers what it comes to. Raises `TypeError`, and changes nothing, if a counter of ints would have no int."""
         return self.change(lambda current: cast(Number, current + number))
 
     def change(self, function: Callable[[Number], Number]) -> Number:
         """Sets the number to what a function makes of it, and answers that.
 
-        The function is called again where another client was first. Raises `TypeError` as `add` does.
+        The function is called again if another client was first. Raises `TypeError` as `add` does.
         """
         return self._client._drive(self._changing(function))
 
 
 class Queue(BaseQueue[Client]):
-    """Entries that each go to one of those that take them: by priority, where 0 is first, then in the order of making.
+    """Entries that each go to one of those that take them: by priority, 0 first, then in the order of making.
 
-    An entry that was put is there once, also where an answer was lost. It is deleted before it is worked on: where its
+    An entry that was put is there once, even if an answer was lost. It is deleted before it is worked on: if its
     taker ends then, nobody works on it. For work that must not be lost, see the queue of docs/COOKBOOK.md, which deletes
     after the work. The nodes have the names of kazoo's `Queue`, with a tag more.
 

@@ -34,7 +34,7 @@ use std::time::{Duration, Instant};
 /// thread's at a time. [`Session`](crate::Session) is the same with a thread, and says how both dial and wait.
 ///
 /// Call [`next_event`](LocalSession::next_event) at least once in a third of the timeout. A program that comes later than that keeps its
-/// connection where the server has sent something meanwhile. What is not asked for waits as an [`Event`].
+/// connection if the server has sent something meanwhile. What is not asked for waits as an [`Event`].
 ///
 /// A call waits for a connection, and then for its answer, to its limit at most, as those of a [`Session`](crate::Session).
 ///
@@ -107,7 +107,7 @@ impl LocalSession {
 impl LocalSession {
     calls! { self: [&mut self] self }
 
-    /// Asks a request, waits for its answer, and asks again where the session's [`Retry`] says so.
+    /// Asks a request, waits for its answer, and asks again if the session's [`Retry`] says so.
     ///
     /// # Errors
     ///
@@ -124,7 +124,7 @@ impl LocalSession {
         self.call_once(&request.lend())
     }
 
-    /// The same of a request whose path and data need not be kept where it is asked once.
+    /// The same of a request whose path and data need not be kept if it is asked once.
     #[inline]
     fn call_lent<T>(&mut self, request: LentRequest<'_, T>) -> Result<T, Error> {
         if self.terms.retry == Retry::never() {
@@ -170,7 +170,7 @@ impl LocalSession {
     ///
     /// # Errors
     ///
-    /// As [`call`](LocalSession::call), and as [`Semaphore::acquire`](crate::Semaphore::acquire) where the node says something else.
+    /// As [`call`](LocalSession::call), and as [`Semaphore::acquire`](crate::Semaphore::acquire) if the node says something else.
     pub fn contend_for_lease(
         &mut self,
         path: &str,
@@ -219,13 +219,13 @@ impl LocalSession {
         self.driver.shared()
     }
 
-    /// The state. None where something was due on the connection and this program has not come to do it: then nobody knows whether there
+    /// The state. `None` if something was due on the connection and this program has not come to do it: then nobody knows whether there
     /// is a session still. Call [`next_event`](LocalSession::next_event) to learn it.
     pub fn state(&self) -> Option<State> {
         self.inner().look(|engine| engine.state(Duration::ZERO))
     }
 
-    /// The next event: one that waits, or the first that comes until this instant, and none where none has come by then. Without an
+    /// The next event: one that waits, or the first that comes until this instant, or `None` if none has come by then. Without an
     /// instant it waits until there is one. Once the session has expired or is closed, and no event waits, there is none.
     ///
     /// It may wait for longer by as much as an attempt to connect takes: a third of the timeout at most, or a second, and the time in which
@@ -262,7 +262,7 @@ impl LocalSession {
         self.bounded_tree(path, MOST_NODES)
     }
 
-    /// The same, of this many nodes at most: where there are more, that is its [`trouble`](LocalTree::trouble), until there are fewer.
+    /// The same, of this many nodes at most: if there are more, that is its [`trouble`](LocalTree::trouble), until there are fewer.
     ///
     /// # Errors
     ///
@@ -272,7 +272,7 @@ impl LocalSession {
         Ok(LocalTree::new(shown))
     }
 
-    /// The next snapshot of a tree of this session: one that was not given yet, or the first that comes until this instant, and none where
+    /// The next snapshot of a tree of this session: one that was not given yet, or the first that comes until this instant, or `None` if
     /// none has come by then. Without an instant it waits until there is one. Once the session is closed there is none.
     ///
     /// # Errors
@@ -307,7 +307,7 @@ impl LocalSession {
     ///
     /// # Errors
     ///
-    /// The hosts, where they have another chroot.
+    /// The hosts, if they have another chroot.
     pub fn change_hosts(&mut self, hosts: Hosts) -> Result<(), Hosts> {
         self.inner().with(|engine| engine.change_hosts(hosts))
     }

@@ -157,7 +157,7 @@ impl SessionOptions {
         self
     }
 
-    /// Whether a new session begins by itself where one has expired. None does, unless this says otherwise. The event
+    /// Whether a new session begins by itself if one has expired. None does, unless this says otherwise. The event
     /// [`State(Expired)`](crate::Event::State) tells that the ephemeral nodes and the watches of the old one are gone. Calls that wait then
     /// are answered [`SessionExpired`](crate::NoReply::SessionExpired), unless they are asked again by [`retry`](SessionOptions::retry).
     pub fn renews(mut self, renews: bool) -> SessionOptions {
@@ -194,7 +194,7 @@ impl SessionOptions {
         self
     }
 
-    /// Who the session is, in the words of a scheme, as `digest` and `user:password`: told on each connection before anything else. Where a
+    /// Who the session is, in the words of a scheme, as `digest` and `user:password`: told on each connection before anything else. If a
     /// server does not take it, the session is over: [`Event::CredentialsRefused`](crate::Event::CredentialsRefused) comes, its state is
     /// [`State::Closed`](crate::State::Closed), each call fails with [`Code::AUTH_FAILED`](crate::Code::AUTH_FAILED), it dials no more, and it
     /// forgets its credentials. Credentials cross the network as they are: use TLS.

@@ -22,7 +22,7 @@ fn spread(longest: Duration, random: u64) -> Duration {
 /// How often a call is asked again that has failed for a reason that passes ([`Error::is_passing`](crate::Error::is_passing)).
 ///
 /// A read that is lost with its connection is asked again without it, within its limit. With it a read is asked again after each such error,
-/// and where the session renews itself, after an expiry. A write is asked again only where nothing has happened for sure: it was not sent, or the
+/// and if the session renews itself, after an expiry. A write is asked again only if nothing has happened for sure: it was not sent, or the
 /// server has refused it. One that [may have happened](crate::Error::may_have_happened) is never asked twice: its caller is told.
 ///
 /// ```
@@ -88,7 +88,7 @@ pub(crate) struct Tries {
 }
 
 impl Tries {
-    /// What is left of the limit, where there is one.
+    /// What is left of the limit, if there is one.
     pub(crate) fn left(self) -> Option<Duration> {
         let left = |until: Instant| until.saturating_duration_since(Instant::now());
         self.until.map(left)

@@ -40,7 +40,7 @@ const LATENESS: u32 = 6;
 /// calls wait and how long, and what becomes of them where the connection ends, the proved core decides: it is a [`Machine`](crate::Machine)
 /// with sockets, a lock and a clock.
 ///
-/// It dials at once: one of its [`Hosts`] after the other, in an order that is random in each session, and goes on to the next one where
+/// It dials at once: one of its [`Hosts`] after the other, in an order that is random in each session, and goes on to the next one if
 /// a server is silent or the connection ends. Watches and what is kept go on over reconnects. An attempt may take a third of the timeout,
 /// and a second at least. The pause after one that has failed is random, between a half of this and the whole: 100 milliseconds, and twice
 /// as long after each further one, up to a second and to a tenth of the timeout; and up to a second once there was no connection for
@@ -53,7 +53,7 @@ const LATENESS: u32 = 6;
 /// that takes as long as the limit of the call at most: the one that its [`Request`] has, else that of
 /// [`SessionOptions::limit`], else the timeout of the session, and a second at least.
 ///
-/// Where a call, a ping or the request for the session has no answer after two thirds of the timeout, and a second at least, whatever else
+/// If a call, a ping or the request for the session has no answer after two thirds of the timeout, and a second at least, whatever else
 /// the server sends, the connection is over. That time includes the writing, so a server that reads slowly is left too.
 ///
 /// All functions take `&self`, and threads may call them at once: [`shared`](Session::shared) gives handles to hand to them. To let a
@@ -117,7 +117,7 @@ impl Session {
         }
     }
 
-    /// Goes on with a new machine, which keeps and watches nothing: of a new session where this one has expired or is closed, at servers
+    /// Goes on with a new machine, which keeps and watches nothing: of a new session if this one has expired or is closed, at servers
     /// that are not behind what was seen, and else of the same session, as after [`Fault::Halted`].
     ///
     /// # Errors
@@ -131,7 +131,7 @@ impl Session {
 
     /// Ends the session, with its ephemeral nodes. A session that is over already is no error.
     ///
-    /// It waits for the server's word, as a call waits for its answer; and for a second at most where no server has accepted the session, or
+    /// It waits for the server's word, as a call waits for its answer; and for a second at most if no server has accepted the session, or
     /// the connection is lost. Then it is an error, and the session is left to its timeout at the servers.
     ///
     /// # Errors
@@ -160,16 +160,16 @@ impl Drop for Session {
 impl Session {
     calls! { self: [&self] &mut &*self }
 
-    /// Asks a request, waits for its answer, and asks again where the session's [`Retry`] says so.
+    /// Asks a request, waits for its answer, and asks again if the session's [`Retry`] says so.
     ///
     /// # Errors
     ///
-    /// [`ErrorKind::Server`](crate::ErrorKind::Server) where the server refuses it, [`ErrorKind::NoReply`](crate::ErrorKind::NoReply) with why
-    /// there is no reply, [`ErrorKind::TimedOut`](crate::ErrorKind::TimedOut) where its limit has come after it was sent, so that a write
-    /// may have happened, or may yet; where it was not sent, and never is, [`NotConnected`](crate::NoReply::NotConnected), or
+    /// [`ErrorKind::Server`](crate::ErrorKind::Server) if the server refuses it, [`ErrorKind::NoReply`](crate::ErrorKind::NoReply) with why
+    /// there is no reply, [`ErrorKind::TimedOut`](crate::ErrorKind::TimedOut) if its limit has come after it was sent, so that a write
+    /// may have happened, or may yet; if it was not sent, and never is, [`NotConnected`](crate::NoReply::NotConnected), or
     /// [`TooManyPending`](crate::NoReply::TooManyPending) with a connection; and
     /// [`ErrorKind::Fault`](crate::ErrorKind::Fault) of [`Fault::NotPath`], [`Fault::NoMemory`], [`Fault::Halted`],
-    /// [`Fault::UnknownNumber`] or [`Fault::Panicked`]. [`QueueFull`](crate::ErrorKind::QueueFull) where too much waits to be written.
+    /// [`Fault::UnknownNumber`] or [`Fault::Panicked`]. [`QueueFull`](crate::ErrorKind::QueueFull) if too much waits to be written.
     pub fn call<T>(&self, mut request: Request<T>) -> Result<T, Error> {
         let tries = self.terms.tries(request.limit);
         for pause in self.terms.retry.pauses() {
@@ -222,17 +222,17 @@ impl Caller for &Session {
 impl Session {
     look_ups! {}
 
-    /// The state. None where something was due on the connection for more than a sixth of the timeout and the session's thread has not
-    /// come to do it, as where the process was stopped, or that thread has panicked: then nobody knows.
+    /// The state. `None` if something was due on the connection for more than a sixth of the timeout and the session's thread has not
+    /// come to do it, as when the process was stopped, or that thread has panicked: then nobody knows.
     pub fn state(&self) -> Option<State> {
         self.shared
             .look(|engine| engine.state(engine.machine().timeout() / LATENESS))
     }
 
-    /// The next event: one that waits, or the first that comes until this instant, and none where none has come by then. Without an
+    /// The next event: one that waits, or the first that comes until this instant, or `None` if none has come by then. Without an
     /// instant it waits until there is one. Once the session has expired or is closed, and no event waits, there is none.
     ///
-    /// Each event is told once: where several threads ask, to one of them. Of the events that nobody takes the last 1,024 are kept.
+    /// Each event is told once: if several threads ask, to one of them. Of the events that nobody takes the last 1,024 are kept.
     ///
     /// # Errors
     ///
@@ -261,12 +261,12 @@ impl Session {
         self.shared.poller()
     }
 
-    /// Follows a node: the iterator waits, and gives what the node holds at first, and at each change, also where it changed while there
+    /// Follows a node: the iterator waits, and gives what the node holds at first, and at each change, even if it changed while there
     /// was no connection. Changes in quick succession may be given as one, the last. The core reads the node again after each report, on
-    /// a new connection where that is needed, and in each new session, and gives what is good. It takes no events.
+    /// a new connection if that is needed, and in each new session, and gives what is good. It takes no events.
     ///
-    /// Where the server refuses a read for a reason that does not pass, that is given once, as an error, and the node is read again each
-    /// second: what comes then is given too. It ends where the session is closed, or after an error that says why the session is over:
+    /// If the server refuses a read for a reason that does not pass, that is given once, as an error, and the node is read again each
+    /// second: what comes then is given too. It ends if the session is closed, or after an error that says why the session is over:
     /// [`SessionExpired`](crate::NoReply::SessionExpired) unless the session [renews](SessionOptions::renews) itself.
     ///
     /// ```no_run
@@ -277,7 +277,7 @@ impl Session {
     /// let session = SessionOptions::new(Duration::from_secs(10)).renews(true).open("127.0.0.1:2181")?;
     /// for node in session.follow("/config") {
     ///     match node {
-    ///         Ok(node) => println!("{:?}", node.map(|node| node.data)), // none where there is no node
+    ///         Ok(node) => println!("{:?}", node.map(|node| node.data)), // none if there is no node
     ///         Err(error) => eprintln!("{error}"),
     ///     }
     /// }
@@ -289,7 +289,7 @@ impl Session {
     }
 
     /// Follows all nodes at and below a path, of which there are 65,536 at most: they are read with watches, and what changes is read
-    /// again, until the [`Tree`] is dropped. Where no node of the path is there, its making is waited for.
+    /// again, until the [`Tree`] is dropped. If no node of the path is there, its making is waited for.
     ///
     /// ```no_run
     /// use dirwolleu::Session;
@@ -315,7 +315,7 @@ impl Session {
         self.bounded_tree(path, MOST_NODES)
     }
 
-    /// The same, of this many nodes at most: where there are more, that is its [`trouble`](Tree::trouble), until there are fewer.
+    /// The same, of this many nodes at most: if there are more, that is its [`trouble`](Tree::trouble), until there are fewer.
     ///
     /// # Errors
     ///
@@ -346,7 +346,7 @@ impl Session {
     ///
     /// # Errors
     ///
-    /// The hosts, where they have another chroot than the session: then nothing is changed.
+    /// The hosts, if they have another chroot than the session: then nothing is changed.
     pub fn change_hosts(&self, hosts: Hosts) -> Result<(), Hosts> {
         let changed = self.shared.with(|engine| engine.change_hosts(hosts));
         self.shared.wake();

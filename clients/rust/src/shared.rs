@@ -125,7 +125,7 @@ impl Shared {
         }
     }
 
-    /// The same where there may be something to be told.
+    /// The same if there may be something to be told.
     #[inline(never)]
     fn hand_out(&self, mut engine: MutexGuard<'_, Engine>, outbox: Option<Arc<Outbox>>) {
         let news = engine.take_news();

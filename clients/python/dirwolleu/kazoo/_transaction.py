@@ -48,12 +48,12 @@ class TransactionRequest(AbstractContextManager["TransactionRequest"]):
         self._add(Create(checked_path(path), value, own_acls(acl), Mode(ephemeral, sequence).flags))
 
     def delete(self, path: str, version: int = -1) -> None:
-        """Deletes a node of this version, where -1 is any. Its result is True."""
+        """Deletes a node of this version (-1: any). Its result is True."""
         check("version", version, int, "int")
         self._add(Delete(checked_path(path), version))
 
     def set_data(self, path: str, value: bytes, version: int = -1) -> None:
-        """Sets the data of a node of this version, where -1 is any. Its result is the node's `ZnodeStat`."""
+        """Sets the data of a node of this version (-1: any). Its result is the node's `ZnodeStat`."""
         check("value", value, bytes, "must be a byte string")
         check("version", version, int, "int")
         self._add(SetData(checked_path(path), value, version))
@@ -66,7 +66,7 @@ class TransactionRequest(AbstractContextManager["TransactionRequest"]):
     def commit(self) -> list[Any]:
         """Does all of it, and tells what each operation has brought.
 
-        Where one is refused, nothing has happened, and the results are errors: that of the one which was refused,
+        If one is refused, nothing has happened, and the results are errors: that of the one which was refused,
         `RolledBackError` for those before it and `RuntimeInconsistency` for those after it. None is raised.
         """
         results: list[Any] = self.commit_async().get()

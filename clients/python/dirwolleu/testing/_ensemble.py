@@ -214,7 +214,7 @@ class Ensemble:
         return await self.obey_word(line.split()) or f"unknown: {line.strip()}"
 
     async def obey_word(self, words: list[str]) -> Optional[str]:
-        """Does another command. Answers none where it is unknown."""
+        """Does another command. Answers none if it is unknown."""
         if words == ["connections"]:
             return str(self.came)
         if words == ["drop"]:

@@ -52,7 +52,7 @@ class _News:
 class Lock:
     """An exclusive lock: of those that contend at a path, one holds at a time.
 
-    It is not reentrant. It is held where the proved core says so, as of the last seen zxid, and waits for all contenders with names of
+    It is not reentrant. It is held if the proved core says so, as of the last seen zxid, and waits for all contenders with names of
     kazoo. Beside contenders with names of Curator `acquire` raises an error, which says whose they are: those do not see this one.
     `extra_lock_patterns` of others than kazoo raise `ConfigurationError`. A program that was paused may believe that it holds when another
     one does: see `dirwolleu.Lock`, which has a token against that.
@@ -99,7 +99,7 @@ class Lock:
         """Takes the lock, and answers whether it has.
 
         Where `blocking` is false, it tries once. Raises `LockTimeout` where the one before it is there after `timeout`
-        seconds; it answers False where that time has passed otherwise. No contender is left then. Raises `ConfigurationError`
+        seconds; it answers False if that time has passed otherwise. No contender is left then. Raises `ConfigurationError`
         where the node is not to be `ephemeral`.
         """
         if not ephemeral:
