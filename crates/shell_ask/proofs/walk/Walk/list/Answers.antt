@@ -22,9 +22,9 @@ returns-then-is_done-clause-some g c =
     let heard =
     heard_of bounds old spot coming last c.requires.room c.requires.listed c.in_ok-came.ensures.heard c.in_ok-came.ensures.runs in
     let done = c.is_done.ensures.done c.if-is_done.true in
-    IfOk-weaker c.open.result _ _
+    IfOk-weaker c.open-opened.result _ _
     (λ ending found. IfSome_then ending found
-    (λ e m. (misnamed bounds old spot coming last m.0 m.1 (ending_view e) heard done m.2 m.3 m.4 m.5, m.6))) c.open.ensures.some
+    (λ e m. (misnamed bounds old spot coming last m.0 m.1 (ending_view e) heard done m.2 m.3 m.4 m.5, m.6))) c.open-opened.ensures.some
 
 pub returns-then-is_done-clause-none : goal.returns-then-is_done-clause-none
 returns-then-is_done-clause-none g c =
@@ -38,9 +38,9 @@ returns-then-is_done-clause-none g c =
     let heard =
     heard_of bounds old spot coming last c.requires.room c.requires.listed c.in_ok-came.ensures.heard c.in_ok-came.ensures.runs in
     let done = c.is_done.ensures.done c.if-is_done.true in
-    IfOk-weaker c.open.result _ _
+    IfOk-weaker c.open-opened.result _ _
     (λ ending found. if_none ending found (λ m. prints_node spot old.waiting coming last m.0 heard done m.1 (refl, m.2, m.3)))
-    c.open.ensures.none
+    c.open-opened.ensures.none
 
 pub returns-then-is_gone-clause-none : goal.returns-then-is_gone-clause-none
 returns-then-is_gone-clause-none g c =
