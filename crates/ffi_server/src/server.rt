@@ -51,7 +51,11 @@ impl MemoryServer {
             drop(change);
             return Err(why);
         }
-        if now_ms > i64::MAX as u64 || self.bench.history().last_zxid() == i64::MAX {
+        if now_ms > i64::MAX as u64 {
+            drop(change);
+            return Err(Undone::NoTransaction);
+        }
+        if self.bench.history().last_zxid() == i64::MAX {
             drop(change);
             return Err(Undone::NoTransaction);
         }
