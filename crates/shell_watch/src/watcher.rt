@@ -227,7 +227,8 @@ impl<'a, A: Allocator + Copy, D: Dial + Drop, C: Clock + Drop> Watcher<'a, A, D,
         self.note(&turn);
         let is_over = is_come(&turn);
         drop(turn);
-        Ok((is_over, printed?))
+        let text = printed?;
+        Ok((is_over, text))
     }
 
     /// One turn, which is printed. Whether the moment has come, and nothing waits to be told.

@@ -23,5 +23,5 @@ returns g c =
     (subst (λ t. OnOk c.follow.result (Hands (happens.Follow t aim.0 aim.1) (course_of first None) (course_of last None)))
     c.in-Some.ensures.ticket
     (subst (λ (p : Text). OnOk c.follow.result (Hands (happens.Follow c.in-Some.ticket aim.0 p) (course_of first None)
-    (course_of last None))) c.in-Ok.ensures c.follow.ensures.hands))
+    (course_of last None))) c.in-Ok-copy_of.ensures c.follow.ensures.hands))
     c.follow.ensures.flows
