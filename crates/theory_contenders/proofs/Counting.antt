@@ -22,13 +22,9 @@ use Rattle.theory_contenders.proofs.Coming.{Makes, Comes, comes}
 abbrev HasParent : NodePath → Tree → Type 0
 HasParent dir tree = (name : Name) (node : Node) → tree (name ∷ dir) ≡ Some node → is_some (tree dir) ≡ true
 
-some_regrouped : (z : ℕ) (o : Option Node) → is_some (option_map (regrouped z) o) ≡ is_some o
-some_regrouped z None = refl
-some_regrouped z (Some node) = refl
-
-some_written : (z : ℕ) (t : ℤ) (content : Option (List ℕ)) (o : Option Node) → is_some (option_map (written z t content) o) ≡ is_some o
-some_written z t content None = refl
-some_written z t content (Some node) = refl
+pub some_mapped : (f : Node → Node) (o : Option Node) → is_some (option_map f o) ≡ is_some o
+some_mapped f None = refl
+some_mapped f (Some node) = refl
 
 remains : (z : ℕ) (t : ℤ) (c : Change) (tree : Tree) (path : NodePath) → is_some (tree path) ≡ true → (c ≡ Deletes path → ⊥)
     → is_some (apply z t c tree path) ≡ true
@@ -39,12 +35,12 @@ remains z t (Creates (name ∷ above) content owner) tree path there kept =
     go : (b : Bool) → path_eq path (name ∷ above) ≡ b → (d : Bool) → path_eq path above ≡ d
         → is_some (apply z t (Creates (name ∷ above) content owner) tree path) ≡ true
     go true f d g = rw f refl
-    go false f true g = rw (f, g) (some_regrouped z (tree path) ∙ there)
+    go false f true g = rw (f, g) (some_mapped (regrouped z) (tree path) ∙ there)
     go false f false g = rw (f, g) there
 remains z t (Sets at content) tree path there kept = go (path_eq path at) refl
   where
     go : (b : Bool) → path_eq path at ≡ b → is_some (apply z t (Sets at content) tree path) ≡ true
-    go true f = rw f (some_written z t content (tree path) ∙ there)
+    go true f = rw f (some_mapped (written z t content) (tree path) ∙ there)
     go false f = rw f there
 remains z t (Deletes []) tree path there kept = there
 remains z t (Deletes (name ∷ above)) tree path there kept = go (path_eq path (name ∷ above)) refl (path_eq path above) refl
@@ -52,7 +48,7 @@ remains z t (Deletes (name ∷ above)) tree path there kept = go (path_eq path (
     go : (b : Bool) → path_eq path (name ∷ above) ≡ b → (d : Bool) → path_eq path above ≡ d
         → is_some (apply z t (Deletes (name ∷ above)) tree path) ≡ true
     go true f d g = absurd (kept (ap (λ (p : NodePath). Deletes p) (sym (path_eq-true path (name ∷ above) f))))
-    go false f true g = rw (f, g) (some_regrouped z (tree path) ∙ there)
+    go false f true g = rw (f, g) (some_mapped (regrouped z) (tree path) ∙ there)
     go false f false g = rw (f, g) there
 
 -- nothing is below a node that may be deleted

@@ -1,10 +1,13 @@
 -- The history of the two places: it is one, its names come from sequential creates, and what is there was made by one of its creates.
 use Rattle.std.proofs.Common.{◌≡◌, ◌≤◌, ◌&&◌, ℕ, ℤ, pos, Bool, true, false, List, [], ◌∷◌, refl, sym, ap, subst, arith, inl, inr, ◌⊎◌, ◌∙◌}
 use Rattle.std.proofs.Common.{Option, Some, None, length, ◌+◌}
-use Rattle.std.specs.Prelude.{is_some, bytes_eq, take}
+use Rattle.std.specs.Prelude.{is_some, bytes_eq, take, ◌^◌}
+use Rattle.std.proofs.lemmas.Bool.{and_parts, ltb-true}
+use lib.Dec.{ltb}
 use Rattle.zk_turns.specs.Meaning.{Among}
 use Rattle.zk_nodes.specs.Path.{Name}
-use Rattle.zk_nodes.specs.History.{Node, Creates, Transaction, IsHistory, tree_at, after}
+use Rattle.zk_nodes.specs.History.{Node, Creates, Transaction, IsHistory, AreRising, AllLegal, tree_at, after}
+use Rattle.theory_messages.specs.Example.{root_alone}
 use Rattle.theory_messages.proofs.Shown.{is_history}
 use Rattle.zk_conclusions.specs.Holders.{HasPrefix}
 use Rattle.zk_conclusions.specs.Numbers.{Kind, is_numbered, is_one}
@@ -19,28 +22,37 @@ pub and_false : (b : Bool) → (b && false) ≡ false
 and_false true = refl
 and_false false = refl
 
-pub line_history : IsHistory two_places
-line_history = record {
+-- do the zxids rise, and lie in range
+abbrev rise : ℕ → List Transaction → Bool
+rise low [] = true
+rise low (one ∷ more) = ltb low one.zxid && (ltb one.zxid (2 ^ 63) && rise one.zxid more)
+
+risen : (low : ℕ) (transactions : List Transaction) → rise low transactions ≡ true → AreRising low transactions
+risen low [] e = tt
+risen low (one ∷ more) e =
+    let a = and_parts (ltb low one.zxid) (ltb one.zxid (2 ^ 63) && rise one.zxid more) e in
+    let b = and_parts (ltb one.zxid (2 ^ 63)) (rise one.zxid more) a.1 in
+    (ltb-true low one.zxid a.0, ltb-true one.zxid (2 ^ 63) b.0, risen one.zxid more b.1)
+
+-- from a tree that has a root alone
+history_of : (transactions : List Transaction) → rise 0 transactions ≡ true → AllLegal transactions root_alone
+    → IsHistory (record { first = root_alone; transactions = transactions })
+history_of transactions rising legal = record {
   root = refl;
   parents = λ name path e. absurd cc;
   zeros = is_history.zeros;
-  rising = (
-    omega arith,
-    omega arith,
-    (
-      omega arith,
-      omega arith,
-      (omega arith, omega arith, (omega arith, omega arith, (omega arith, omega arith, (omega arith, omega arith, tt)))),
-    ),
-  );
-  legal = (
-    ((refl, refl), tt),
-    (
-      ((refl, refl), tt),
-      (((refl, refl), tt), (((refl, refl), tt), (((_, refl, omega arith), tt), (((refl, λ child. simp and_false), tt), tt)))),
-    ),
-  );
+  rising = risen 0 transactions rising;
+  legal = legal;
 }
+
+pub line_history : IsHistory two_places
+line_history = history_of two_places.transactions refl (
+  ((refl, refl), tt),
+  (
+    ((refl, refl), tt),
+    (((refl, refl), tt), (((refl, refl), tt), (((_, refl, omega arith), tt), (((refl, λ child. simp and_false), tt), tt)))),
+  ),
+)
 
 -- of each kind of which the note is none
 sequence_of : (kind : Kind) → is_one kind note_name ≡ false → MadeInSequence two_places lock kind
@@ -73,27 +85,13 @@ nothing_left child = go (bytes_eq child first_name) refl
     go false e = simp (e, and_false)
 
 pub again_history : IsHistory made_again
-again_history = record {
-  root = refl;
-  parents = λ name path e. absurd cc;
-  zeros = is_history.zeros;
-  rising = (
-    omega arith,
-    omega arith,
-    (
-      omega arith,
-      omega arith,
-      (omega arith, omega arith, (omega arith, omega arith, (omega arith, omega arith, (omega arith, omega arith, tt)))),
-    ),
-  );
-  legal = (
+again_history = history_of made_again.transactions refl (
+  ((refl, refl), tt),
+  (
     ((refl, refl), tt),
-    (
-      ((refl, refl), tt),
-      (((refl, λ child. simp and_false), tt), (((refl, nothing_left), tt), (((refl, refl), tt), (((refl, refl), tt), tt)))),
-    ),
-  );
-}
+    (((refl, λ child. simp and_false), tt), (((refl, nothing_left), tt), (((refl, refl), tt), (((refl, refl), tt), tt)))),
+  ),
+)
 
 pub again_sequence : MadeInSequence made_again lock places
 again_sequence = record {
