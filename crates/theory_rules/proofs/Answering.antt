@@ -79,30 +79,21 @@ absent_parent : (present : Name → Bool) (found : Option Node) → found ≡ No
 absent_parent present None e = tt
 absent_parent present (Some node) e = absurd cc
 
-pub absent_node : (h : History) (start : Start) (entries : List Entry) (path : Text) (watch : Bool) (xid : ℤ) (behind : List ℕ)
-    → Awaits h start entries Serving (Ask (Exists path watch)) xid
-    → tree_held h (end_of h entries).place (path_of path) ≡ None → IsSendable xid (zxid_of h entries) (negsuc 100) behind
-    → CanTake h start entries (Answers (Exists path watch) NoNode) (headed xid (zxid_of h entries) (negsuc 100) behind ∷ [])
-absent_node h start entries path watch xid behind a none can =
-    answers h start entries (Exists path watch) xid NoNode behind a
-    (absent (tree_held h (end_of h entries).place (path_of path)) none) tt can
+-- a read where none is there
+module _ (h : History) (start : Start) (entries : List Entry) (path : Text) (watch : Bool) (xid : ℤ) (behind : List ℕ)
+    (none : tree_held h (end_of h entries).place (path_of path) ≡ None) (can : IsSendable xid (zxid_of h entries) (negsuc 100) behind) where
+  abbrev MayLack : Call → Type 0
+  MayLack call = Awaits h start entries Serving (Ask call) xid
+      → CanTake h start entries (Answers call NoNode) (headed xid (zxid_of h entries) (negsuc 100) behind ∷ [])
 
-pub absent_data : (h : History) (start : Start) (entries : List Entry) (path : Text) (watch : Bool) (xid : ℤ) (behind : List ℕ)
-    → Awaits h start entries Serving (Ask (GetData path watch)) xid
-    → tree_held h (end_of h entries).place (path_of path) ≡ None → IsSendable xid (zxid_of h entries) (negsuc 100) behind
-    → CanTake h start entries (Answers (GetData path watch) NoNode) (headed xid (zxid_of h entries) (negsuc 100) behind ∷ [])
-absent_data h start entries path watch xid behind a none can =
-    answers h start entries (GetData path watch) xid NoNode behind a
-    (absent (tree_held h (end_of h entries).place (path_of path)) none) tt can
+  pub absent_node : MayLack (Exists path watch)
+  absent_node a = answers h start entries (Exists path watch) xid NoNode behind a (absent _ none) tt can
 
-pub absent_children : (h : History) (start : Start) (entries : List Entry) (path : Text) (watch : Bool) (xid : ℤ) (behind : List ℕ)
-    → Awaits h start entries Serving (Ask (GetChildren path watch)) xid
-    → tree_held h (end_of h entries).place (path_of path) ≡ None → IsSendable xid (zxid_of h entries) (negsuc 100) behind
-    → CanTake h start entries (Answers (GetChildren path watch) NoNode) (headed xid (zxid_of h entries) (negsuc 100) behind ∷ [])
-absent_children h start entries path watch xid behind a none can =
-    let tree = tree_held h (end_of h entries).place in
-    answers h start entries (GetChildren path watch) xid NoNode behind a
-    (absent_parent (λ name. is_some (tree (name ∷ path_of path))) (tree (path_of path)) none) tt can
+  pub absent_data : MayLack (GetData path watch)
+  absent_data a = answers h start entries (GetData path watch) xid NoNode behind a (absent _ none) tt can
+
+  pub absent_children : MayLack (GetChildren path watch)
+  absent_children a = answers h start entries (GetChildren path watch) xid NoNode behind a (absent_parent _ _ none) tt can
 
 -- ---- a node that is there
 

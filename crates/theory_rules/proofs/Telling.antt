@@ -162,16 +162,19 @@ module _ (relative : ℕ) (tree : Tree) (part : Lists) where
   abbrev parent_of : Text → List Notice
   parent_of path = tells path (parent_check relative (tree (path_of path)))
 
-  in_known : (n : Notice) (path : Text) → Among path part.data_watches → Among n (known_of path) → Among n (part_tells relative tree part)
-  in_known n path at m =
+  in_front : (n : Notice) → Among n (flat_map known_of part.data_watches ++ flat_map missing_of part.exist_watches)
+      → Among n (part_tells relative tree part)
+  in_front n =
       Among-left n (flat_map known_of part.data_watches ++ flat_map missing_of part.exist_watches) (flat_map parent_of part.child_watches)
+
+  in_known : (n : Notice) (path : Text) → Among path part.data_watches → Among n (known_of path) → Among n (part_tells relative tree part)
+  in_known n path at m = in_front n
       (Among-left n (flat_map known_of part.data_watches) (flat_map missing_of part.exist_watches)
       (among_map known_of path part.data_watches n at m))
 
   in_missing : (n : Notice) (path : Text) → Among path part.exist_watches → Among n (missing_of path)
       → Among n (part_tells relative tree part)
-  in_missing n path at m =
-      Among-left n (flat_map known_of part.data_watches ++ flat_map missing_of part.exist_watches) (flat_map parent_of part.child_watches)
+  in_missing n path at m = in_front n
       (Among-right n (flat_map known_of part.data_watches) (flat_map missing_of part.exist_watches)
       (among_map missing_of path part.exist_watches n at m))
 
