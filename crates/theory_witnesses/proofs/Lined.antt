@@ -1,9 +1,9 @@
 -- Two wait in line, one after the other, and their names rise: transaction by transaction of the history, which is computed.
-use Rattle.std.proofs.Common.{◌≡◌, ◌≤◌, ℕ, pos, Bool, true, false, ◌&&◌, cond, [], ◌∷◌, refl, sym, ap, subst, arith, inl, inr, ◌⊎◌, Option}
-use Rattle.std.proofs.Common.{Some, None, is_some}
+use Rattle.std.proofs.Common.{◌≡◌, ◌≤◌, ℕ, ℤ, pos, Bool, true, false, ◌&&◌, cond, [], ◌∷◌, ◌++◌, refl, sym, ap, ◌∙◌, subst, arith}
+use Rattle.std.proofs.Common.{inl, inr, ◌⊎◌, Option, Some, None, is_some}
 use Rattle.std.specs.Prelude.{bytes_eq, nat_le}
 use Rattle.std.proofs.lemmas.Slice.Eq.{bytes_eq-Decides}
-use Rattle.zk_nodes.specs.Path.{Name}
+use Rattle.zk_nodes.specs.Path.{Name, NodePath}
 use Rattle.zk_nodes.specs.History.{Node, Tree, made, apply_all, after, tree_at, IsHistory}
 use Rattle.theory_messages.specs.Example.{root_alone}
 use Rattle.theory_messages.proofs.Shown.{is_history}
@@ -21,28 +21,27 @@ IsMade name node = ((name ≡ first_name) × (node.czxid ≡ 5)) ⊎ ((name ≡ 
 abbrev AllMade : Tree → Type 0
 AllMade tree = (name : Name) (node : Node) → tree (name ∷ line) ≡ Some node → IsMade name node
 
-abbrev czxid_in : Option Node → ℕ
-czxid_in None = 0
-czxid_in (Some node) = node.czxid
-
 none_made : AllMade root_alone
 none_made name node e = absurd cc
 
-first_made : (tree : Tree) → AllMade tree → AllMade (apply_all 5 (pos 1000) first_comes.changes tree)
-first_made tree all name node e = go (bytes_eq name first_name) refl e
+same_node : (node its : Node) → Some node ≡ Some its → node ≡ its
+same_node node its e = ap (λ (o : Option Node). elim o [ None ↦ node | Some n ↦ n ]) e
+
+-- one more is made
+one_made : (own : Name) (fresh : Node) → IsMade own fresh → (tree : Tree) → AllMade tree → (name : Name) (node : Node)
+    → cond (bytes_eq name own && true) (Some fresh) (tree (name ∷ line)) ≡ Some node → IsMade name node
+one_made own fresh is tree all name node e = go (bytes_eq name own) refl e
   where
-    go : (b : Bool) → bytes_eq name first_name ≡ b
-        → cond (b && true) (Some (made 5 (pos 1000) None (pos 7))) (tree (name ∷ line)) ≡ Some node → IsMade name node
-    go true same e = inl ((bytes_eq-Decides name first_name).0 same, sym (ap czxid_in e))
+    go : (b : Bool) → bytes_eq name own ≡ b → cond (b && true) (Some fresh) (tree (name ∷ line)) ≡ Some node → IsMade name node
+    go true same e = subst (λ (n : Name). IsMade n node) (sym ((bytes_eq-Decides name own).0 same))
+        (subst (λ (it : Node). IsMade own it) (same_node fresh node e) is)
     go false apart e = all name node e
 
+first_made : (tree : Tree) → AllMade tree → AllMade (apply_all 5 (pos 1000) first_comes.changes tree)
+first_made tree all = one_made first_name (made 5 (pos 1000) None (pos 7)) (inl (refl, refl)) tree all
+
 second_made : (tree : Tree) → AllMade tree → AllMade (apply_all 6 (pos 2000) second_comes.changes tree)
-second_made tree all name node e = go (bytes_eq name second_name) refl e
-  where
-    go : (b : Bool) → bytes_eq name second_name ≡ b
-        → cond (b && true) (Some (made 6 (pos 2000) None (pos 8))) (tree (name ∷ line)) ≡ Some node → IsMade name node
-    go true same e = inr ((bytes_eq-Decides name second_name).0 same, sym (ap czxid_in e))
-    go false apart e = all name node e
+second_made tree all = one_made second_name (made 6 (pos 2000) None (pos 8)) (inr (refl, refl)) tree all
 
 first_gone : (tree : Tree) → AllMade tree → AllMade (apply_all 9 (pos 3000) first_goes.changes tree)
 first_gone tree all name node e = go (bytes_eq name first_name) e
@@ -74,17 +73,26 @@ made_at zxid = go (nat_le 5 zxid) (nat_le 6 zxid) (nat_le 9 zxid)
     go false false true = first_gone root_alone none_made
     go false false false = none_made
 
-pub names_rise : NamesRise two_in_line line in_line
-names_rise zxid one other node its e f p q before = go (made_at zxid one node e) (made_at zxid other its f)
+-- by an order in which the second is not before the first, whoever is before the other was not made after it
+rise : (before : Name → Name → Bool) → before second_name first_name ≡ false → (zxid : ℕ) (one other : Name) (node its : Node)
+    → tree_at two_in_line zxid (one ∷ line) ≡ Some node → tree_at two_in_line zxid (other ∷ line) ≡ Some its → before one other ≡ true
+    → node.czxid ≤ its.czxid
+rise before apart zxid one other node its e f earlier = go (made_at zxid one node e) (made_at zxid other its f)
   where
     go : IsMade one node → IsMade other its → node.czxid ≤ its.czxid
     go (inl a) (inl b) = let x = a.1 in let y = b.1 in omega (arith, x, y)
     go (inl a) (inr b) = let x = a.1 in let y = b.1 in omega (arith, x, y)
     go (inr a) (inl b) =
-        let wrong : is_before second_name first_name ≡ true =
-        subst (λ (n : Name). is_before second_name n ≡ true) b.0 (subst (λ (n : Name). is_before n other ≡ true) a.0 before) in
-        absurd cc
+        let wrong : before second_name first_name ≡ true =
+        subst (λ (n : Name). before second_name n ≡ true) b.0 (subst (λ (n : Name). before n other ≡ true) a.0 earlier) in
+        let k : true ≡ false = sym wrong ∙ apart in absurd cc
     go (inr a) (inr b) = let x = a.1 in let y = b.1 in omega (arith, x, y)
+
+pub names_rise : NamesRise two_in_line line in_line
+names_rise zxid one other node its e f p q before = rise is_before refl zxid one other node its e f before
+
+pub numbers_rise : NumbersRise two_in_line line numbered
+numbers_rise zxid one other node its e f p q before = rise by_number.is_before refl zxid one other node its e f before
 
 -- which names are there at a zxid
 names_at : (zxid : ℕ) (name : Name) → is_some (tree_at two_in_line zxid (name ∷ line)) ≡ true → (name ≡ first_name) ⊎ (name ≡ second_name)
@@ -99,73 +107,14 @@ names_at zxid name there = go (tree_at two_in_line zxid (name ∷ line)) refl th
     go None e s = absurd cc
     go (Some node) e s = of_made node (made_at zxid name node e)
 
-pub first_holds : IsHolder (tree_at two_in_line 6) line in_line (first_name ∷ line) (pos 7) (pos 5)
-first_holds = record {
-  own = first_name;
-  below = refl;
-  begins = (48 ∷ 48 ∷ 48 ∷ 48 ∷ 48 ∷ 48 ∷ 48 ∷ 48 ∷ 48 ∷ 49 ∷ [], refl);
-  node = made 5 (pos 1000) None (pos 7);
-  there = refl;
-  owner = refl;
-  owned = λ e. absurd cc;
-  made = refl;
-  first = λ name there begins. go name (names_at 6 name there);
-}
+-- at 6 none is before the first
+none_before : (before : Name → Name → Bool) → before first_name first_name ≡ false → before second_name first_name ≡ false
+    → (name : Name) → is_some (tree_at two_in_line 6 (name ∷ line)) ≡ true → before name first_name ≡ false
+none_before before itself apart name there = go (names_at 6 name there)
   where
-    go : (name : Name) → (name ≡ first_name) ⊎ (name ≡ second_name) → is_before name first_name ≡ false
-    go name (inl e) = ap (λ (n : Name). is_before n first_name) e
-    go name (inr e) = ap (λ (n : Name). is_before n first_name) e
-
-pub second_holds : IsHolder (tree_at two_in_line 9) line in_line (second_name ∷ line) (pos 8) (pos 6)
-second_holds = record {
-  own = second_name;
-  below = refl;
-  begins = (48 ∷ 48 ∷ 48 ∷ 48 ∷ 48 ∷ 48 ∷ 48 ∷ 48 ∷ 48 ∷ 50 ∷ [], refl);
-  node = made 6 (pos 2000) None (pos 8);
-  there = refl;
-  owner = refl;
-  owned = λ e. absurd cc;
-  made = refl;
-  first = λ name there begins. go name there (names_at 9 name there);
-}
-  where
-    go : (name : Name) → is_some (tree_at two_in_line 9 (name ∷ line)) ≡ true → (name ≡ first_name) ⊎ (name ≡ second_name)
-        → is_before name second_name ≡ false
-    go name there (inl e) = let gone : is_some (tree_at two_in_line 9 (first_name ∷ line)) ≡ true =
-        subst (λ (n : Name). is_some (tree_at two_in_line 9 (n ∷ line)) ≡ true) e there in absurd cc
-    go name there (inr e) = ap (λ (n : Name). is_before n second_name) e
-
--- ---- by numbers
-
-pub numbers_rise : NumbersRise two_in_line line numbered
-numbers_rise zxid one other node its e f p q before = go (made_at zxid one node e) (made_at zxid other its f)
-  where
-    go : IsMade one node → IsMade other its → node.czxid ≤ its.czxid
-    go (inl a) (inl b) = let x = a.1 in let y = b.1 in omega (arith, x, y)
-    go (inl a) (inr b) = let x = a.1 in let y = b.1 in omega (arith, x, y)
-    go (inr a) (inl b) =
-        let wrong : by_number.is_before second_name first_name ≡ true =
-        subst (λ (n : Name). by_number.is_before second_name n ≡ true) b.0
-        (subst (λ (n : Name). by_number.is_before n other ≡ true) a.0 before) in
-        absurd cc
-    go (inr a) (inr b) = let x = a.1 in let y = b.1 in omega (arith, x, y)
-
-pub first_stands : IsStanding (tree_at two_in_line 6) line numbered (first_name ∷ line) (pos 7) (pos 5)
-first_stands = record {
-  own = first_name;
-  below = refl;
-  numbered = refl;
-  node = made 5 (pos 1000) None (pos 7);
-  there = refl;
-  owner = refl;
-  owned = λ e. absurd cc;
-  made = refl;
-  first = λ name there rival. go name (names_at 6 name there);
-}
-  where
-    go : (name : Name) → (name ≡ first_name) ⊎ (name ≡ second_name) → by_number.is_before name first_name ≡ false
-    go name (inl e) = ap (λ (n : Name). by_number.is_before n first_name) e
-    go name (inr e) = ap (λ (n : Name). by_number.is_before n first_name) e
+    go : (name ≡ first_name) ⊎ (name ≡ second_name) → before name first_name ≡ false
+    go (inl e) = ap (λ (n : Name). before n first_name) e ∙ itself
+    go (inr e) = ap (λ (n : Name). before n first_name) e ∙ apart
 
 -- at 9 the second is there alone
 second_alone : (name : Name) → is_some (tree_at two_in_line 9 (name ∷ line)) ≡ true → name ≡ second_name
@@ -176,18 +125,57 @@ second_alone name there = go (names_at 9 name there)
         subst (λ (n : Name). is_some (tree_at two_in_line 9 (n ∷ line)) ≡ true) e there in absurd cc
     go (inr e) = e
 
-pub second_stands : IsStanding (tree_at two_in_line 9) line numbered (second_name ∷ line) (pos 8) (pos 6)
-second_stands = record {
-  own = second_name;
+-- a node in line, before which no other is
+holder : (zxid : ℕ) (own digits : Name) (node : Node) → own ≡ in_line ++ digits → tree_at two_in_line zxid (own ∷ line) ≡ Some node
+    → (node.owner ≡ pos 0 → ⊥) → ((name : Name) → is_some (tree_at two_in_line zxid (name ∷ line)) ≡ true → is_before name own ≡ false)
+    → IsHolder (tree_at two_in_line zxid) line in_line (own ∷ line) node.owner (pos node.czxid)
+holder zxid own digits node begins there owned first = record {
+  own = own;
   below = refl;
-  numbered = refl;
-  node = made 6 (pos 2000) None (pos 8);
-  there = refl;
+  begins = (digits, begins);
+  node = node;
+  there = there;
   owner = refl;
-  owned = λ e. absurd cc;
+  owned = owned;
   made = refl;
-  first = λ name there rival. ap (λ (n : Name). by_number.is_before n second_name) (second_alone name there);
+  first = λ name there begins. first name there;
 }
+
+pub first_holds : IsHolder (tree_at two_in_line 6) line in_line (first_name ∷ line) (pos 7) (pos 5)
+first_holds = holder 6 first_name _ (made 5 (pos 1000) None (pos 7)) refl refl (λ e. absurd cc) (none_before is_before refl refl)
+
+pub second_holds : IsHolder (tree_at two_in_line 9) line in_line (second_name ∷ line) (pos 8) (pos 6)
+second_holds = holder 9 second_name _ (made 6 (pos 2000) None (pos 8)) refl refl (λ e. absurd cc)
+    (λ name there. ap (λ (n : Name). is_before n second_name) (second_alone name there))
+
+-- ---- by numbers
+
+-- who holds stands first, where none is before it by the numbers
+stands : (tree : Tree) (path : NodePath) (session token : ℤ) (holds : IsHolder tree line in_line path session token)
+    → by_number.is_numbered in_line holds.own ≡ true
+    → ((name : Name) → is_some (tree (name ∷ line)) ≡ true → by_number.is_before name holds.own ≡ false)
+    → IsStanding tree line numbered path session token
+stands tree path session token holds is first = record {
+  own = holds.own;
+  below = holds.below;
+  numbered = is;
+  node = holds.node;
+  there = holds.there;
+  owner = holds.owner;
+  owned = holds.owned;
+  made = holds.made;
+  first = λ name there rival. first name there;
+}
+
+pub first_stands : IsStanding (tree_at two_in_line 6) line numbered (first_name ∷ line) (pos 7) (pos 5)
+unfolding first_holds holder
+first_stands = stands (tree_at two_in_line 6) (first_name ∷ line) (pos 7) (pos 5) first_holds refl
+    (none_before by_number.is_before refl refl)
+
+pub second_stands : IsStanding (tree_at two_in_line 9) line numbered (second_name ∷ line) (pos 8) (pos 6)
+unfolding second_holds holder
+second_stands = stands (tree_at two_in_line 9) (second_name ∷ line) (pos 8) (pos 6) second_holds refl
+    (λ name there. ap (λ (n : Name). by_number.is_before n second_name) (second_alone name there))
 
 pub second_listed : ListsAll (tree_at two_in_line 9) line (second_name ∷ [])
 second_listed name there = inl (second_alone name there)
