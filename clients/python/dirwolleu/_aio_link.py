@@ -16,7 +16,7 @@ _rooms: weakref.WeakKeyDictionary[asyncio.AbstractEventLoop, Rooms] = weakref.We
 
 
 def _rooms_of(loop: asyncio.AbstractEventLoop) -> Rooms:
-    """Where the connections of a loop read what comes."""
+    """The rooms into which the connections of a loop read."""
     rooms = _rooms.get(loop)
     if rooms is None:
         rooms = _rooms[loop] = Rooms()
@@ -24,7 +24,7 @@ def _rooms_of(loop: asyncio.AbstractEventLoop) -> Rooms:
 
 
 async def address_at(servers: Servers, place: int) -> Place:
-    """An address of the server at a place of the list. Raises `OSError` where its name is not found."""
+    """An address of the server at a place of the list. Raises `OSError` if its name is not found."""
     loop = asyncio.get_running_loop()
     found: asyncio.Future[Place] = loop.create_future()
 
@@ -47,7 +47,7 @@ async def address_at(servers: Servers, place: int) -> Place:
 
 
 class Link(asyncio.BufferedProtocol):
-    """One connection to a server, from the moment that it is dialled."""
+    """One connection to a server, from its dial on."""
 
     def __init__(self, driver: Driver, place: int) -> None:
         loop = asyncio.get_running_loop()
@@ -92,13 +92,13 @@ class Link(asyncio.BufferedProtocol):
             self._transport.write(frames)
 
     def end(self, why: str = "") -> None:
-        """Ends the connection at once, and says so."""
+        """Ends the connection at once, and tells the driver why."""
         if not self._is_over:
             self.close()
             self._driver.leave(why)
 
     def close(self) -> None:
-        """Ends the connection at once, or what is to become one. The engine has asked for it."""
+        """Ends the connection, or the attempt to make one, at once. The engine has asked for it."""
         self._is_over = True
         self._dialling.cancel()
         if self._transport is not None:
@@ -106,7 +106,7 @@ class Link(asyncio.BufferedProtocol):
 
 
 class Loop:
-    """The event loop that runs, as a driver has it."""
+    """The running event loop, as a driver uses it."""
 
     def __init__(self) -> None:
         loop = asyncio.get_running_loop()

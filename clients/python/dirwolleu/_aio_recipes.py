@@ -47,7 +47,7 @@ Returned = TypeVar("Returned")
 def _does(
     call: Callable[Concatenate[Any, Given], Steps[Result]]
 ) -> Callable[Concatenate[Any, Given], Coroutine[Any, Any, Result]]:
-    """A coroutine function that does the steps of a recipe."""
+    """A coroutine function that makes the steps of a recipe."""
 
     async def does(recipe: Any, /, *given: Given.args, **named: Given.kwargs) -> Result:
         result: Result = await recipe._client._drive(call(recipe, *given, **named))
@@ -74,12 +74,12 @@ class Held(BaseHeld["Client"], AbstractAsyncContextManager["Held"]):
 
 
 class _Taker(BaseTaker["Client", Held]):
-    """What is taken, and given back at the end of an `async with` block."""
+    """A lock or a semaphore, which is released at the end of an `async with` block."""
 
     async def acquire(self, timeout: Optional[float] = None) -> Held:
         """Waits until the lock is held, as `dirwolleu.Lock.acquire` does.
 
-        Raises `LockTimeout`. If it is cancelled it leaves no contender.
+        Raises `LockTimeout`. If it is cancelled, it leaves no contender.
         """
         return await self._client._drive(self._taking(timeout))
 
@@ -147,16 +147,16 @@ class Election:
         )
 
     async def run(self, lead: Callable[[Held], Awaitable[Returned]]) -> Returned:
-        """Waits until this candidate leads, awaits a function with the lock that it holds, and answers what it does."""
+        """Waits until this candidate leads, awaits a function with the lock that it holds, and returns its result."""
         async with self._lock as held:
             return await lead(held)
 
     async def contenders(self) -> list[str]:
-        """The identifiers of the candidates, that of the leader first."""
+        """The identifiers of the candidates, the leader's first."""
         return await self._lock.contenders()
 
     async def leader(self) -> Optional[str]:
-        """The identifier of the one that leads, or None if nobody stands."""
+        """The identifier of the leader, or None if there is no candidate."""
         return next(iter(await self._lock.contenders(1)), None)
 
 
@@ -177,7 +177,7 @@ class Registration(BaseRegistration["Client"], AbstractAsyncContextManager["Regi
         await self.withdraw()
 
     async def wait(self, timeout: Optional[float] = None) -> bool:
-        """Waits until the node is there, for at most this many seconds, and answers whether it is."""
+        """Waits until the node is there, for at most this many seconds, and returns whether it is."""
         with contextlib.suppress(asyncio.TimeoutError):
             await asyncio.wait_for(self._is_there.wait(), timeout)
         return self._is_there.is_set()
@@ -187,7 +187,7 @@ class Registration(BaseRegistration["Client"], AbstractAsyncContextManager["Regi
 
 
 class Barrier(BaseBarrier["Client"]):
-    """What holds clients back while its node is there, as `dirwolleu.Barrier` does.
+    """Holds clients back while its node is there, as `dirwolleu.Barrier` does.
 
         barrier = dirwolleu.aio.Barrier(client, "/migration")
         is_open = await barrier.wait(10.0)
@@ -221,20 +221,20 @@ class Counter(BaseCounter["Client", Number]):
         super().__init__(client, path, default)
 
     async def get(self) -> Number:
-        """The number. Raises `ValueError` where the node has other data."""
+        """The number. Raises `ValueError` if the node has other data."""
         return await self._client._drive(self._getting())
 
     async def add(self, number: Number) -> Number:
-        """Adds a number, and answers what it comes to, as `add` of `dirwolleu.Counter` does."""
+        """Adds a number and returns the sum, as `add` of `dirwolleu.Counter` does."""
         return await self.change(lambda current: cast(Number, current + number))
 
     async def change(self, function: Callable[[Number], Number]) -> Number:
-        """Sets the number to what a function makes of it, and answers that. It may be called more than once."""
+        """Sets the number to a function's result for it, and returns that. It may call the function more than once."""
         return await self._client._drive(self._changing(function))
 
 
 class Queue(BaseQueue["Client"]):
-    """Entries that each go to one of those that take them, as `dirwolleu.Queue` is.
+    """A queue whose entries each go to one taker, as `dirwolleu.Queue` is.
 
         queue = dirwolleu.aio.Queue(client, "/jobs")
         await queue.put(b"one")

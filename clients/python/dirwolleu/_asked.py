@@ -1,4 +1,4 @@
-"""What a program has asked, and who waits for the answer."""
+"""A program's request, and the waiter for its answer."""
 
 from __future__ import annotations
 
@@ -12,10 +12,10 @@ from dirwolleu.exceptions import CallTimeoutError, NoNodeError, NotConnectedErro
 
 
 class Waiter(Protocol):
-    """What waits for an answer: a future. It is done even if it waits no longer."""
+    """Something that waits for an answer, such as a future. It is done even if it waits no longer."""
 
     def begin(self) -> bool:
-        """Is told that the request is handed over next, and answers whether it is still waited for."""
+        """Hears that the request is handed over next, and returns whether anybody still waits for its answer."""
 
     def cancel(self) -> object: ...
     def done(self) -> bool: ...
@@ -24,10 +24,10 @@ class Waiter(Protocol):
 
 
 class Asked:
-    """A request, who waits for its answer, and its limit: the moment at which it waits no more, sent or not.
+    """A request, the waiter for its answer, and its limit: the moment from which it waits no longer, sent or not.
 
-    Without a limit of its own it waits until `until` where no server accepts the session, and has one from the moment on at
-    which it is handed over where one does.
+    Without a limit of its own, it waits until `until` while no server accepts the session; if one does, the hand-over sets
+    its limit.
     """
 
     __slots__ = "request", "waiter", "until", "ends_at", "root", "sent_at", "is_sent", "is_handed"
@@ -55,7 +55,7 @@ class Asked:
         self.waiter.set_exception(error)
 
     def settle(self, answer: Answer) -> None:
-        """Takes the answer, as the request reads it. Raises `Malformed` if it does not read."""
+        """Gives the waiter the answer, as the request reads it. Raises `Malformed` if it does not parse."""
         if not self.waiter.done():
             try:
                 self.waiter.set_result(self.request.result(answer, self.root))
@@ -63,7 +63,7 @@ class Asked:
                 self.fail(error)
 
     def give_up(self, no_server: str) -> None:
-        """The limit has come. If that is not the caller's own, and nothing was sent, no server was found in time."""
+        """The limit has come. If it is not the caller's own, and nothing was sent, no server was found in time."""
         if self.ends_at is None and not self.is_sent:
             return self.fail(NotConnectedError(no_server))
         fate = "it may still happen" if self.is_sent else "it was not sent, and is not sent any more"

@@ -39,7 +39,7 @@ class BaseBarrier(Generic[AnyClient]):
         self._client, self._path = client, path
 
     def _create(self) -> Steps[None]:
-        """Puts the barrier up, if it is not."""
+        """Puts the barrier up, if it is not up."""
         return patiently(self._client._engine, lambda: plans.ensure_path(self._path, None))
 
     def _remove(self) -> Steps[bool]:
@@ -90,7 +90,7 @@ class BaseDoubleBarrier(Generic[AnyClient]):
     def _enter(self, timeout: Optional[float] = None) -> Steps[bool]:
         """Waits until all have come, for at most this many seconds, and returns whether they have.
 
-        If they have not, this member withdraws. A member whose session ends meanwhile comes again in the next one.
+        If they have not, this member withdraws. A member whose session ends meanwhile enters again in the next one.
         """
         news: News = yield GetNews()
         is_in = False
@@ -130,7 +130,7 @@ class BaseDoubleBarrier(Generic[AnyClient]):
             pass
 
     def _have_come(self, news: News) -> Steps[bool]:
-        """Makes this member's node, and returns whether the barrier is ready. The last member says so."""
+        """Makes this member's node, and returns whether the barrier is ready. The last member makes it ready."""
         yield from self._make()
         if (yield requests.exists(self._ready, lambda _: news.set())) is not None:
             return True

@@ -1,4 +1,4 @@
-"""What is kept of a session, as a program sees it. It asks no server."""
+"""The kept answers of a session, as a program sees them. No look-up asks a server."""
 
 from __future__ import annotations
 
@@ -12,7 +12,7 @@ from dirwolleu._session import Session
 from dirwolleu.types import Kept, KeptChildren, Mark, Snapshot
 
 RECIPES_BEFORE_FORGETTING = 1024
-"""How many nodes recipes are done with before what is stale is forgotten."""
+"""After this many nodes that recipes are done with, stale answers are forgotten."""
 
 
 def _kept(path: str, found: KeptData, last_zxid: int) -> Kept:
@@ -24,7 +24,7 @@ def _kept_children(path: str, found: KeptNames, last_zxid: int) -> KeptChildren:
 
 
 class CacheView:
-    """The look-ups of a session, which another one may take the place of. Any thread may call them, and a signal handler."""
+    """The look-ups of a session, which another session may replace. Any thread may call them, and a signal handler."""
 
     _session: Session
     _saved_at_close: Optional[bytes] = None
@@ -33,7 +33,7 @@ class CacheView:
         self._used = 0
 
     def _look(self, look: Callable[[Session], Found]) -> Optional[Found]:
-        """What is found in the session, once more if that was closed meanwhile; None if the client is closed."""
+        """Looks in the session, and once more if it was closed meanwhile; None if the client is closed."""
         while self._saved_at_close is None:
             try:
                 return look(self._session)
@@ -42,12 +42,12 @@ class CacheView:
         return None
 
     def saved(self) -> bytes:
-        """The session, as the library puts it away. It is a secret."""
+        """The session, as the library saves it. It is a secret."""
         saved = self._look(lambda session: session.saved())
         return saved if saved is not None else self._saved_at_close or b""
 
     def session_id(self) -> int:
-        """The number of the session, 0 if none was begun."""
+        """The number of the session, 0 if none has begun."""
         return int(struct.unpack(">q", self.saved()[:8])[0])
 
     def last_zxid(self) -> int:
@@ -68,7 +68,7 @@ class CacheView:
         return _kept_children(path, *looked)
 
     def snapshot(self, nodes: tuple[str, ...], parents: tuple[str, ...]) -> Optional[Snapshot]:
-        """What is kept of nodes and of the names below parents, if the core shows that all of it is of one moment."""
+        """The kept answers for nodes and for the names below parents, if the core shows that all are of one moment."""
         found, zxid = self._look(lambda session: session.snapshot(nodes, parents)) or (None, 0)
         if found is None:
             return None
@@ -79,12 +79,12 @@ class CacheView:
         )
 
     def settled(self, path: str) -> Optional[Kept]:
-        """What is kept of a path, if it is good and whole: its data, or that there is no node."""
+        """The kept answer for a path, if it is good and whole: its data, or the absence of the node."""
         kept = self.kept(path)
         return kept if kept and kept.mark is Mark.GOOD and (kept.has_data or not kept.exists) else None
 
     def settled_children(self, path: str) -> Optional[KeptChildren]:
-        """What is kept of the children of a path, if it is good: their names, or that there is no node."""
+        """The kept answer for the children of a path, if it is good: their names, or the absence of the node."""
         children = self.kept_children(path)
         if children is not None and children.mark is Mark.GOOD:
             return children
@@ -94,21 +94,21 @@ class CacheView:
         return KeptChildren(path, Mark.GOOD, kept.last_zxid, (), 0, exists=False)
 
     def overtaken(self, path: str) -> Optional[Kept]:
-        """What is kept of a node that is stale, as it was while it was good: at the zxid of its last change."""
+        """The kept answer for a node, if it is stale, as it was while it was good: at the zxid of the node's last change."""
         kept = self.kept(path)
         if kept is None or kept.mark is Mark.GOOD or not kept.has_data or kept.stat is None:
             return None
         return kept._replace(mark=Mark.GOOD, last_zxid=kept.stat.mzxid)
 
     def overtaken_children(self, path: str) -> Optional[KeptChildren]:
-        """The same of the names of a node's children."""
+        """The same for the names of a node's children."""
         kept = self.kept_children(path)
         if kept is None or kept.mark is Mark.GOOD:
             return None
         return kept._replace(mark=Mark.GOOD, last_zxid=kept.pzxid)
 
     def lacking(self, path: str, most: int) -> list[Lacking]:
-        """What is still to be read, with a watch, before there is a subtree."""
+        """The reads, with a watch, that are missing before there is a subtree."""
         return self._look(lambda session: session.lacking(path, most)) or []
 
     def subtree(self, path: str, most: int) -> tuple[Optional[list[SubtreeNode]], int]:
@@ -119,7 +119,7 @@ class CacheView:
         self._look(Session.forget)
 
     def used(self) -> None:
-        """Counts that a recipe has done with a node. What it has left is stale, and is forgotten from time to time."""
+        """Counts a node that a recipe is done with. From time to time it forgets the stale answers that these leave."""
         self._used += 1
         if self._used % RECIPES_BEFORE_FORGETTING == 0:
             self.forget_stale()

@@ -1,6 +1,7 @@
-"""What a program hands in is of the types that are wanted, and fits where it goes.
+"""Checks that the values of a program have the right types, and fit.
 
-Whoever makes a request looks at that, so that a wrong one is told at once, in the thread that calls. Which texts are paths, the library decides.
+A request checks its values when it is made, so that the thread that calls gets the error at once. The library decides which texts are
+paths.
 """
 
 from __future__ import annotations
@@ -12,7 +13,7 @@ Function = TypeVar("Function", bound=Callable[..., Any])
 
 
 def checked_text(what: str, text: str) -> str:
-    """Raises `TypeError` where it is none."""
+    """A text. Raises `TypeError` if it is none."""
     if not isinstance(text, str):
         raise TypeError(f"{what} is a str, and not {type(text).__name__}")
     return text
@@ -24,7 +25,7 @@ def checked_path(path: str) -> str:
 
 
 def checked_function(what: str, function: Function) -> Function:
-    """Raises `TypeError` where it can't be called."""
+    """A function. Raises `TypeError` if it can't be called."""
     if not callable(function):
         raise TypeError(f"{what} is a function, and not {type(function).__name__}")
     return function
@@ -43,7 +44,7 @@ def checked_version(version: int) -> int:
 
 
 def checked_number(what: str, number: float) -> float:
-    """Raises `TypeError` where it is none, and `ValueError` where it is not finite."""
+    """A finite number. Raises `TypeError` if it is no number, and `ValueError` if it is not finite."""
     if not isinstance(number, (int, float)):
         raise TypeError(f"{what} is a number, and not {type(number).__name__}")
     if not math.isfinite(number):
@@ -52,7 +53,7 @@ def checked_number(what: str, number: float) -> float:
 
 
 def checked_int(what: str, number: int, bits: int = 32) -> int:
-    """A number that fits into these bits: a larger one would be taken as another. Raises `TypeError` and `ValueError`."""
+    """A number that fits into these bits: a larger one would reach the library as another. Raises `TypeError` and `ValueError`."""
     if not isinstance(number, int):
         raise TypeError(f"{what} is an int, and not {type(number).__name__}")
     if not -(1 << bits - 1) <= number < 1 << bits - 1:

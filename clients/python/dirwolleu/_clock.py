@@ -3,7 +3,7 @@
 import time
 
 _CLOCK = getattr(time, "CLOCK_BOOTTIME", time.CLOCK_MONOTONIC)
-"""One that goes on while the machine is suspended, if the system has it: what was heard before that is old after it."""
+"""A clock that goes on while the machine is suspended, if there is one: what was heard before is old after it."""
 
 
 def moment() -> int:

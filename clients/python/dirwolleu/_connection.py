@@ -1,4 +1,4 @@
-"""The connection, as the session sees it: what happens to it, what is to be done about it, and when the session is to be told the moment."""
+"""The connection, as the session sees it: its events, the commands for it, and when the session is to get the next moment."""
 
 from __future__ import annotations
 
@@ -16,12 +16,12 @@ from dirwolleu.types import State
 
 logger = logging.getLogger("dirwolleu.connection")
 
-_CONNECTED = State.CONNECTED  # a class of an enum takes its time
+_CONNECTED = State.CONNECTED  # a look-up in the enum's class is slow
 _SESSION = 0xFFFF_FFFF_FFFF_FFFF
 
 
 class Connection(Views):
-    """Takes what came over the connection, and says what goes over it."""
+    """Takes the bytes that come over the connection, and gives the frames that go over it."""
 
     def __init__(self, *words: Any) -> None:
         super().__init__(*words)
@@ -30,11 +30,11 @@ class Connection(Views):
         self._hangs_up, self._is_open, self._is_admitted = False, False, False
         self._count = 0
 
-    # What happens to it.
+    # Its events.
 
     def addresses(self, now: int, kept: int, added: int, is_listed: bool = True) -> None:
-        """There is a list of servers, or another one: first those that were in the list before. The first list has the session ask for a
-        connection; with another one it may move to another server, and does if that of the connection is not listed.
+        """Takes a list of servers: first those that were in the list before. With the first list the session asks for a connection; with a
+        later one it may move to another server, and does if the connection's own is not listed.
         """
         self._count = kept + added
         self._why = MOVED
@@ -42,13 +42,13 @@ class Connection(Views):
         self._why = ""
 
     def opened(self, now: int) -> None:
-        """The connection that was asked for is there."""
+        """The connection that the session asked for is open."""
         self._is_open = self._is_recast = True
         self._credentials.begin_connection()
         self._step(now, Session.opened)
 
     def failed(self, now: int) -> None:
-        """The connection that was asked for could not be made."""
+        """The connection that the session asked for could not be made."""
         self._step(now, Session.failed)
         self._is_recast = True
 
@@ -59,13 +59,13 @@ class Connection(Views):
         self._leave_connection()
 
     def drop(self, now: int, why: str) -> None:
-        """Has the connection closed, for a reason of the host."""
+        """Closes the connection, for a reason of the host."""
         self._why = why
         self._hangs_up, self._cause = True, self._cause or DROPPED
         self.cut(now)
 
     def tick(self, now: int) -> None:
-        self._why = LATE  # where the session leaves a connection, and says no more
+        self._why = LATE  # if the session leaves the connection and gives no reason
         self._step(now, Session.moment)
         self._why = ""
         for asked in self._line.late(now, self.state is State.CONNECTED):
@@ -76,7 +76,7 @@ class Connection(Views):
             self._grow_trees(now)
 
     def received(self, now: int, data: Union[bytes, memoryview]) -> None:
-        """Bytes came, maybe in memory that other bytes are read into after this."""
+        """Bytes came, maybe in memory that later bytes overwrite."""
         if self.observers is not None:
             self.observers.transfer("in", len(data))
         try:
@@ -94,10 +94,10 @@ class Connection(Views):
         if self._line.waiting:
             self._send_line(now)
 
-    # What is to be done about it.
+    # The commands for it, and when it is due.
 
     def take_commands(self) -> ConnectionCommands:
-        """What the driver does next with the connection."""
+        """The commands that the driver executes next."""
         if self._recorder is not None:
             self._flush_record()
         if not self._frames and not self._hangs_up and self._dial is None:
@@ -110,11 +110,11 @@ class Connection(Views):
         return commands
 
     def is_at_rest(self) -> bool:
-        """Whether nothing is to be done for now: there are no orders and no wishes, and what is due is due as it was."""
+        """Whether there is nothing to do for now: no commands, no wishes, and the deadline as it was."""
         return not (self._frames or self._is_recast or self._wishes or self._trees or self._recorder)
 
     def deadline(self) -> Optional[int]:
-        """The moment at which `tick` is wanted, at the latest."""
+        """The moment at which `tick` has to come, at the latest."""
         self._is_recast = False
         if self._saved_at_close is not None:
             return None
@@ -126,9 +126,9 @@ class Connection(Views):
         return self._due
 
     def in_time(self, now: int) -> int:
-        """The moment of what came: now, or if something is due already, the last one before that.
+        """The moment to give for bytes that came: now, or if something is due already, the last moment before that.
 
-        What came may have come before it was due, and be the answer without which the session would leave the server.
+        The bytes may have come before it was due, and may be the answer without which the session would leave the server.
         """
         if self._due is None or now < self._due or self._saved_at_close is not None:
             return now
@@ -136,12 +136,12 @@ class Connection(Views):
         return now if due is None or now < due else max(due - 1, 0)
 
     def is_recast(self) -> bool:
-        """Whether the deadline may be earlier than when it was asked for last, by other things than frames that came and
-        went: what these bring is due after a third of the timeout, or later.
+        """Whether the deadline may be earlier than the last call of `deadline` said, for another reason than frames that came and went:
+        what these bring is due after a third of the timeout, or later.
         """
         return self._is_recast or bool(self._trees)
 
-    # What steps say of it.
+    # The outputs of steps that concern it.
 
     def _take_frame(self, send: Send) -> None:
         self._frames.append(send.frame)
@@ -167,7 +167,7 @@ class Connection(Views):
             self._recorder.begin(self._timeout_ms, unbegun(self._session.last_zxid()))
 
     def _bring_again(self, now: int, piece: Union[bytes, memoryview]) -> None:
-        """Hands bytes to the session once more, which had no memory for them."""
+        """Hands the session bytes once more, for which it had no memory."""
         try:
             self._step(now, Session.received, piece)
         except NoMemory:
@@ -186,7 +186,7 @@ class Connection(Views):
         self._enter(State.CONNECTED)
 
     def _leave_connection(self) -> None:
-        """Forgets what was of one connection."""
+        """Forgets the state of one connection."""
         if self._is_admitted or self._why not in ("", LATE):
             level = logging.DEBUG if not self._is_admitted else logging.WARNING if self.is_running else logging.INFO
             where, reason = self.place or "the server", self._why or "it was closed"

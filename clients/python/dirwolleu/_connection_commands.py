@@ -1,4 +1,4 @@
-"""What an engine tells its driver."""
+"""The commands of an engine for its driver."""
 
 from __future__ import annotations
 
@@ -15,7 +15,7 @@ class News(Protocol):
 
 
 class ConnectionCommands(NamedTuple):
-    """What the driver does with the connection, in this order: it closes it, dials, and writes these frames."""
+    """The commands of one turn, in this order: close the connection, dial, and write these frames."""
 
     hangs_up: bool
     dial: Optional[Dial]

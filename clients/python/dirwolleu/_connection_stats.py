@@ -32,7 +32,7 @@ class Pings:
         self.waiting.append(now)
 
     def answered_by(self, data: Union[bytes, memoryview]) -> Iterator[int]:
-        """When each ping was sent that these bytes answer."""
+        """When each of the pings was sent that these bytes answer."""
         seen = self._tail + data
         for _ in range(min(seen.count(_PONG), len(self.waiting))):
             yield self.waiting.popleft()
@@ -46,10 +46,10 @@ class ConnectionStats:
     """How many attempts to connect there were."""
 
     admissions: int = 0
-    """How many connections had a server that accepted the session."""
+    """On how many connections a server accepted the session."""
 
     answers: int = 0
-    """How many calls a server has answered, without answers that end the connection."""
+    """How many calls a server has answered, without the answers that end the connection."""
 
     losses: int = 0
     """How many calls have ended without an answer."""
@@ -58,14 +58,14 @@ class ConnectionStats:
     """How many sessions have expired."""
 
     heard_at: int = 0
-    """When a server that had accepted the session was heard last, or when dialling began."""
+    """When a server that had accepted the session was last heard, or when dialling began."""
 
     proved_at: Optional[int] = None
-    """When the newest call or ping was handed in that a server has answered, or a lock asked for the listing by which it holds. All that the server sent
-    before that answer has been taken in."""
+    """When the newest answered call or ping was handed in, or when a lock asked for the listing by which it holds. All that the server
+    sent before that answer has been taken in."""
 
     round_trip: Optional[float] = None
-    """How long answers take of late, in milliseconds."""
+    """How long answers took recently, in milliseconds."""
 
     def answered(self, asked_at: int, now: int) -> None:
         """A call or a ping was answered."""
@@ -74,6 +74,6 @@ class ConnectionStats:
         self.round_trip = took if average is None else average + (took - average) / 8
 
     def prove(self, asked_at: int) -> None:
-        """What was handed in then, or later, was answered."""
+        """A server has answered a call or a ping that was handed in at this moment, or later."""
         if self.proved_at is None or asked_at > self.proved_at:
             self.proved_at = asked_at

@@ -1,4 +1,4 @@
-"""The contenders of a session, for its locks: they are handed to the core, and hear what it tells of them.
+"""The contenders of a session, for its locks: they are handed to the core, and hear its reports.
 
 The core alone decides. It makes a place, finds it again if an answer was lost, watches the one before it, says whether it holds, and
 deletes it once it is given up. It contends again after an expiry.
@@ -21,9 +21,9 @@ from dirwolleu.exceptions import MixedNamesError, ZookeeperError
 
 
 class Contender:
-    """One who contends for the lock of a directory, by a naming of the core's and a guid that nobody else has.
+    """A contender for the lock of a directory, with one of the core's namings and a guid that nobody else has.
 
-    It is held once at most: when it holds no more, it is given up. `on_lost` is called then.
+    It holds once at most: when it no longer holds, it is given up, and `on_lost` is called.
     """
 
     def __init__(
@@ -38,15 +38,16 @@ class Contender:
         self.words = directory, naming, guid, data, b"" if acl is None else jute.acls(acl)
         self.directory, self.guid, self.on_lost = directory, guid, on_lost
         self.ticket = self.told = 0
-        """`told` is what the core told of it last, one of `CONTENDER_WAITS` to `CONTENDER_GIVEN_UP`."""
+        """`told` is the core's last report, one of `CONTENDER_WAITS` to `CONTENDER_GIVEN_UP`."""
         self.asked_at: Optional[int] = None
-        """When the first frame about its directory was sent since the core told of it last, in milliseconds: no call of it since is older."""
+        """When the first frame about its directory was sent since the core's last report of it, in milliseconds: none of its calls since
+        is older."""
         self.refused: Optional[BaseException] = None
-        """Why it does not get on."""
+        """Why it makes no progress."""
         self.may_be_there = self.is_lost = self.is_given_up = self.is_over = False
 
     def obstacle(self, told: Contends) -> Optional[ZookeeperError]:
-        """Why it pauses, unless that may pass."""
+        """The error for which it pauses, unless that may pass."""
         error: ZookeeperError
         if told.refusal == library.NUMBERS_USED_UP:
             error = ZookeeperError("the numbers of nodes below it are used up", "take another path")
@@ -59,15 +60,15 @@ class Contender:
 
 
 class ContendingConnection(Connection):
-    """Hands contenders over, and wakes those who wait for them: they listen by the guid, as others do by a path."""
+    """Hands contenders to the core, and wakes those who wait for them: they listen by the guid, as others do by a path."""
 
     def __init__(self, *words: Any) -> None:
         super().__init__(*words)
         self._contenders: dict[int, Contender] = {}
         self._unasked: dict[Contender, bytes] = {}
-        """Those that wait, and about whose directory, as frames have it, none was sent since the core told of them last."""
+        """Those that wait, and about whose directory, as frames spell it, none was sent since the core's last report of them."""
         self._postponed: list[Contender] = []
-        """Those for which there was no memory when the session was taken up again: a place of theirs may be there."""
+        """Those for which there was no memory when the session was resumed: they may have a place already."""
 
     def take_handed(self, now: int) -> None:
         super().take_handed(now)
@@ -76,14 +77,14 @@ class ContendingConnection(Connection):
             self._postponed.clear()
 
     def contend(self, contender: Contender) -> None:
-        """Has a contender join, in the next step. Any thread may call it, and the three below."""
+        """Adds a contender, in the next step. Any thread may call this, and the three below."""
         self.check_process()
         if not self.is_running:
             raise self.why_over("the client is not started")
         self._wishes.append((self._join, contender))
 
     def give_up(self, contender: Contender) -> None:
-        """Has a contender be given up, in the next step. It is over once no place of it is there."""
+        """Gives a contender up, in the next step. It is over once it has no place any more."""
         contender.is_given_up = True
         self._wishes.append((self._part, contender))
 
@@ -96,8 +97,8 @@ class ContendingConnection(Connection):
         return self._look(lambda session: session.place(contender.ticket))
 
     def in_line(self, directory: str, names: Sequence[str], markers: Sequence[str]) -> list[str]:
-        """Those of the names in a directory that have one of these markers before their numbers, in their order, the first one in front. The
-        core says who is the last one before each.
+        """The names in a directory that have one of these markers before their numbers, in their order, the first one in front. The core
+        says who is the last one before each.
         """
         found = [f"{markers[0]}{'9' * 10}"]  # no place has a greater number
         while True:
@@ -115,7 +116,7 @@ class ContendingConnection(Connection):
         try:
             self._await_frame(contender)
             self._step(now, Session.contend, ticket, *contender.words, may_be_there)
-        except Exception as error:  # whatever it is, it is of this contender alone
+        except Exception as error:  # any error concerns only this contender
             self._contenders.pop(ticket, None)
             if may_be_there:
                 return self._postponed.append(contender)
@@ -149,7 +150,7 @@ class ContendingConnection(Connection):
         self._wake(contender.guid)
 
     def _lose(self, contender: Contender) -> None:
-        """It holds no more, if it did."""
+        """It no longer holds, if it did."""
         if contender.told == library.CONTENDER_HOLDS and not contender.is_lost:
             contender.is_lost = True
             if not contender.is_given_up:
@@ -167,18 +168,18 @@ class ContendingConnection(Connection):
             self._end(contender)
 
     def _join_again(self) -> None:
-        """The same session is taken up, which knows nothing of them: their places are looked for, before all else that is asked."""
+        """The same session is resumed, and knows nothing of them: their places are looked for, before anything else is asked."""
         self._wishes.extendleft((self._join, contender) for contender in self._lose_contenders())
 
     def _lose_contenders(self) -> list[Contender]:
-        """Those of a session that is another one now."""
+        """The contenders of a session that another one has replaced."""
         lost = list(self._contenders.values())
         self._contenders.clear()
         for contender in lost:
             self._lose(contender)
         return lost
 
-    # How old what the core has said of them is. Their calls are the core's own, and it does not tell of the answers.
+    # How old the core's reports of them are. Their calls are the core's own, and it does not report the answers.
 
     def _await_frame(self, contender: Contender) -> None:
         contender.asked_at = None
@@ -191,6 +192,6 @@ class ContendingConnection(Connection):
             contender.asked_at = self._now
 
     def _prove(self, contender: Contender) -> None:
-        """It holds by the answer to a listing that it has asked since the core told of it last."""
+        """It holds by the answer to a listing that it has asked for since the core's last report of it."""
         if contender.asked_at is not None:
             self.connection_stats.prove(contender.asked_at)

@@ -1,4 +1,4 @@
-"""A session whose steps are made here, how it stands to the servers, and those who listen. It has no socket, no thread and no clock."""
+"""A session with its steps, its state and its listeners. It has no socket, no thread and no clock."""
 
 from __future__ import annotations
 
@@ -27,10 +27,10 @@ Tell = Callable[[Callable[[Any], object], Any], object]
 
 
 class Core(Observed):
-    """What all parts of an engine rest on."""
+    """The base of all parts of an engine."""
 
     _takers: dict[type, Callable[[Any, Any], None]] = {}
-    """What takes each kind of what a step asks for."""
+    """The function that takes each kind of action of a step."""
 
     def __init__(self, timeout_ms: int, root: Root, tell: Tell) -> None:
         super().__init__()
@@ -43,34 +43,34 @@ class Core(Observed):
         self._is_recast = True
         self.connection_stats = ConnectionStats()
         self.hosts = ""
-        """Which servers are looked for, as the program has named them."""
+        """The servers, as the program has named them."""
         self.trouble = ""
-        """What became of the last attempt to find a server, in words; nothing once one has accepted the session."""
+        """How the last attempt to find a server went, in words; empty once one has accepted the session."""
         self.refused = ""
-        """That a server has refused credentials of the client, in words, if that has ended it: until it is begun again."""
+        """That a server has refused credentials of the client, in words, if that has ended the session; empty once it begins again."""
         self._process: Optional[int] = None
         self._recorder: Optional[Recorder] = None
         self.is_running = False
         self.state = State.LOST
 
-    # What the parts above it do.
+    # The parts above implement these.
 
     def drop(self, now: int, why: str) -> None:
-        """Has the connection closed, for a reason of the host."""
+        """Closes the connection, for a reason of the host."""
         raise NotImplementedError
 
     def refuse(self, words: str, may_have_happened: bool) -> None:
-        """A server does not take who the client is: the session is over, and no server is dialled any more."""
+        """The authentication has failed: the session is over, and no server is dialled any more."""
         raise NotImplementedError
 
     def _resume(self, why: str) -> None:
-        """Has the same session taken up, which keeps nothing, if the old one is of no use any more."""
+        """Resumes the same session, with nothing kept, if the old one can't go on."""
         raise NotImplementedError
 
-    # How it stands.
+    # Its state.
 
     def why_over(self, words: str) -> ZookeeperError:
-        """Why no call is taken: that credentials were refused, or else what these words say."""
+        """Why it accepts no call: refused credentials, or else these words."""
         refused = self.refused
         return AuthFailedError(refused) if refused else ConnectionClosedError(words)
 
@@ -80,11 +80,11 @@ class Core(Observed):
             raise ConnectionClosedError("the client was started in another process, before a fork: make one here")
 
     def is_here(self) -> bool:
-        """Whether this is no forked child of the process in which the client was started."""
+        """Whether this process is no forked child of the one in which the client was started."""
         return self._process in (None, this_process())
 
     def no_server(self, seconds: Optional[float]) -> str:
-        """That no server was found in this time, and what became of the last attempt, in words."""
+        """Says that no server was found in this time, and how the last attempt went."""
         within = f" in {seconds:g} s" if seconds is not None else ""
         last = f"; last: {self.trouble}" if self.trouble else ""
         return f"no server of {self.hosts} accepted the session{within}{last}"
@@ -93,7 +93,7 @@ class Core(Observed):
         """The timeout of the session in seconds: the one that a server granted last, or the one to ask for."""
         return self._granted_ms / 1000
 
-    # Those who listen.
+    # Its listeners.
 
     def add_listener(self, listener: Listener) -> None:
         self._listeners.append(listener)
@@ -103,7 +103,7 @@ class Core(Observed):
 
     @contextlib.contextmanager
     def news(self, wake: Callable[[], None], path: Optional[str] = None) -> Iterator[None]:
-        """Within it, `wake` is called at each change of the state, and at each report of a path."""
+        """Calls `wake` at each change of the state, and at each report of a path, until the context ends."""
         key = object()
         self._listening.add(path, key, wake)
         try:
@@ -129,7 +129,7 @@ class Core(Observed):
     # Steps.
 
     def _step(self, now: int, step: Callable[..., list[Action]], *words: Any) -> None:
-        """A step of the session, with these words. Raises `NoMemory` and `ValueError` where none was made."""
+        """Makes a step of the session, with these arguments. Raises `NoMemory` and `ValueError` if none was made."""
         if self._saved_at_close is not None:
             return
         self._now = now
@@ -141,7 +141,7 @@ class Core(Observed):
             for action in actions:
                 self._takers[type(action)](self, action)
                 if self._session is not session:
-                    return  # it is closed, and what else it asks for is not done
+                    return  # it is closed, and its other actions are dropped
         except NoMemory:
             raise
         except MemoryError:  # within the step
@@ -172,7 +172,7 @@ class Core(Observed):
             recorder.close()
 
     def _recast(self) -> None:
-        """What is due, and when, is another thing than before."""
+        """The deadline may have changed."""
         self._is_recast = True
         if self._saved_at_close is None:
             self._granted_ms = self._session.timeout_ms()

@@ -1,4 +1,4 @@
-"""A counter, for both kinds of clients: by kazoo's node."""
+"""A counter by kazoo's node, for both kinds of clients."""
 
 from __future__ import annotations
 
@@ -28,7 +28,7 @@ class BaseCounter(Generic[AnyClient, Number]):
         return found[0]
 
     def _read(self) -> Plan[tuple[Number, int]]:
-        """The number, and the version of the node, which is made if there is none."""
+        """The number, and the version of the node. It makes the node if there is none."""
         while True:
             try:
                 data, stat = yield requests.get(self._path, None)
@@ -37,7 +37,7 @@ class BaseCounter(Generic[AnyClient, Number]):
                 yield from plans.ensure_path(self._path, None)
 
     def _number(self, data: Optional[bytes]) -> Number:
-        """Raises `ValueError` where the data are no number."""
+        """The number in the node's data. Raises `ValueError` if they are none."""
         return type(self._default)(data.decode()) if data else self._default
 
     def _spelled(self, number: Number) -> bytes:
@@ -45,7 +45,7 @@ class BaseCounter(Generic[AnyClient, Number]):
         return repr(number).encode()
 
     def _changing(self, change: Callable[[Number], Number]) -> Steps[Number]:
-        """Changes what the node has, again if another one was first."""
+        """Changes the number, and tries again if another client was first."""
         while True:
             number, version = yield from patiently(self._client._engine, self._read)
             changed = self._own(change(number))
@@ -53,14 +53,14 @@ class BaseCounter(Generic[AnyClient, Number]):
                 return changed
 
     def _own(self, number: Any) -> Number:
-        """The number as the node has it. Raises `TypeError` where it is of another type: an int alone is a float too."""
+        """The number as the node has it. Raises `TypeError` if it has another type; only an int passes as a float."""
         kind = type(self._default)
         if not isinstance(number, (kind, int) if kind is float else kind):
             raise TypeError(f"the counter {self._path} is of {kind.__name__}, and {number!r} is none")
         return kind(number)
 
     def _is_set(self, spelled: bytes, version: int) -> Steps[bool]:
-        """Whether the data of this version were changed. Raises an error that says so if that can't be found out."""
+        """Sets the data of this version. Returns whether it did, or raises an error that says that this is unknown."""
         try:
             yield requests.set(self._path, spelled, version)
             return True

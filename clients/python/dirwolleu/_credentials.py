@@ -12,11 +12,11 @@ from dirwolleu._requests import Request
 from dirwolleu._session import Session
 
 TAKEN = Answer(0, library.REPLIED, library.DONE, 0, None, None, [])
-"""The answer to a credential that a server has taken."""
+"""The answer to a credential that a server has accepted."""
 
 
 class Credential(NamedTuple):
-    """What a session says of who it is. It is a secret."""
+    """How a session identifies itself. It is a secret."""
 
     scheme: str
     credential: bytes
@@ -44,7 +44,7 @@ class CredentialQueue:
         self._count = 0
 
     def begin(self, session: Session) -> None:
-        """Gives a session that is not begun those that servers have taken, or that the client was made with."""
+        """Gives an unbegun session the credentials that servers have accepted, or that the client was made with."""
         self._given = list(self._kept)
         for credential in self._given:
             session.credential(0, *credential)
@@ -54,15 +54,15 @@ class CredentialQueue:
         self._count = 0
 
     def are_answered(self) -> bool:
-        """Whether the server of this connection has answered all."""
+        """Whether the server of this connection has answered all of them."""
         return self._count >= len(self._given)
 
     def is_taken(self, credential: Credential) -> bool:
-        """Whether the server of this connection has taken it."""
+        """Whether the server of this connection has accepted it."""
         return credential in self._given[: self._count]
 
     def wait(self, asked: Asked, credential: Credential) -> bool:
-        """Has somebody wait for the answer to a credential, and tells whether it is a new one."""
+        """Adds a call that waits for the answer to a credential, and returns whether the credential is new."""
         is_new = credential not in self._given
         if is_new:
             self._given.append(credential)
@@ -70,7 +70,7 @@ class CredentialQueue:
         return is_new
 
     def withdraw(self, asked: Asked) -> None:
-        """The session does not have the one that was given last."""
+        """Forgets the last credential, which the session does not have."""
         self._given.pop()
         self._waiting = [one for one in self._waiting if one[1] is not asked]
 
@@ -78,7 +78,7 @@ class CredentialQueue:
         return self._given[place].scheme
 
     def take(self, place: int) -> list[Asked]:
-        """A server has taken the one at this place. Tells who waits for that."""
+        """A server has accepted the credential at this place. Returns the calls that wait for that."""
         self._count = max(self._count, place + 1)
         credential = self._given[place]
         if credential not in self._kept:
@@ -86,7 +86,7 @@ class CredentialQueue:
         return self.leave(place)
 
     def leave(self, place: int) -> list[Asked]:
-        """Nobody waits any more for the answer to the one at this place. Tells who did."""
+        """Forgets the calls that wait for the answer to the credential at this place, and returns them."""
         found = [asked for waits, asked in self._waiting if waits == place]
         self._waiting = [one for one in self._waiting if one[0] != place]
         return found
@@ -95,6 +95,6 @@ class CredentialQueue:
         return [asked for _, asked in self._waiting if not asked.waiter.done()]
 
     def clear(self) -> list[Asked]:
-        """Nobody waits any more. Tells who did."""
+        """Forgets all calls that wait, and returns them."""
         waiting, self._waiting = self.waiting(), []
         return waiting

@@ -1,4 +1,4 @@
-"""Calls, and what becomes of them: those that the session has, those that wait for it, and the watches that they leave."""
+"""Calls and their outcomes: those that the session has, those that wait for it, and the watches that they leave."""
 
 from __future__ import annotations
 
@@ -22,15 +22,15 @@ from dirwolleu.exceptions import ConnectionLoss, SessionExpiredError, SessionMov
 from dirwolleu.security import AuthFailedError
 from dirwolleu.types import State
 
-_CONNECTED = State.CONNECTED  # a class of an enum takes its time
+_CONNECTED = State.CONNECTED  # a look-up in the enum's class is slow
 _ENDING = (SessionExpiredError.code, SessionMovedError.code)
 LONGEST_TIMEOUT_MS = 2_147_483_647
 MOST_HANDED = 256
-"""How many calls the core has at once, at most. The others wait in the host's line, and one that is cancelled there is never sent."""
+"""The most calls that the core has at once. The others wait in the host's line, and one that is cancelled there is never sent."""
 
 
 class Dispatcher(Core):
-    """Hands calls over, and answers to those who wait for them."""
+    """Hands calls to the core, and answers to those who wait for them."""
 
     def __init__(self, timeout_ms: int, root: Root, tell: Tell, credentials: Iterable[Credential]) -> None:
         super().__init__(timeout_ms, root, tell)
@@ -48,10 +48,10 @@ class Dispatcher(Core):
         return self.state is State.CONNECTED and self._credentials.are_answered() and not self.refused
 
     def is_idle(self) -> bool:
-        """Whether nothing that was sent waits for its answer."""
+        """Whether no call that was sent waits for its answer."""
         return not self._sent
 
-    # What a program asks.
+    # The requests of a program.
 
     def ask(
         self,
@@ -60,9 +60,9 @@ class Dispatcher(Core):
         waiter: Waiter,
         timeout: Optional[float] = None,
     ) -> None:
-        """Hands a request in. `take_handed` hands it over, or keeps it until it can be.
+        """Takes a request in. `take_handed` hands it to the core, or keeps it until it can.
 
-        The caller's timeout, in seconds, bounds the whole wait. Without one it is that of the session.
+        The caller's timeout, in seconds, bounds the whole wait. Without one, the session's timeout does.
         """
         self.check_process()
         if self.observers is not None:
@@ -75,7 +75,9 @@ class Dispatcher(Core):
             raise self.why_over("the client is not started")
 
     def _is_handed_in(self, asked: Asked) -> bool:
-        """Hands a request in, and answers whether somebody takes it: an end that comes after it looks finds the request, and refuses it."""
+        """Takes a request in, and returns whether anything will handle it: if the end comes after this looks, it finds the request and
+        refuses it.
+        """
         self._handed.append(asked)
         if self.is_running:
             return True
@@ -99,7 +101,7 @@ class Dispatcher(Core):
             self._send_line(now)
 
     def _send_line(self, now: int) -> None:
-        """Hands over what waits for that, as far as it can be, except what nobody waits for any more."""
+        """Hands over the requests that wait for that, as many as the core may have, except those that nobody waits for any more."""
         waiting = self._line.waiting
         while waiting and len(self._sent) < MOST_HANDED:
             asked = waiting.popleft()
@@ -121,7 +123,7 @@ class Dispatcher(Core):
         self._sent[ticket] = asked
         try:
             self._step(now, request.call, ticket, until, *request.words)
-        except Exception as error:  # whatever it is, it is of this call alone
+        except Exception as error:  # any error concerns only this call
             self._sent.pop(ticket, None)
             asked.fail(error)
 
@@ -129,7 +131,7 @@ class Dispatcher(Core):
         while self._handed:
             self._handed.popleft().fail(type(error)(*error.args))
 
-    # What becomes of it.
+    # Their outcomes.
 
     def _answer(self, answer: Answer) -> None:
         asked = self._sent.pop(answer.ticket, None)
@@ -187,7 +189,7 @@ class Dispatcher(Core):
         self._wake(None)
 
     def _bar(self, place: int) -> None:
-        """A server refuses the credential at this place. What was sent after it may have happened."""
+        """A server refuses the credential at this place. The calls that were sent after it may have happened."""
         scheme, asked_for_it = self._credentials.scheme(place), self._credentials.leave(place)
         self.refuse(f"the server refuses the credentials of the scheme {scheme}", may_have_happened=True)
         for asked in asked_for_it:

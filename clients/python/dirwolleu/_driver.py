@@ -25,7 +25,7 @@ logger = logging.getLogger("dirwolleu.connection")
 
 SHORTEST_WAIT = 0.1
 MOST_TURNS = 16
-"""How often what a connection has is read before the moment is told, at most."""
+"""How many times a connection is read, at most, before the engine gets the moment."""
 CLOSED = "the server has closed it"
 _NO_DESCRIPTOR = (errno.EMFILE, errno.ENFILE)
 
@@ -36,13 +36,13 @@ def _is_of_tls(error: Optional[BaseException]) -> bool:
 
 
 def _words_of(error: Optional[BaseException]) -> str:
-    """Why an attempt to connect has failed, as the system says it."""
+    """Why an attempt to connect has failed, in the system's words."""
     if isinstance(error, OSError) and not _is_of_tls(error) and error.errno is not None:
         if error.errno > 0:
             words = os.strerror(error.errno)
             return words[:1].lower() + words[1:]
-        return str(error.strerror)  # of a name that was looked up
-    if isinstance(error, ConnectionError) and not str(error):  # of TLS
+        return str(error.strerror)  # from a name look-up
+    if isinstance(error, ConnectionError) and not str(error):  # from TLS
         return "the server ended the connection within the TLS handshake"
     return str(error or "no connection in time")
 
@@ -52,18 +52,18 @@ class Timer(Protocol):
 
 
 class Link(Protocol):
-    """One connection, from the moment that it is dialled. It tells its driver by `dials`, `begin`, `bring`, `failed` and `leave`."""
+    """One connection, from its dial on. It reports to its driver by `dials`, `begin`, `bring`, `failed` and `leave`."""
 
     inbox: Inbox
 
     def write(self, frames: bytes) -> object: ...
 
     def close(self) -> None:
-        """Ends it at once, or what is to become one, and says nothing more."""
+        """Ends the connection, or the attempt to make one, at once, and reports nothing more."""
 
 
 class Loop(Protocol):
-    """What calls functions later, and makes connections."""
+    """Calls functions later, and makes connections."""
 
     def call_soon(self, function: Callable[..., object], *words: Any) -> object: ...
     def call_later(self, seconds: float, function: Callable[..., object], *words: Any) -> Timer: ...
@@ -73,21 +73,21 @@ class Loop(Protocol):
 
 
 class Driver:
-    """Keeps an engine connected to one of its servers, from `start` to `stop`. But for its making, all of it belongs to
-    one loop: that of asyncio, or that of all blocking clients.
+    """Keeps an engine connected to one of its servers, from `start` to `stop`. Except for its making, all of it belongs to one loop:
+    that of asyncio, or that of all blocking clients.
 
-    It is made of the loop's callbacks, and not of a task: whoever cancels all tasks of a loop does not end it.
+    It consists of the loop's callbacks, and not of a task: whoever cancels all tasks of a loop does not end it.
     """
 
     connects: Optional[Callable[[Place], socket.socket]] = None
-    """What connects to an address, in a thread of its own, if the loop is not to do so itself."""
+    """Connects to an address, in a thread of its own, if the loop is not to do so itself."""
 
     def __init__(
         self, servers: Servers, engine: Engine, tls: Optional[ssl.SSLContext] = None, sasl: Optional[Sasl] = None
     ) -> None:
         self.servers, self.tls, self._sasl = servers, tls, sasl
         self._login: Optional[Login] = None
-        """What logs in on the connection, until that is over."""
+        """The log-in on the connection, until it is over."""
         self.place: Optional[Place] = None
         """The server of the connection, or of the attempt to make one."""
         self._hosts: Optional[Hosts] = None
@@ -106,7 +106,7 @@ class Driver:
         self.act()
 
     def stop(self, end: Callable[[], None]) -> None:
-        """Does what ends the engine, ends the connection, and stops dialling."""
+        """Calls `end`, which ends the engine, then ends the connection, and stops dialling."""
         self.is_stopped = True
         try:
             end()
@@ -115,13 +115,13 @@ class Driver:
             self._end()
 
     def dials(self, place: Place) -> None:
-        """An attempt goes to this address."""
+        """An attempt to connect goes to this address."""
         logger.debug("dials %s", place)
         self.place = place
         self._engine.place = str(place)
 
     def begin(self) -> None:
-        """A connection stands."""
+        """The connection is open."""
         logger.debug("asks %s for a session", self.place)
         self._is_dialling = False
         if self._engine.state is not State.CONNECTED:
@@ -131,7 +131,7 @@ class Driver:
         self.act()
 
     def bring(self, piece: Piece) -> None:
-        """Bytes came, and this piece is to be handed in, if it is any. The engine takes it before others are read into its place."""
+        """Bytes came. Hands this piece in, unless it is empty. The engine takes it before later bytes overwrite it."""
         self._has_brought = True
         now = self._came_at = self._noticed()
         if not piece:
@@ -144,7 +144,7 @@ class Driver:
             self.act(now)
 
     def _log_in(self, login: Login, data: bytes) -> bytes:
-        """Goes on with the log-in of the connection, and gives what came for the session: nothing before the end of it."""
+        """Goes on with the log-in of the connection, and returns the bytes that came for the session: none before the log-in is over."""
         try:
             frames, passed = login.take(data)
         except Failed as error:
@@ -162,7 +162,7 @@ class Driver:
         return passed
 
     def act_soon(self) -> None:
-        """Acts at once if nothing waits for an answer, and else once after all that is asked in this turn of the event loop."""
+        """Acts at once if no call waits for its answer, and else once after all requests of this turn of the event loop."""
         if self._is_to_act:
             return
         if self._engine.is_idle():
@@ -172,7 +172,7 @@ class Driver:
             self._loop.call_soon(self.act)
 
     def act(self, now: Optional[int] = None) -> None:
-        """Takes what was asked, does what comes out of the engine, and sees to it that it is woken."""
+        """Hands in the requests, executes the engine's commands, and sets the timer for its deadline."""
         if not self._is_started:
             return
         self._is_to_act = False
@@ -201,7 +201,7 @@ class Driver:
         self.act()
 
     def _tell_hosts(self) -> None:
-        """Tells the engine of the servers, or of other ones."""
+        """Gives the engine the list of servers, or a new one."""
         hosts = self._hosts = self.servers.hosts
         self._engine.hosts = hosts.text
         self._engine.addresses(moment(), *self.servers.arrange(hosts.servers))
@@ -216,7 +216,7 @@ class Driver:
             link.close()
 
     def _dial(self, place: int) -> None:
-        """Begins an attempt to connect. The engine says when it is to be given up."""
+        """Begins an attempt to connect. The engine says when to give it up."""
         self.place, self._is_dialling = None, True
         self._link = self._loop.dial(self, place)
 
@@ -237,12 +237,13 @@ class Driver:
         return f"{self.place}: " if self.place is not None else ""
 
     def _noticed(self) -> int:
-        """The moment of what came: now, or if this process was held up, the last one before that, and before something was due.
+        """The moment to give for what came: now, or if this process was held up, the last moment before that, and before anything was
+        due.
 
-        What came may have come at any time since then.
+        It may have come at any time since then.
         """
         now = moment()
-        if self._timer is not None and now < self._wakes_at:  # which is not after what is due
+        if self._timer is not None and now < self._wakes_at:  # which is not after the deadline
             self._awake_at = now
             return now
         if self._timer is None or now <= self._wakes_at + self._longest_wait():
@@ -250,15 +251,16 @@ class Driver:
         return self._engine.in_time(self._awake_at)
 
     def _longest_wait(self) -> int:
-        """A tenth of the timeout, in milliseconds: so a driver that was held up knows how long, and no deadline that frames bring
-        comes before the next wake."""
+        """A tenth of the timeout, in milliseconds: so that a driver that was held up knows how long, and no deadline that frames bring
+        comes before the next wake.
+        """
         return int(1000 * max(self._engine.timeout() / 10, SHORTEST_WAIT))
 
     def _wake_by(self, deadline: Optional[int]) -> None:
         if deadline is None:
             return
         longest = self._longest_wait()
-        wakes_at = min(deadline, (moment() // longest + 1) * longest)  # all clients of one timeout at once, which takes less
+        wakes_at = min(deadline, (moment() // longest + 1) * longest)  # clients of one timeout wake together, which costs less
         if self._timer is None or wakes_at < self._wakes_at:
             self._set_timer(wakes_at)
 
@@ -269,7 +271,7 @@ class Driver:
         self._timer = self._loop.call_later(max(wakes_at - moment(), 0) / 1000, self._awake)
 
     def _awake(self) -> None:
-        """Tells the moment if something is due, after the loop has read what the socket has: a timer comes after it in each turn."""
+        """Gives the engine the moment if something is due, after the loop has read the socket: in each turn timers come after reads."""
         self._noticed()
         deadline = self._engine.deadline()
         if deadline is None or deadline <= moment() or self._awake_at < self._wakes_at or self._has_rest():
@@ -282,7 +284,9 @@ class Driver:
         self._timer = self._loop.call_later(0, self._tick, turns - 1, ticks_at)
 
     def _tick(self, turns: int, ticks_at: int) -> None:
-        """Tells the moment before the loop has read: it may be held up between that and this, and what comes meanwhile is read later."""
+        """Gives the engine the moment from before the loop has read: it may be held up between that and this, and what comes meanwhile
+        is read later.
+        """
         if self._has_brought and turns:
             return self._tick_next(turns)  # the socket may have more
         self._timer = None
@@ -292,7 +296,7 @@ class Driver:
         self.act()
 
     def _has_rest(self) -> bool:
-        """Whether the session is to be told of the beginning of a long frame: so it knows when the server was heard."""
+        """Whether the session is to get the beginning of a long frame, so that it knows when the server was heard."""
         return self._login is None and self._link is not None and self._link.inbox.has_rest()
 
     def _end(self) -> None:

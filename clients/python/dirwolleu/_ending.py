@@ -1,8 +1,8 @@
-"""The end of the program, as its other threads meet it: they end with it, and nobody hears what they say.
+"""The end of the program, as its other threads meet it: they end with it, and nobody reads what they print.
 
-Python ends a program in its main thread. That waits for the threads that are no daemons, and calls what is registered by `atexit`, while
-the threads that are left go on, until they are killed. What they call of a client that was left has no answer for them: so it
-does not return. A thread that has a lock of the package is not to rest: what the main thread calls may want it.
+Python ends a program in its main thread. That thread waits for the threads that are no daemons, and calls the functions of `atexit`,
+while the other threads go on until they are killed. Their calls to a client that was left have no answer: so these do not return. A
+thread that has a lock of the package must not rest: the main thread's calls may want it.
 """
 
 from __future__ import annotations
@@ -30,16 +30,17 @@ def has_come() -> bool:
 
 
 def rest() -> None:
-    """Does not return where the program ends, and this thread with it."""
+    """Does not return if the program ends, and this thread with it."""
     if has_come():
         threading.Event().wait()
 
 
 @contextlib.contextmanager
 def resting(longest: Optional[float] = 0.0) -> Iterator[None]:
-    """Whoever leaves it rests, where the program ends.
+    """Rests at the end of the context, if the program ends.
 
-    Python 3.12 and later start no thread from shortly before that on, and raise an error: then the end is awaited for this many seconds.
+    From shortly before that on, Python 3.12 and later start no thread, and raise an error: then this waits for the end, for this many
+    seconds.
     """
     try:
         yield

@@ -1,8 +1,8 @@
-"""What both clients share: a session, and who waits for what it tells. It has no socket, no thread and no clock.
+"""The part that both clients share: a session, and those who wait for its reports. It has no socket, no thread and no clock.
 
-The session decides which server is dialled and when, when a connection is left, which calls wait and what becomes of them at a
-cut, what is read again, which nodes of a tree are read, and when another session begins. What is decided here is of the host
-alone: when a tree is looked at, and whose function is called.
+The session decides which server is dialled and when, when a connection is left, which calls wait and how they end at a cut, what is read
+again, which nodes of a tree are read, and when another session begins. The host decides only when a tree is looked at, and whose
+function is called.
 """
 
 from __future__ import annotations
@@ -52,9 +52,9 @@ logger = logging.getLogger("dirwolleu.connection")
 class Engine(ContendingConnection):
     """A session with its callers.
 
-    The steps, those of `take_handed` too, are for one thread, or for another one once that has ended. What only looks,
-    and `ask`, any thread may call, and a signal handler: they take no lock. Moments are milliseconds of one clock that
-    does not go back. `tell` is handed a function and its argument: it calls the function later, not within the call.
+    One thread makes the steps, those of `take_handed` too; another one may once that has ended. Any thread may call `ask` and the
+    look-ups, and a signal handler: they take no lock. Moments are milliseconds of one clock that does not go back. `tell` gets a
+    function and its argument, and calls the function later, not within the call.
     """
 
     def __init__(
@@ -74,7 +74,7 @@ class Engine(ContendingConnection):
         self._granted_ms = self._session.timeout_ms()
         self._session.peek_data("/")  # a ValueError if the root is no path
         self.life = 0
-        """How often it was begun."""
+        """How often it has begun."""
 
     def _new_session(self, saved: Optional[bytes], addresses: int = 0) -> Session:
         if self._recorder is not None:
@@ -85,7 +85,7 @@ class Engine(ContendingConnection):
         return session
 
     def record(self, path: Path, saved: Optional[bytes]) -> None:
-        """Has a file written with all that the session is handed, and what it sends."""
+        """Writes a file with all that the session gets, and what it sends."""
         self._recorder = Recorder(path)
         self._recorder.begin(self._timeout_ms, saved)
 
@@ -102,14 +102,14 @@ class Engine(ContendingConnection):
             self.is_running = True
 
     def end(self) -> None:
-        """Takes no request any more and gives the session up, whether the servers know or not."""
+        """Accepts no more requests and gives the session up, whether the servers know or not."""
         self.is_running = False
         self._begin_anew(ConnectionClosedError("the client was stopped"))
 
     def leave(self) -> None:
-        """Takes no request any more, at the end of the program: the session goes on for its timeout.
+        """Accepts no more requests, at the end of the program: the session goes on for its timeout.
 
-        Nobody is told, since the threads that wait still are those that end with the program.
+        Nobody hears of it, since the threads that still wait end with the program.
         """
         self.is_running = False
         self._listening = Listeners()
@@ -122,7 +122,7 @@ class Engine(ContendingConnection):
         self._listeners.clear()
 
     def close(self) -> None:
-        """Takes no request any more, and frees the session. It ends none."""
+        """Accepts no more requests, and frees the session, without ending it."""
         if self._saved_at_close is not None:
             return
         self.is_running = False
@@ -171,17 +171,19 @@ class Engine(ContendingConnection):
             self._enter(State.SUSPENDED)
 
     def refuse(self, words: str, may_have_happened: bool) -> None:
-        """A server does not take who the client is: the session is over, and no server is dialled any more."""
+        """The authentication has failed: the session is over, and no server is dialled any more."""
         self.refused = self.trouble = self._why = words
         logger.error("%s", words)
-        self._enter(State.LOST)  # who listens knows before those who follow find that it does not run
+        self._enter(State.LOST)  # listeners know before followers find that it does not run
         self.is_running = False
         error = AuthFailedError(words)
         error.may_have_happened = may_have_happened
         self._begin_anew(error)
 
     def _begin_anew(self, error: ZookeeperError) -> None:
-        """Has a session that is not begun, and takes no server that has seen less than the old one, and leaves all callers of that."""
+        """Replaces the session by one that has not begun, and accepts no server that has seen less than the old one, and fails all
+        callers of that.
+        """
         if self._saved_at_close is None:
             self._replace(unbegun(self._session.last_zxid()), 0)
         self._subjects.clear()
@@ -190,7 +192,7 @@ class Engine(ContendingConnection):
         self._leave_connection()
 
     def _resume(self, why: str) -> None:
-        """Has the same session taken up, which keeps nothing, if the old one is of no use any more."""
+        """Resumes the same session, with nothing kept, if the old one can't go on."""
         self._why = why
         self._replace(self._session.saved(), self._count)
         self._wishes.extend((self._follow, followed) for followed in self._subjects.values())
@@ -200,7 +202,7 @@ class Engine(ContendingConnection):
         self._leave_connection()
 
     def _replace(self, saved: bytes, addresses: int) -> None:
-        """Has another session instead of this one. The connection is to be closed."""
+        """Replaces the session by another one. The connection has to be closed."""
         old, self._session = self._session, self._new_session(saved, addresses)
         old.close()
         for tree in self._planted.values():
@@ -210,7 +212,9 @@ class Engine(ContendingConnection):
         self._hangs_up, self._dial = True, None
 
     def _forget_callers(self, error: ZookeeperError, state: State) -> None:
-        """Fails all that waits for an answer, ends all watches, and enters a state. The error says whether what was sent may be done."""
+        """Fails all calls that wait for an answer, ends all watches, and enters a state. The error says whether calls that were sent may
+        have happened.
+        """
         self._refuse_handed(error)
         for tree in list(self._trees):
             tree.end_current()

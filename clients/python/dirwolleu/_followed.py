@@ -1,4 +1,4 @@
-"""What the core keeps good for one who follows it."""
+"""A subject that the core keeps good for a follower."""
 
 from __future__ import annotations
 
@@ -6,7 +6,7 @@ from typing import Callable, Optional
 
 
 class Followed:
-    """A subject of the core's: the data of a node, or the names of its children. `refused` says why a read was refused last."""
+    """A subject of the core: the data of a node, or the names of its children. `refused` says why its last read was refused."""
 
     def __init__(self, path: str, side: int, wake: Callable[[], None]) -> None:
         self.path, self.side = path, side
@@ -14,7 +14,7 @@ class Followed:
         self.refused: Optional[BaseException] = None
 
     def show(self) -> None:
-        """What is kept of it is good."""
+        """Its kept answer is good."""
         self.refused = None
         self._wake()
 

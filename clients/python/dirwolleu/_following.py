@@ -1,7 +1,7 @@
-"""How both clients follow a node or its children: what is told, and what is to be done before the next answer.
+"""How both clients follow a node or its children: which answers they report, and what they do before the next one.
 
-`follow` has the core keep its subject good. A watch that is called reads for itself: the core looks at each of its subjects after
-each step, and a program may have watches by the thousand.
+`follow` has the core keep its subject good. A watch that calls a function reads for itself: the core looks at each of its subjects
+after each step, and a program may have watches by the thousand.
 """
 
 from __future__ import annotations
@@ -27,13 +27,13 @@ from dirwolleu.types import Kept, KeptChildren, State
 logger = logging.getLogger("dirwolleu")
 
 BETWEEN_REFUSED_READS = 1.0
-"""The least number of seconds from a read that brought no good answer to the next one."""
+"""The least number of seconds between a read that brought no good answer and the next one."""
 
 Told = TypeVar("Told", bound=Union[Kept, KeptChildren])
 
 
 class Subject(Generic[Told]):
-    """What is followed of a path. It never changes."""
+    """A side of a path that is followed. It never changes."""
 
     def __init__(
         self,
@@ -46,11 +46,11 @@ class Subject(Generic[Told]):
     ) -> None:
         self.path, self.side = checked_path(path), side
         self.settled = settled
-        """What is good and whole of it now, or None."""
+        """The answer, if it is good and whole now, or None."""
         self.overtaken = overtaken
-        """What was, and a notice has ended, or None."""
+        """The answer that a notice has ended, or None."""
         self.fields = fields
-        """What makes an answer another one."""
+        """The fields by which two answers differ."""
         self.read = read
 
 
@@ -77,7 +77,7 @@ def children_of(engine: Engine, path: str) -> Subject[KeptChildren]:
 
 
 def _read(path: str, read: Callable[[str, bool], Any]) -> Plan[None]:
-    """Reads what is followed, or that there is no node, with a watch."""
+    """Reads the subject, or the absence of its node, with a watch."""
     try:
         yield read(path, True)
     except NoNodeError:
@@ -85,22 +85,22 @@ def _read(path: str, read: Callable[[str, bool], Any]) -> Plan[None]:
 
 
 class Follower(Generic[Told]):
-    """One who follows: within `listening`, it gives each answer that is to be told. `news` is set at each news of the subject."""
+    """Follows a subject: within `listening`, it gives each answer to report. `news` is set at each news of the subject."""
 
     def __init__(self, engine: Engine, subject: Subject[Told], news: News, told: Optional[Told] = None) -> None:
         self._engine, self._subject, self._news = engine, subject, news
         self._life = engine.life
         self._told = told
         self._past: Optional[Told] = None
-        """What was overtaken before it followed."""
+        """The answer that was overtaken before it began to follow."""
         self._trouble = ""
-        """What was told of the reads since the last good answer."""
+        """The last trouble of the reads that was logged since the last good answer."""
 
     @contextmanager
     def listening(self) -> Iterator[Callable[[], Steps[Optional[Told]]]]:
-        """What it gives makes the steps to the next answer: None if the client was stopped.
+        """Yields a function that makes the steps to the next answer: None if the client was stopped.
 
-        An answer that was good when it came is told, even if a notice has come since.
+        An answer that was good when it came is reported, even if a notice has come since.
         """
         subject, wake = self._subject, self._news.set
         self._past = subject.overtaken()
@@ -120,12 +120,12 @@ class Follower(Generic[Told]):
         return None
 
     def _overtaken(self) -> Optional[Told]:
-        """An answer that was good when it came, though nobody has looked before a notice ended it."""
+        """An answer that was good when it came, though a notice ended it before anybody looked."""
         kept, past = self._subject.overtaken(), self._past
         return None if kept is None or past is not None and self._subject.fields(kept) == self._subject.fields(past) else kept
 
     def _let_pass(self, error: BaseException) -> None:
-        """Raises an error after which no read brings anything. One that nothing is known of is told, and the read is asked again."""
+        """Raises an error after which no read brings anything. An unknown one is logged, and the read is asked again."""
         if _is_passing(error):
             return
         if type(error) is not ZookeeperError and not isinstance(error, NoNodeError):
@@ -135,18 +135,18 @@ class Follower(Generic[Told]):
             logger.warning("a read is refused, and asked again: %s", error)
 
     def _is_another(self, kept: Told) -> bool:
-        """Takes a good answer, and tells whether it is another one than that which was told last."""
+        """Takes a good answer, and returns whether it differs from the last one reported."""
         told, self._told, self._trouble = self._told, kept, ""
         return told is None or self._subject.fields(kept) != self._subject.fields(told)
 
 
 def _is_passing(error: BaseException) -> bool:
-    """Whether a later read may bring what one did not. A client that has ended may have been started again."""
+    """Whether a later read may bring an answer. A client that has ended may have been started again."""
     return isinstance(error, ZookeeperError) and (is_passing(error) or isinstance(error, (ConnectionClosedError, AuthFailedError)))
 
 
 class Watching(Follower[Told]):
-    """One who reads for itself, while it is wanted, and gives what is good now alone."""
+    """A follower that reads for itself, while it is wanted, and gives only answers that are good now."""
 
     def __init__(
         self, engine: Engine, subject: Subject[Told], news: News, is_wanted: Callable[[], bool], told: Optional[Told] = None
@@ -157,14 +157,14 @@ class Watching(Follower[Told]):
 
     @contextmanager
     def listening(self) -> Iterator[Callable[[], Steps[Optional[Told]]]]:
-        """What it gives makes the steps to the next answer: None if the client was stopped, or none is wanted."""
+        """Yields a function that makes the steps to the next answer: None if the client was stopped, or no answer is wanted."""
         with self._engine.news(self._news.set, self._subject.path):
             yield self._next_good
 
     def _next_good(self) -> Steps[Optional[Told]]:
         while self._engine.is_running and self._is_wanted():
             self._news.clear()
-            kept = self._subject.settled()  # looked up once: what another read brings right after it is no news
+            kept = self._subject.settled()  # looked up once: an answer to another read right after it is no news
             if kept is None:
                 yield from self._read_when_due()
                 continue
@@ -175,7 +175,7 @@ class Watching(Follower[Told]):
         return None
 
     def _read_when_due(self) -> Steps[None]:
-        """A read, though a second after one that brought nothing. Without a server news is waited for."""
+        """Reads, but only a second after a read that brought nothing. Without a server it waits for news."""
         if self._engine.state is not State.CONNECTED:
             yield Wait(None)
             return
@@ -198,7 +198,7 @@ def begun(engine: Engine) -> None:
 def first(
     engine: Engine, subject: Subject[Told], news: News, call: Callable[[Told], Any], is_wanted: Callable[[], bool]
 ) -> Steps[tuple[Optional[Told], bool]]:
-    """Calls a function with the first good answer. Gives that answer and whether the function wants more: no answer if none came
+    """Calls a function with the first good answer. Returns that answer and whether the function wants more: no answer if none came
     within the timeout of the session, or the client was stopped.
     """
     with Watching(engine, subject, news, is_wanted).listening() as next_one:
@@ -217,8 +217,8 @@ def watching(
     is_wanted: Callable[[], bool],
     told: Optional[Told] = None,
 ) -> Steps[None]:
-    """Calls a function with each good answer but the one that was told, until it answers False. It goes on if the client is
-    started again.
+    """Calls a function with each good answer except `told`, which was reported before, until it returns False. It goes on if the
+    client is started again.
     """
     with Watching(engine, subject, news, is_wanted, told).listening() as next_one:
         while is_wanted():

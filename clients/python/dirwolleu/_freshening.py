@@ -10,10 +10,10 @@ from dirwolleu.transaction import Transaction
 
 
 def freshening(engine: Engine, quorum: bool) -> Plan[int]:
-    """Asks for the barrier, and tells the zxid that was seen with its answer, or a later one.
+    """Asks for the barrier, and returns the zxid that was seen with its answer, or a later one.
 
     The zxid of the barrier's answer is not before that of any write which was answered when the barrier was asked for:
-    the server had taken these by then. Each later connection is to a server that has seen it.
+    the server had these by then. Each later connection is to a server that has seen it.
     """
     yield from _ordered() if quorum else _synced()
     return engine.last_zxid()
@@ -24,7 +24,7 @@ def _synced() -> Plan[None]:
 
 
 def _ordered() -> Plan[None]:
-    """A transaction that changes nothing. If it is refused, as for a root that is not there, it was ordered too."""
+    """A transaction that changes nothing. If it is refused, as when the root is missing, it was ordered too."""
     transaction = Transaction(lambda *_: [])
     transaction.check("/", -1)
     request = transaction.request()

@@ -1,4 +1,4 @@
-"""A handle of the library, and what is kept by it: any thread may look that up."""
+"""A handle of the library, and the look-ups of its kept answers, which any thread may make."""
 
 from __future__ import annotations
 
@@ -35,7 +35,7 @@ from dirwolleu.types import DataStat
 
 
 class KeptData(NamedTuple):
-    """What is kept of the data of a path."""
+    """The kept answer for the data of a path."""
 
     kind: int
     mark: int
@@ -44,7 +44,7 @@ class KeptData(NamedTuple):
 
 
 class KeptNames(NamedTuple):
-    """What is kept of the children of a path. The mark is 0 if nothing is."""
+    """The kept answer for the children of a path. The mark is 0 if there is none."""
 
     mark: int
     names: tuple[str, ...]
@@ -61,21 +61,21 @@ class SubtreeNode(NamedTuple):
 
 
 class Lacking(NamedTuple):
-    """A read, with a watch, that is lacking before there is a subtree. The side is `DATA_SIDE` or `CHILDREN_SIDE`."""
+    """A read, with a watch, that is missing before there is a subtree. The side is `DATA_SIDE` or `CHILDREN_SIDE`."""
 
     path: str
     side: int
 
 
 class Standing(NamedTuple):
-    """Whether a session comes first in a directory, by a token; or after a rival; or neither is shown."""
+    """Whether a session comes first in a directory, with a token, or after a rival, or neither is shown."""
 
     token: Optional[int]
     rival: Optional[str]
 
 
 class KeptAtOnce(NamedTuple):
-    """What is kept of several paths, all of it good and of one moment: of the nodes, and of the names below the parents."""
+    """The kept answers for several paths, all good and of one moment: for the nodes, and for the names below the parents."""
 
     nodes: list[KeptData]
     children: list[KeptNames]
@@ -87,7 +87,7 @@ _length_at = struct.Struct(">I").unpack_from
 MANY, TURN = 2048, 0.00002
 """After this many texts other threads have the interpreter for this many seconds at least: they would wait for 5 ms else."""
 TURN_OF_TEXT = 0.0000001
-"""For this many seconds a text they have it once a step has read many of one length: half as long as the step took."""
+"""They have it for this many seconds a text, once a step has read many of one length: half as long as the step took."""
 
 
 def texts_in(spelled: bytes) -> list[str]:
@@ -96,8 +96,8 @@ def texts_in(spelled: bytes) -> list[str]:
 
 
 def _texts_of_one_length(spelled: bytes) -> list[str]:
-    """The same in a fifth of the time, if they are many, of ASCII and all as long as the first. Else none. Other threads have the interpreter
-    first: the step that read the texts has kept it from them.
+    """The same in a fifth of the time, if there are many, all of ASCII and as long as the first; else none. Other threads have the
+    interpreter first: the step that read the texts has kept it from them.
     """
     if len(spelled) < MANY or not spelled.isascii():
         return []
@@ -127,7 +127,7 @@ def _each_text_in(spelled: bytes) -> Iterator[str]:
 
 
 def _buffer_at(spelled: bytes, at: int) -> tuple[Optional[bytes], int]:
-    """The bytes at this place, after their length in four bytes, and the place after them. None are null."""
+    """The bytes at this place, after their length in four bytes, and the place after them. None means null."""
     length = int.from_bytes(spelled[at : at + 4], "big", signed=True)
     begin = at + 4
     return (None, begin) if length < 0 else (spelled[begin : begin + length], begin + length)
@@ -189,7 +189,7 @@ def _joined(texts: Iterable[bytes]) -> bytes:
 
 
 def _spelled(texts: Iterable[str]) -> bytes:
-    """The same of texts that are not spelled yet."""
+    """The same for texts that are not encoded yet."""
     return _joined(map(str.encode, texts))
 
 
@@ -200,7 +200,7 @@ _FEW = 512
 
 
 def filled(call: Callable[..., int], likely: int = 0) -> bytes:
-    """What a call writes into a room, of which it is told how much there is, and counts. It is likely to want no more than this."""
+    """The bytes that a call writes into a buffer, whose length it gets, and counts. It probably needs no more than `likely`."""
     count, room = c_size_t(), new_bytes(None, max(likely, _FEW))
     while True:
         checked(call(room, len(room), byref(count)))
@@ -214,7 +214,7 @@ Stamp = TypeVar("Stamp")
 
 
 def _steady(look: Callable[[], Found], stamp: Callable[[], Stamp]) -> tuple[Found, Stamp]:
-    """What a look finds between two equal stamps: no step that counts was made meanwhile."""
+    """The result of a look between two equal stamps: no step that counts was made meanwhile."""
     before = stamp()
     while True:
         found, after = look(), stamp()
@@ -232,19 +232,17 @@ def _codes_of(kind: type[Structure]) -> Iterator[str]:
 
 
 def fields_of(kind: type[Structure]) -> Callable[[Structure], tuple[Any, ...]]:
-    """What tells all fields of a structure at once, with those of the structures in it in their places."""
+    """A function that reads all fields of a structure at once, with those of the structures in it in their places."""
     return struct.Struct("@" + "".join(_codes_of(kind))).unpack_from
 
 
 _fields_of_kept_data = fields_of(library._KeptData)
-made = tuple.__new__  # it makes a record of its fields, and is quicker than the record's own name
+made = tuple.__new__  # it makes a record of its fields, and is faster than the record's own class
 _KINDS_OF_KEPT, _MARKS = frozenset((NOTHING, ABSENT, KNOWN, FULL)), frozenset((0, GOOD, STALE))
 
 
 class LookUps:
-    """What is kept of a session, which is looked up. All paths that go in and come out are below the root: it is put before them, and
-    taken off.
-    """
+    """The look-ups of a session. All paths that go in and come out are below the root: it is put before them, and taken off."""
 
     _calls = functions("dw_session_")
 
@@ -254,10 +252,10 @@ class LookUps:
         self._root = root
 
     _process: object = None
-    """Where it was made: nowhere before it is."""
+    """The process in which it was made: none before that."""
 
     def close(self) -> None:
-        """Frees what it holds. It ends no session. In a forked child it does nothing."""
+        """Frees its memory. It ends no session. In a forked child it does nothing."""
         if this_process() == self._process:
             self._calls.free(self._handle)
 
@@ -285,38 +283,40 @@ class LookUps:
         return None
 
     def saved(self) -> bytes:
-        """What takes the session up again."""
+        """The bytes that resume the session."""
         return filled(lambda *room: self._calls.saved(self._handle, *room))
 
     def peek_data(self, path: str) -> tuple[KeptData, int]:
-        """What is kept of the data of a path, and the last zxid at that moment."""
+        """The kept answer for the data of a path, and the last zxid at that moment."""
         return _steady(lambda: self._data_kept(path), self.last_zxid)
 
     def peek_children(self, path: str) -> tuple[KeptNames, int]:
-        """What is kept of the children of a path, and the last zxid at that moment."""
+        """The kept answer for the children of a path, and the last zxid at that moment."""
         names, (side, last_zxid) = _steady(
             lambda: self._names_kept(path), lambda: (self._side_kept(path), self.last_zxid())
         )
         return KeptNames(side[0], names, side[1]), last_zxid
 
     def subtree(self, path: str, most: int) -> tuple[Optional[list[SubtreeNode]], int]:
-        """All nodes at and below a path, each after its parent, and the last zxid at that moment: these are all that the
-        servers had there at that zxid. None if some of it is not kept good: read what is lacking. `TooManyNodes` where
-        more than this many are reached."""
+        """All nodes at and below a path, each after its parent, and the last zxid at that moment: the servers had just these nodes there at
+        that zxid. None if some of it is not kept good: make the reads of `lacking`. Raises `TooManyNodes` if there are more than `most`.
+        """
         spelled, last_zxid = _steady(lambda: self._collected(self._calls.subtree, path, most), self.last_zxid)
         return None if spelled is None else list(_nodes_in(spelled, self._root)), last_zxid
 
     def lacking(self, path: str, most: int) -> list[Lacking]:
-        """The reads, with a watch, that are lacking before there is a subtree: none exactly if there is one. `NotWhole`
-        where a name makes no path, so that no read helps."""
+        """The reads, with a watch, that are missing before there is a subtree: none exactly if there is one. Raises `NotWhole` if a name
+        makes no path, so that no read helps.
+        """
         spelled = self._collected(self._calls.lacking, path, most)
         if spelled is None:
             raise NotWhole(f"a name below {path} makes no path")
         return list(_lacking_in(spelled, self._root))
 
     def snapshot(self, nodes: Sequence[str], parents: Sequence[str]) -> tuple[Optional[KeptAtOnce], int]:
-        """What is kept of nodes and of the names below parents, in their order, and the last zxid at that moment: it is all what
-        the servers had there at that zxid. None if some of it is not kept good: read that again, with a watch."""
+        """The kept answers for nodes and for the names below parents, in their order, and the last zxid at that moment: the servers had all
+        of it at that zxid. None if some of it is not kept good: read that again, with a watch.
+        """
         found, last_zxid = _steady(lambda: self._kept_at_once(nodes, parents), self.last_zxid)
         if found is None:
             return None, last_zxid
@@ -338,8 +338,9 @@ class LookUps:
     def standing(
         self, directory: str, name: str, names: Iterable[str], listed: int, markers: Iterable[str]
     ) -> Standing:
-        """Where the session stands by its node of this name in a directory, by the names of a listing, which needs no watch,
-        and the zxid of that answer. The first marker is that of its name, the others are those of its rivals."""
+        """The standing of the session in a directory by its node of this name, by the names and the zxid of a listing, which needs no
+        watch. The first marker is that of its name, the others are those of its rivals.
+        """
         spelled, own, room = self._root.spell(directory), name.encode(), new_bytes(None, _FEW)
         listing, kinds, token, count = _spelled(names), _spelled(markers), c_int64(), c_size_t()
         contender = (spelled, len(spelled), own, len(own), listing, len(listing), listed, kinds, len(kinds))
@@ -353,9 +354,10 @@ class LookUps:
         return Standing(token.value if code == OK else None, rival)
 
     def holder(self, directory: str, prefix: str, path: str) -> Optional[int]:
-        """The token by which the session holds the first place in a directory by its node of this path: of the names there that
-        begin with the prefix, which are kept good, that node's is the first in byte order, and what is kept of the node is good and
-        this session's. None if that is not shown."""
+        """The token by which the session holds the first place in a directory by its node of this path: of the names there that begin with
+        the prefix, which are kept good, that node's is the first in byte order, and the kept answer for the node is good and the node is
+        this session's. None if that is not shown.
+        """
         spelled, begin, own, token = self._root.spell(directory), prefix.encode(), self._root.spell(path), c_int64()
         place = spelled, len(spelled), begin, len(begin), own, len(own)
         code = self._calls.holder(self._handle, *place, byref(token))
@@ -363,14 +365,14 @@ class LookUps:
         return token.value if code == OK else None
 
     def held(self, ticket: int) -> Optional[int]:
-        """The token, if the session holds by the contender of this ticket: at the last zxid. None if that is not shown."""
+        """The token, if the session holds by the contender of this ticket, at the last zxid. None if that is not shown."""
         token = c_int64()
         code = self._calls.held(self._handle, ticket, byref(token))
         checked(code)
         return token.value if code == OK else None
 
     def place(self, ticket: int) -> Optional[str]:
-        """The path of the place of the contender of this ticket, if it is known."""
+        """The path of the place that this ticket's contender has, if it is known."""
         path = filled(lambda *room: self._calls.place(self._handle, ticket, *room))
         return self._root.read(path) if path else None
 
@@ -402,7 +404,7 @@ class LookUps:
         return tuple(texts_in(names))
 
     def _collected(self, collect: Callable[..., int], path: str, most: int) -> Optional[bytes]:
-        """What a function copies of what is at and below a path, and None if that is not whole."""
+        """The bytes that a function copies about the nodes at and below a path, and None if they are not whole."""
         spelled = self._root.spell(path)
         try:
             return filled(lambda *room: self._checked_at(collect(self._handle, spelled, len(spelled), most, *room), path))
@@ -414,7 +416,7 @@ class LookUps:
         return code
 
     def _checked_among(self, code: int, *paths: Iterable[str]) -> int:
-        """The same of a call about these paths: names the first that is none."""
+        """The same for a call about these paths: the error names the first that is none."""
         if code == NOT_PATH:
             for path in itertools.chain(*paths):
                 self._side_kept(path)
@@ -422,7 +424,7 @@ class LookUps:
         return code
 
     def _check(self, code: int, path: str) -> None:
-        """Raises what a code below 0 says of a call about this path."""
+        """Raises the error of a code below 0, from a call about this path."""
         if code < OK:
             if code == NOT_PATH:
                 raise no_path(path, self._root.full(path))

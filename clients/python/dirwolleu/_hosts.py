@@ -1,4 +1,4 @@
-"""Which servers a client dials: what a connection string says, and which address is next."""
+"""Which servers a client dials: the hosts of a connection string, and the next address."""
 
 from __future__ import annotations
 
@@ -18,7 +18,7 @@ Server = tuple[str, int]
 
 
 class Hosts(NamedTuple):
-    """What a connection string says."""
+    """The parts of a connection string."""
 
     text: str
     servers: tuple[Server, ...]
@@ -39,7 +39,7 @@ class Place(NamedTuple):
 
 
 def hosts_of(text: str) -> Hosts:
-    """What a text like `host:port,host:port/root` says. Raises `ValueError` and `TypeError` where it is none.
+    """Reads a text like `host:port,host:port/root`. Raises `ValueError` and `TypeError` if it is none.
 
     A port that is left out is 2181. An IPv6 address is in brackets. The root is that of all hosts.
     """
@@ -60,14 +60,14 @@ def _server(text: str) -> Server:
 
 
 Found = Callable[[Optional[Place], Optional[OSError]], object]
-"""What is told of an address that is found, or of why there is none."""
+"""A function that gets an address, or the error for which there is none."""
 
 
 class _Round:
     """A list of servers in the order of its places, and the addresses that were dialled, until all of a name were.
 
-    The library tells a place of the list, and goes through all of them in an order of its own. That is left to chance; or the
-    list is in just that order in which the servers are named.
+    The library names places of the list, and goes through all of them in an order of its own, which is random. If that is not wanted,
+    each new place gets the next server, in the order in which the servers are named.
     """
 
     def __init__(self, servers: tuple[Server, ...], is_by_chance: bool) -> None:
@@ -81,7 +81,7 @@ class _Round:
         return self._places.setdefault(place, self._servers[len(self._places) % len(self._servers)])
 
     def choose(self, places: list[Place]) -> Place:
-        """One of the places of a name: one that was not dialled yet, as long as there is one."""
+        """One of the addresses of a name: one that was not dialled yet, as long as there is one."""
         fresh = [place for place in places if place not in self._dialled]
         if not fresh:
             self._dialled.difference_update(places)
@@ -103,15 +103,15 @@ class Servers:
         self._lookups: dict[Server, LookUp] = {}
 
     def replace(self, hosts: str) -> None:
-        """Names these servers, for who calls `arrange`. Raises `ValueError` where the root is another one."""
+        """Sets the servers for the next `arrange`. Raises `ValueError` if the root is another one."""
         new = hosts_of(hosts)
         if new.root != self.hosts.root:
             raise ValueError(f"the root of a client stays {self.hosts.root.path or '/'}")
         self.hosts = new
 
     def arrange(self, servers: tuple[Server, ...]) -> tuple[int, int, bool]:
-        """Has places be those of these servers, of which first those stand that were arranged before. Gives how many they are, how many
-        were not, and whether the server that was dialled last is one of them.
+        """Gives these servers the places of a list: first those that had one before. Returns how many they are, how many had none, and
+        whether the server that was dialled last is one of them.
         """
         before, self._listed = self._listed, servers
         kept = tuple(server for server in servers if server in before)
@@ -120,8 +120,8 @@ class Servers:
         return len(kept), len(added), self._dialled is None or self._dialled in servers
 
     def find(self, place: int, soon: Callable[[Callable[[], object]], object], tell: Found) -> None:
-        """Finds an address of the server at a place of the list, and tells it, or why there is none. A name is looked up each time: `soon` has a
-        function called afterwards, from another thread.
+        """Finds an address of the server at a place of the list, and calls `tell` with it, or with the error for which there is none. A
+        name is looked up each time, in another thread, which calls by `soon`.
         """
         current = self._round
         host, port = self._dialled = current.server_at(place)
@@ -135,7 +135,7 @@ class Servers:
         self._look_up(host, port).then(lambda *found: soon(lambda: choose(*found)))
 
     def _look_up(self, host: str, port: int) -> LookUp:
-        """The look-up of a host. One that is under way already is shared, so that no more than one waits."""
+        """The look-up of a host. One that is under way already is shared, so that there is one at most."""
         from dirwolleu._lookups import LookUp
 
         found = self._lookups.get((host, port))
@@ -145,7 +145,7 @@ class Servers:
 
 
 def _address_of(host: str) -> Optional[str]:
-    """The address that a host is, unless it is a name."""
+    """The host, if it is an address; None if it is a name."""
     import socket  # here, since only a client that is started dials
 
     for family in (socket.AF_INET, socket.AF_INET6):

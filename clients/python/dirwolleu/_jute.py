@@ -1,4 +1,4 @@
-"""Records as zookeeper.jute spells them, as far as the core does not know them."""
+"""The records of zookeeper.jute that the core does not know."""
 
 from __future__ import annotations
 
@@ -13,11 +13,11 @@ from dirwolleu.types import Stat
 Item = TypeVar("Item")
 _STAT = struct.Struct(">qqqqiiiqiiq")
 ERROR = -1
-"""Stands for an operation in a multi, if a part of it was refused, and at its end."""
+"""The operation of a refused part in the answer to a multi, and of the end of a multi."""
 
 
 class Malformed(Exception):
-    """The bytes of a record do not read."""
+    """The bytes of a record do not parse."""
 
 
 def integer(value: int) -> bytes:
@@ -105,7 +105,7 @@ class Reader:
         return ACL(self.integer(), Id(self.text(), self.text()))
 
     def items(self, take: Callable[[], Item]) -> list[Item]:
-        """A vector, each item of which is taken by a function."""
+        """A vector, whose items a function takes."""
         count = self.integer()
         if count > len(self._payload):
             raise Malformed

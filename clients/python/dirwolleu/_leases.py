@@ -1,7 +1,7 @@
-"""How a lease of a semaphore is taken, for both kinds of clients: a contender of the core's, once the node of the path says how many there are.
+"""How both kinds of clients take a lease of a semaphore: by a contender of the core, once the node of the path says how many there are.
 
-That number alone is read and compared here. It is below 0, since semaphores of kazoo, which count other nodes, have one above it: so neither
-goes into a path of the other.
+Only that number is read and compared here. It is below 0, since semaphores of kazoo, which count other nodes, have one above it: so neither
+enters a path of the other.
 """
 
 from __future__ import annotations
@@ -24,7 +24,7 @@ _OF_CURATOR = "leases"
 
 
 def _number_in(data: Optional[bytes]) -> Optional[int]:
-    """The number that a node of a semaphore has. It may be used for something else too."""
+    """The number in the node of a semaphore, or None: the node may be used for something else too."""
     try:
         return int(data or b"")
     except ValueError:
@@ -58,7 +58,7 @@ class BaseSemaphore(BaseTaker[AnyClient, AnyHeld]):
         return (yield from super()._take(on_lost, until))
 
     def _agree(self, until: Optional[float]) -> Steps[None]:
-        """Sees to it that the node says how many leases there are, through any number of connections and sessions."""
+        """Makes sure that the node says how many leases there are, through any number of connections and sessions."""
         while True:
             try:
                 yield from bounded(self._agreed(), until)
@@ -80,7 +80,7 @@ class BaseSemaphore(BaseTaker[AnyClient, AnyHeld]):
                 return
 
     def _check(self, number: Optional[int], is_of_curator: bool) -> None:
-        """Raises `MixedNamesError` at the node of another library's semaphore, and `ValueError` where it says another number."""
+        """Raises `MixedNamesError` at the node of another library's semaphore, and `ValueError` if it says another number."""
         if is_of_curator or number is not None and number > 0:
             whose = "Curator" if is_of_curator else "kazoo"
             error = MixedNamesError(f"the node is that of a semaphore of {whose}", "take another path")
@@ -97,7 +97,7 @@ class BaseSemaphore(BaseTaker[AnyClient, AnyHeld]):
             pass
 
     def _lease_holders(self) -> Steps[list[str]]:
-        """The identifiers of those that hold a lease, in the order of their nodes. It is a look at the nodes of a moment, and decides nothing."""
+        """The identifiers of those that hold a lease, in the order of their nodes. It shows the nodes of a moment, and decides nothing."""
         return run(identifiers(self._client._engine, self._path, LEASES, self._most), self._client._retry, None)
 
 

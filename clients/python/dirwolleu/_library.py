@@ -1,7 +1,8 @@
-"""The shared library by ctypes: its functions, structs and numbers, what its steps say, and what it raises. `Session` hides its pointers.
+"""The shared library by ctypes: its functions, structs and numbers, the outputs of its steps, and its errors. `Session` hides its
+pointers.
 
-No call lets another thread run before it has returned, since the interpreter's lock is held: so calls do not overlap,
-and no thread that is interrupted keeps a lock.
+No call lets another thread run before it has returned, since it holds the interpreter's lock: so calls do not overlap, and no thread that
+is interrupted keeps a lock.
 """
 
 from __future__ import annotations
@@ -325,8 +326,9 @@ _HERE = os.path.dirname(os.path.realpath(__file__))
 
 
 def _find() -> str:
-    """The file of the library: what the environment names, else what lies in the package, else what a checkout has built or
-    brings along, else what the system has."""
+    """The file of the library: the one that the environment names, else the one in the package, else the one that a checkout has built or
+    brings along, else the system's.
+    """
     named = os.environ.get("DIRWOLLEU_LIBRARY")
     if named:
         return named
@@ -340,14 +342,14 @@ def _find() -> str:
 
 
 def _installed() -> Optional[str]:
-    """What the system has."""
+    """The library of the system."""
     from ctypes.util import find_library  # here, since it takes a tenth of the time of the whole import
 
     return find_library("dirwolleu")
 
 
 def _check_machine() -> None:
-    """Fails in words if the library can't run."""
+    """Raises an `ImportError` that says why if the library can't run."""
     system = os.uname() if hasattr(os, "uname") else None
     machine, name = (system.machine, system.sysname) if system else ("another machine", sys.platform)
     if (machine.lower(), name) not in (("x86_64", "Linux"), ("amd64", "Linux")):
@@ -362,7 +364,7 @@ def version_text(number: int) -> str:
 
 
 def _check_version(file: str, library: ctypes.PyDLL) -> None:
-    """Fails in words if the library is not of the version that this package was written for."""
+    """Raises an `ImportError` that says so if the library has another version than this package was written for."""
     function = getattr(library, "dw_version", None)
     found = version_text(function()) if function else "0.2.0 or earlier"
     if found != version_text(VERSION):
@@ -372,7 +374,7 @@ def _check_version(file: str, library: ctypes.PyDLL) -> None:
 
 
 def declare(file: str, library: ctypes.CDLL, functions: dict[str, tuple[Any, tuple[Any, ...]]]) -> None:
-    """Declares what the functions of a library take and return. Raises `ImportError` if it lacks one."""
+    """Declares what the functions of a library take and return. Raises `ImportError` if one is missing."""
     for name, (result, parameters) in functions.items():
         function = getattr(library, name, None)
         if function is None:
@@ -411,7 +413,7 @@ class Answer(NamedTuple):
 
 
 class Report(NamedTuple):
-    """What was known of a side of a path has ended."""
+    """The good answer about a side of a path has ended."""
 
     event: int
     side: int
@@ -419,7 +421,7 @@ class Report(NamedTuple):
 
 
 class StateChange(NamedTuple):
-    """The state is another one."""
+    """The state has changed."""
 
     state: int
 
@@ -436,7 +438,7 @@ Output = Union[Send, Answer, Report, StateChange, Drop]
 
 
 class NotWhole(LookupError):
-    """Some of what is asked for is not kept, or not good."""
+    """Some of the nodes that were asked for are not kept, or not good."""
 
 
 class TooManyNodes(ValueError):
@@ -444,7 +446,7 @@ class TooManyNodes(ValueError):
 
 
 class Halted(MemoryError):
-    """The machine ran out of memory within a step. It has no use from then on, but its session can still be taken."""
+    """The machine ran out of memory within a step. It is of no use from then on, but its session can still be saved."""
 
 
 class NoMemory(MemoryError):
@@ -456,18 +458,18 @@ class Closed(RuntimeError):
 
 
 class UnknownNumber(RuntimeError):
-    """The library gives a number that this package does not know: it is of another version."""
+    """The library gives a number that this package does not know: it has another version."""
 
 
 def known(what: str, number: int, among: Collection[int]) -> int:
-    """The number, if it is one of those that there are."""
+    """The number, if it is one of these. Raises `UnknownNumber` if not."""
     if number not in among:
         raise UnknownNumber(f"the library gives the {what} {number}, which this package does not know: take both of one version")
     return number
 
 
 def checked(code: int) -> None:
-    """Raises what a code below 0 says."""
+    """Raises the error of a code below 0."""
     if code >= OK:
         return
     words = _RESULT_WORDS[known("result", code, _RESULT_WORDS)]
@@ -481,9 +483,9 @@ def checked(code: int) -> None:
 
 
 def functions(prefix: str) -> types.SimpleNamespace:
-    """The functions of the library whose names begin so, without that."""
+    """The functions of the library whose names begin with this prefix, by their names without it."""
     names = [name for name in _FUNCTIONS if name.startswith(prefix)]
     found = types.SimpleNamespace(**{name[len(prefix) :]: getattr(_library, name) for name in names})
-    # These are called most, by pointers and sizes of C: other objects, which do not look at their arguments.
+    # These are called most, with pointers and sizes of C: by other objects, which do not check their arguments.
     vars(found).update((name, _library[prefix + name]) for name in ("next", "copy", "outputs") if name in vars(found))
     return found

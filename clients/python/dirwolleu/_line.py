@@ -1,4 +1,4 @@
-"""What waits to be handed over, in the order of asking, and the limits of what the library does not have."""
+"""The requests that wait to be handed over, in the order of asking, and the limits of those that the library does not have."""
 
 from __future__ import annotations
 
@@ -12,7 +12,7 @@ from dirwolleu._asked import Asked
 
 
 class Line:
-    """What was asked and is handed over later, since the core has as many as it is to have: `waiting`, the one that was asked first in
+    """The requests that are handed over later, since the core has as many as it may have: `waiting`, the one that was asked first in
     front. And the limits of these, and of credentials.
     """
 
@@ -30,12 +30,12 @@ class Line:
             self.limit(asked, asked.ends_at)
 
     def limit(self, asked: Asked, moment: int) -> None:
-        """Has a request wait until this moment at most."""
+        """Bounds the wait of a request by this moment."""
         heapq.heappush(self._limits, (moment, next(self._numbers), asked))
 
     def late(self, now: int, is_connected: bool) -> list[Asked]:
-        """Those whose limit has come, which wait no more: while no server has accepted the session, also those that wait for
-        one for too long.
+        """The requests whose limit has come, which wait no longer: while no server has accepted the session, also those that have
+        waited for one for too long.
         """
         ended: list[Asked] = []
         while self._limits and (self._limits[0][0] <= now or self._has_none(self._limits[0][2])):
@@ -53,7 +53,7 @@ class Line:
         return min(moments, default=None)
 
     def tidy(self) -> None:
-        """Forgets what nobody waits for."""
+        """Forgets the requests that nobody waits for."""
         while self.waiting and self.waiting[0].waiter.done():
             self.waiting.popleft()
         if len(self._limits) > 1024 + 2 * len(self.waiting):
@@ -61,7 +61,7 @@ class Line:
             heapq.heapify(self._limits)
 
     def clear(self) -> list[Asked]:
-        """Forgets all, and tells those that wait to be handed over."""
+        """Forgets all, and returns those that wait to be handed over."""
         left = list(self.waiting)
         self.waiting.clear()
         self._limits.clear()

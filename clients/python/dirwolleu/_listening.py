@@ -1,4 +1,4 @@
-"""Those that are woken at news of a path, or of the state alone."""
+"""The listeners, which news of a path, or of the state alone, wakes."""
 
 from __future__ import annotations
 
@@ -9,8 +9,8 @@ Wake = Callable[[], None]
 
 
 class Listeners:
-    """Those who listen, by path. Any thread may add and remove one, and none takes a lock: each line here is a single
-    step of the interpreter, or harms nothing if another thread comes between.
+    """Listeners by path. Any thread may add and remove one, and none takes a lock: each line here is a single step of
+    the interpreter, or harms nothing if another thread comes between.
     """
 
     def __init__(self) -> None:
@@ -18,7 +18,7 @@ class Listeners:
 
     def add(self, path: Optional[str], key: object, wake: Wake) -> None:
         is_there = False
-        while not is_there:  # another thread may just have taken the last one away, with all of the path
+        while not is_there:  # another thread may just have removed the last one, with the whole path
             of_path = self._by_path.setdefault(path, {})
             of_path[key] = wake
             is_there = self._by_path.get(path) is of_path
@@ -27,7 +27,7 @@ class Listeners:
         self._by_path.get(path, {}).pop(key, None)
         if self._by_path.get(path, {"": ""}):
             return
-        for one, wake in list(self._by_path.pop(path, {}).items()):  # who came meanwhile
+        for one, wake in list(self._by_path.pop(path, {}).items()):  # those that came meanwhile
             self.add(path, one, wake)
             wake()
 

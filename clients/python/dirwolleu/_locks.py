@@ -1,6 +1,6 @@
-"""How a lock is taken and given back, for both kinds of clients: what it asks of the core, and what it waits for.
+"""How both kinds of clients take and release a lock: what they ask of the core, and what they wait for.
 
-A lock hands a contender over, by the names of kazoo or of Curator, and the core does the rest: see `_contenders`.
+A lock hands the core a contender, by the names of kazoo or of Curator, and the core does the rest: see `_contenders`.
 """
 
 from __future__ import annotations
@@ -39,20 +39,20 @@ if TYPE_CHECKING:
 logger = logging.getLogger("dirwolleu.connection")
 
 BETWEEN_TRIES = 0.1
-"""How long a recipe waits before it asks again what a connection has lost, in seconds."""
+"""How long a recipe waits before it repeats a request that a connection has lost, in seconds."""
 
 KAZOO, CURATOR, LATCHES, LEASES = "kazoo", "curator", "latches", "leases"
-"""Whose names contenders may have; and those of Curator's latches, and of leases."""
+"""The kinds of names that contenders may have; and those of Curator's latches, and of leases."""
 
 
 _MARKERS = {KAZOO: ("__lock__", "__rlock__"), CURATOR: ("lock-", "__WRIT__", "__READ__"), LATCHES: ("latch-",), LEASES: ("__lease__",)}
-"""What is before the numbers of contenders, for people who look who is there: the core reads the names, and says in which order they are."""
+"""The text before the numbers of contenders, for people who look at the names: the core reads these, and says in which order they are."""
 _FAMILIES = {KAZOO: "kazoo", CURATOR: "Curator's locks", LATCHES: "Curator's latches"}
-"""Those of which none contends beside another, in words."""
+"""The kinds of names that exclude one another, in words."""
 
 
 def checked_names(names: str) -> str:
-    """Raises `ValueError` if nobody has such names."""
+    """Raises `ValueError` if there is no such kind of names."""
     if names not in (KAZOO, CURATOR):
         raise ValueError(f"names are those of kazoo or of curator, and not of {names}")
     return names
@@ -65,7 +65,7 @@ class Kind(NamedTuple):
     curators: int
 
     def contender(self, path: str, names: str, data: bytes, acl: Acls, on_lost: Callable[[Any], object]) -> Contender:
-        """One for the lock of this path."""
+        """A contender for the lock of this path."""
         tag = plans.new_tag()
         naming, guid = (self.curators, str(tag)) if names == CURATOR else (self.kazoos, tag.hex)
         return Contender(path, naming, guid, data, acl, on_lost)
@@ -77,12 +77,14 @@ READING = Kind(library.KAZOO_READER, library.CURATOR_READER)
 
 
 def in_line(engine: Engine, path: str, names: Sequence[str], whose: str = KAZOO) -> list[str]:
-    """The names of contenders at a path, that with the least number in front. It is for people: who holds is the core's verdict."""
+    """The names of the contenders at a path, the one with the least number in front. It is for people: the core decides who holds."""
     return engine.in_line(path, names, _MARKERS[whose])
 
 
 def mixed_names(engine: Engine, path: str, names: Sequence[str], whose: str) -> MixedNamesError:
-    """Says who was met beside contenders of these names, as far as the names at the path still tell: the core has decided."""
+    """The error that says who was met beside contenders of these names, as far as the names at the path still show it: the core has
+    decided.
+    """
     error = MixedNamesError()
     for family, words in _FAMILIES.items():
         markers = _MARKERS[family]
@@ -95,8 +97,8 @@ def mixed_names(engine: Engine, path: str, names: Sequence[str], whose: str) -> 
 
 
 class Taken(NamedTuple):
-    """What was taken: the path of the node, its token, by what those listen who wait for news of it, what tells the token again for as long as it
-    is shown, and what gives it back.
+    """A lock that was taken: the path of the node, its token, the guid by which to listen for news of it, a function that gives the token
+    again for as long as the core shows it, and one that releases it.
     """
 
     path: str
@@ -107,7 +109,7 @@ class Taken(NamedTuple):
 
 
 class TurnIsNotYet(TimeIsOver):
-    """The moment has come by which a contender was to hold. `waits` says whether another one is known to be before it."""
+    """A contender does not hold by its moment. `waits` says whether another one is known to be before it."""
 
     def __init__(self, waits: bool) -> None:
         super().__init__()
@@ -115,10 +117,10 @@ class TurnIsNotYet(TimeIsOver):
 
 
 def contend(client: Shown, contender: Contender, until: Optional[float], least: float = SHORTEST_ASK) -> Steps[Optional[Taken]]:
-    """Has a contender join, and waits until it holds. None where that was lost again before it is noticed here. Where the wait ends
-    before, the contender is given up, and no place of it is left.
+    """Adds a contender, and waits until it holds. None if the lock was lost again before that was noticed here. If the wait ends before,
+    the contender is given up, and leaves no place.
 
-    It has `least` seconds at least until the core says for the first time how it stands.
+    The core has `least` seconds at least to say for the first time how it stands.
     """
     engine, news = client._engine, (yield GetNews())
     with engine.news(news.set, contender.guid):
@@ -153,7 +155,7 @@ def _held(client: Shown, contender: Contender, until: Optional[float], told_by: 
 
 
 def leave(client: Shown, contender: Contender) -> Steps[None]:
-    """Gives a contender up, and waits until no place of it is there: for twice the timeout of the session. Then an error is raised, and
+    """Gives a contender up, and waits until it has no place any more: for twice the timeout of the session. Then it raises an error, and
     the core goes on with it for as long as the session lives.
     """
     engine, life, until, news = client._engine, client._engine.life, until_of(2 * client._engine.timeout()), (yield GetNews())
@@ -171,8 +173,8 @@ def leave(client: Shown, contender: Contender) -> Steps[None]:
 
 
 def patiently(engine: Engine, plan: Callable[[], Steps[Result]]) -> Steps[Result]:
-    """Does what may be done twice, and again if the connection, the session or the load of a server ended it, or no answer
-    came in time: for twice the timeout of the session, and then the error is raised.
+    """Makes steps that may be made twice, and makes them again if the connection, the session or the load of a server ended them, or no
+    answer came in time: for twice the timeout of the session, and then it raises the error.
     """
     until = time.monotonic() + 2 * engine.timeout()
     while True:
@@ -185,7 +187,7 @@ def patiently(engine: Engine, plan: Callable[[], Steps[Result]]) -> Steps[Result
 
 
 def identifiers(engine: Engine, path: str, whose: str, most: float = math.inf) -> Plan[list[str]]:
-    """What the contenders at a path say of themselves, of the first ones `most`. It is a look, and decides nothing."""
+    """The identifiers of the contenders at a path, of the first ones `most`. It only looks, and decides nothing."""
     found: list[str] = []
     for name in in_line(engine, path, (yield from names_of(path)), whose):
         if len(found) == most:
@@ -202,7 +204,7 @@ AnyClient = TypeVar("AnyClient", bound="Shown")
 
 
 class BaseHeld(Generic[AnyClient]):
-    """What was taken, for both kinds of clients."""
+    """A lock or a lease that was taken, for both kinds of clients."""
 
     def __init__(
         self, client: AnyClient, taken: Taken, on_lost: Optional[Callable[[Any], object]], keeps_while_suspended: bool = False
@@ -224,21 +226,21 @@ class BaseHeld(Generic[AnyClient]):
     def token(self) -> int:
         """The zxid at which that node was made: each later holder of an exclusive lock has a greater one.
 
-        Hand it on with each request, and let what is protected refuse one that is smaller than the greatest it has seen.
+        Pass it along with each request, and let the protected resource refuse one that is smaller than the greatest it has seen.
         """
         return self._taken.token
 
     @property
     def is_held(self) -> bool:
-        """Whether it is shown that it is held: at the last seen zxid, not now. In a forked child it is not."""
+        """Whether it is shown to be held: at the last seen zxid, not now. In a forked child it is not."""
         return not self._is_released and not self._why_lost()
 
     def check(self, within: Optional[float] = None) -> None:
-        """Raises `LockLostError` from the step on at which it is not shown that it is held. It asks no server: it asks the core
-        whether its node still holds, by the same token, as of the last seen zxid.
+        """Raises `LockLostError` from the step on at which it is not shown to be held. It asks no server: it asks the core whether its node
+        still holds, by the same token, as of the last seen zxid.
 
-        With `within` also once nothing was heard for this many seconds: if what the client knows may be older than that, by the
-        clock of `Client.age`.
+        With `within` it also raises once the server was not heard for this many seconds: when the client's knowledge may be older than
+        that, by the clock of `Client.age`.
         """
         why = "it was released" if self._is_released else self._why_lost()
         proved_at = self._engine.connection_stats.proved_at
@@ -248,7 +250,7 @@ class BaseHeld(Generic[AnyClient]):
             raise LockLostError(f"{self.path}: {why}")
 
     def _why_lost(self) -> str:
-        """Why it is not shown that the lock is held, or nothing if it is. What was lost once stays lost."""
+        """Why the lock is not shown to be held; empty if it is. A lock that was lost once stays lost."""
         self._why = self._why or self._found_lost()
         return self._why
 
@@ -264,10 +266,10 @@ class BaseHeld(Generic[AnyClient]):
         return "" if self._taken.shown() == self.token else "the node of the lock is not known to be there"
 
     def _release(self) -> Steps[None]:
-        """Lets go of it, and waits until its node is gone. It may be called again. If its session is over, so is it.
+        """Releases it, and waits until its node is gone. It may be called again. If its session is over, so is it.
 
-        It waits for twice the timeout of the session. Then `ConnectionLoss` or `CallTimeoutError` is
-        raised, and the node may still be there: it is deleted later, through any number of connections, as long as the session lives.
+        It waits for twice the timeout of the session. Then it raises `ConnectionLoss` or `CallTimeoutError`, and the node may still be
+        there: the core deletes it later, through any number of connections, as long as the session lives.
         """
         self._engine.check_process()
         if not self._is_released:
@@ -277,7 +279,8 @@ class BaseHeld(Generic[AnyClient]):
         return self._taken.leave()
 
     def _losing(self, timeout: Optional[float] = None) -> Steps[bool]:
-        """Waits until it is known to be lost, or is released, for `timeout` seconds at most, and answers whether it is. It asks no server."""
+        """Waits until it is known to be lost, or is released, for `timeout` seconds at most, and returns whether it is. It asks no server.
+        """
         until, news = until_of(timeout), (yield GetNews())
         with self._engine.news(news.set, self._taken.guid):
             while self.is_held:
@@ -288,7 +291,7 @@ class BaseHeld(Generic[AnyClient]):
         return True
 
     def _look(self, _: object = None) -> None:
-        """Tells that it was lost, once."""
+        """Reports that it was lost, once."""
         if not self._is_released and not self._is_told and self._why_lost():
             self._is_told = True
             logger.warning("the lock %s is lost: %s", self.path, self._why)
@@ -300,7 +303,7 @@ AnyHeld = TypeVar("AnyHeld", bound="BaseHeld[Any]")
 
 
 class BaseTaker(Generic[AnyClient, AnyHeld]):
-    """What takes and gives back, for both kinds of clients."""
+    """A lock or a semaphore, for both kinds of clients."""
 
     def __init__(
         self,
@@ -322,13 +325,13 @@ class BaseTaker(Generic[AnyClient, AnyHeld]):
     if not TYPE_CHECKING:
 
         def __getattr__(self, name: str) -> Any:
-            """Says of kazoo's names where they are."""
+            """Says where a name of kazoo's locks is here."""
             is_of_held = hasattr(BaseHeld, name) or name in ("release", "is_acquired")
             hint = ": what acquire() returns has is_held and release()" if is_of_held else ""
             raise AttributeError(f"a {type(self).__name__} has no {name}{hint}")
 
     def _enter(self, who: object, held: AnyHeld) -> AnyHeld:
-        """Keeps what a thread or a task has taken by `with`, which it gives back at the end of the block."""
+        """Keeps what a thread or a task has taken by `with`, to release it at the end of the block."""
         self._entered.setdefault(who, []).append(held)
         return held
 
@@ -343,7 +346,7 @@ class BaseTaker(Generic[AnyClient, AnyHeld]):
         raise NotImplementedError
 
     def _contender(self, on_lost: Callable[[Any], object]) -> Contender:
-        """One that contends for it, and calls `on_lost`, later, if it may be lost."""
+        """A contender for it, which calls `on_lost`, later, if it may be lost."""
         raise NotImplementedError
 
     def _take(self, on_lost: Callable[[Any], object], until: Optional[float]) -> Steps[Taken]:
@@ -362,7 +365,7 @@ class BaseTaker(Generic[AnyClient, AnyHeld]):
         held = self._held(taken)
         told.append(held)
         self._client.add_listener(held._look)
-        self._client._tell(held._look, None)  # what was told before is not told again
+        self._client._tell(held._look, None)  # a report from before is not repeated
         return held
 
 
@@ -400,26 +403,26 @@ class BaseLock(BaseTaker[AnyClient, AnyHeld]):
             raise mixed_names(self._client._engine, self._path, (yield from self._look_at_names()), self._names) from error
 
     def _look_at_names(self) -> Steps[list[str]]:
-        """The names at the path, for people: None if they do not come soon."""
+        """The names at the path, for people; none if they do not come soon."""
         with contextlib.suppress(ZookeeperError):
             names: list[str] = yield Ask(requests.get_children(self._path, None), SHORTEST_ASK)
             return names
         return []
 
     def _contenders(self, most: float = math.inf) -> Steps[list[str]]:
-        """The identifiers of those that take the lock, in their order: that of the holder first. With `most` no more than that. It is a look at the
+        """The identifiers of those that take the lock, in their order, the holder's first: with `most`, no more than that. It shows the
         nodes of a moment, and decides nothing.
         """
         return run(identifiers(self._client._engine, self._path, self._names, most), self._client._retry, None)
 
 
 def identified(identifier: str) -> bytes:
-    """What a node says of its maker. Raises `TypeError`."""
+    """The data by which a node names its maker. Raises `TypeError`."""
     return checked_text("an identifier", identifier).encode()
 
 
 def names_of(path: str) -> Plan[list[str]]:
-    """The names below a path: None if there is no node."""
+    """The names below a path; none if there is no node."""
     try:
         names: list[str] = yield requests.get_children(path, None)
     except NoNodeError:

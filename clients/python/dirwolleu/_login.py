@@ -1,7 +1,7 @@
-"""The log-in by SASL on one connection. What the server has said of the session is kept back until it is over.
+"""The log-in by SASL on one connection. The server's answer about the session is kept back until it is over.
 
-So to the session the server was slow to accept, and what it sends after its first frame waits meanwhile. The frames of the log-in have
-xids that the session never uses, and no answer to them reaches it.
+So for the session the server is slow to accept, and the session's frames after its first one wait meanwhile. The frames of the log-in
+have xids that the session never uses, and no answer to them reaches it.
 """
 
 from __future__ import annotations
@@ -24,15 +24,15 @@ _REPLY = struct.Struct(">iqi")
 
 
 class Failed(Exception):
-    """The log-in can't go on over this connection: why, in words."""
+    """The log-in can't go on over this connection. Its words say why."""
 
 
 class Refused(Failed):
-    """The server does not take who the client is, or the client the server."""
+    """The server refuses the client, or the client the server."""
 
 
 class Progress(NamedTuple):
-    """What is to be written now, and, once the log-in is over, what came for the session."""
+    """The frames to write now, and, once the log-in is over, the bytes that came for the session."""
 
     frames: bytes
     passed: Optional[bytes]
@@ -48,7 +48,9 @@ class Login:
         self._xid = _FIRST_XID + 1
 
     def hold(self, frames: bytes) -> bytes:
-        """What of the session's frames is to be written now: the first, which asks for the session. The others wait for the end."""
+        """Takes frames of the session, and returns those to write now: the first, which asks for the session. The others wait for the
+        end.
+        """
         if self._held is not None:
             self._held += frames
             return b""
@@ -57,7 +59,7 @@ class Login:
         return frames[:end]
 
     def take(self, data: bytes) -> Progress:
-        """Bytes came. What does not read before the server has accepted the session is for the session to judge. Raises `Failed`."""
+        """Bytes came. If they do not parse before the server has accepted the session, the session judges them. Raises `Failed`."""
         self._came += data
         frames = b""
         while len(self._came) >= 4:
@@ -76,7 +78,7 @@ class Login:
         return Progress(frames, None)
 
     def _next_token(self, frame: bytes) -> Optional[bytes]:
-        """What is written for a frame that came: None if the log-in is over, or none is wanted."""
+        """The frame to write after a frame that came: None if the log-in is over, or none is wanted."""
         if not self._kept:
             self._kept = frame
             return self._ask(self._begin()) if self._is_accepted(frame) else None
@@ -101,7 +103,7 @@ class Login:
             raise Refused(str(error)) from error
 
     def _answer(self, body: bytes) -> Optional[bytes]:
-        """The token for what the server has answered, or None if the log-in is over."""
+        """The token after an answer of the server, or None if the log-in is over."""
         if len(body) < _REPLY.size:
             raise Malformed
         _, _, code = _REPLY.unpack_from(body)

@@ -1,4 +1,6 @@
-"""Names of hosts that are looked up, in threads that hold up neither those who keep clients connected nor the end of a program."""
+"""Look-ups of the names of hosts, in threads that hold up neither the thread that keeps clients connected nor the end of a
+program.
+"""
 
 from __future__ import annotations
 
@@ -11,7 +13,7 @@ Tell = Callable[[list[str], Optional[OSError]], object]
 
 
 class LookUp:
-    """One look-up, which a thread of its own makes. All who wait for it share it."""
+    """One look-up, in a thread of its own. All who wait for it share it."""
 
     def __init__(self, host: str, port: int) -> None:
         self._host, self._port = host, port
@@ -23,7 +25,7 @@ class LookUp:
         return self._found is not None
 
     def then(self, tell: Tell) -> None:
-        """Has a function called with the addresses, or with the error: in the thread of the look-up, or here if it is done."""
+        """Calls a function with the addresses, or with the error: in the thread of the look-up, or here if it is done."""
         self._waiting.append(tell)
         self._tell_those_who_wait()
 
@@ -36,7 +38,7 @@ class LookUp:
         self._tell_those_who_wait()
 
     def _tell_those_who_wait(self) -> None:
-        """Each of them is told once, by this thread or by another one that asks at the same time."""
+        """Each of them is called once, by this thread or by another one that asks at the same time."""
         while self._found is not None and self._waiting:
             try:
                 tell = self._waiting.popleft()

@@ -1,4 +1,4 @@
-"""Whom a client tells what it does."""
+"""The observers of a client."""
 
 from __future__ import annotations
 
@@ -32,7 +32,7 @@ logger = logging.getLogger("dirwolleu")
 Function = Callable[[Observation], object]
 
 DROPPED = -1
-"""That the host itself has given a connection up: beside the causes of the library."""
+"""The cause of the end of a connection that the host itself has given up, beside the causes of the library."""
 LATE = "an answer has taken more than two thirds of the timeout"
 ELSEWHERE = "the server has said that the session is over or elsewhere"
 MOVED = "the hosts are others"
@@ -80,7 +80,7 @@ def reason_of(cause: int, why: str, is_refused: bool, is_running: bool) -> str:
 
 
 def kind_of(request: Request[Any]) -> str:
-    """What a request is about."""
+    """The kind of a request."""
     if request.call is Session.raw:
         return _RAW.get(request.words[0], "other")
     first, _, last = request.call.__name__.partition("_")
@@ -88,7 +88,7 @@ def kind_of(request: Request[Any]) -> str:
 
 
 def outcome_of(error: BaseException) -> str:
-    """What has become of a call that has this error."""
+    """The outcome of a call that has this error."""
     if isinstance(error, CallTimeoutError):
         return "late" if error.was_sent else "not_connected"
     return next((outcome for kind, outcome in _OUTCOMES if isinstance(error, kind)), "not_asked")
@@ -97,7 +97,7 @@ def outcome_of(error: BaseException) -> str:
 def holdings_of(
     looks: CacheView, subjects: Sequence[Followed], trees: Sequence[Optional[TreeSnapshot]]
 ) -> tuple[dict[str, int], int]:
-    """How many nodes, lists of children and trees are followed, and the bytes that are kept of these."""
+    """How many nodes, lists of children and trees are followed, and the bytes that are kept for these."""
     size = 0
     for one in subjects:
         if one.side == library.DATA_SIDE:
@@ -113,7 +113,7 @@ def holdings_of(
 
 
 class Observers:
-    """Those who are told. What one of them raises is logged."""
+    """The functions that observe a client. If one of them raises an exception, it is logged."""
 
     def __init__(self, looks: CacheView) -> None:
         self.functions: list[Function] = []
@@ -134,7 +134,7 @@ class Observers:
             self.tell(Transfer(direction, count))
 
     def watching(self, request: Request[Any], waiter: Waiter) -> Waiter:
-        """What waits in a waiter's place, and tells what has come of it."""
+        """A waiter instead of this one, which reports the outcome too."""
         return _Watching(self, request, waiter)
 
     def call(self, request: Request[Any], outcome: str, code: int, seconds: float) -> None:
@@ -142,7 +142,7 @@ class Observers:
 
 
 class _Watching:
-    """A waiter whose answer is told of too."""
+    """A waiter whose outcome is reported to the observers too."""
 
     __slots__ = "_observers", "_request", "_waiter", "_began"
 
@@ -173,11 +173,11 @@ class _Watching:
 
 
 class Observed(CacheView):
-    """A session whose steps are told of."""
+    """A session whose steps are reported to observers."""
 
     observers: Optional[Observers] = None
     place = trouble = ""
-    """Where the connection leads, and what became of the last attempt, in words."""
+    """The server of the connection, and how the last attempt went, in words."""
     _number = 0
 
     def observe(self, function: Function) -> None:
@@ -185,7 +185,7 @@ class Observed(CacheView):
         self.observers.functions.append(function)
 
     def attempt_failed(self) -> None:
-        """No connection came of an attempt. `trouble` says why."""
+        """An attempt to connect has failed. `trouble` says why."""
         self._observe("failed", "", self.trouble)
 
     def _observe(self, kind: str, reason: str = "", words: str = "") -> None:
@@ -193,5 +193,5 @@ class Observed(CacheView):
             self.observers.contact(kind, self.place, self._number, reason, words)
 
     def _fields(self) -> dict[str, Any]:
-        """What a record of the log has beside its words, to be searched for."""
+        """The fields of a record of the log beside its words, for searches."""
         return {"session_id": f"{self._number:#x}", "server": self.place, "zxid": self.last_zxid()}

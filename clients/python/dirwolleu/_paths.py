@@ -29,13 +29,14 @@ def why_no_path(text: str) -> Optional[str]:
 
 
 def shown(path: str) -> str:
-    """A path as messages have it: without control characters, and no more of it than is read."""
+    """A path as messages have it: without control characters, and cut to a readable length."""
     text = "".join(one if one.isprintable() else ascii(one)[1:-1] for one in path[:_LONGEST_SHOWN])
     return f"{text}.." if len(path) > _LONGEST_SHOWN else text or '""'
 
 
 def no_path(path: str, full: str = "") -> ValueError:
-    """What is raised for a program's text that is no path, or whose servers' path is none. Where `/` has none, it is the root that is none."""
+    """The error for a program's text that is no path, or whose path at the servers is none. If that of `/` is none, the root is at fault.
+    """
     why = why_no_path(path) or (why_no_path(full) if full else None)
     named = full if path == "/" and full else path
     return ValueError(f"{shown(named)} is no path" + (f": {why}" if why else ""))

@@ -1,4 +1,4 @@
-"""What is more than one request: each plan yields requests, and is sent their results or thrown their errors."""
+"""Plans of more than one request: each yields requests, and is sent their results or thrown their errors."""
 
 from __future__ import annotations
 
@@ -29,14 +29,14 @@ def child_of(path: str, name: str) -> str:
 
 
 def new_tag() -> UUID:
-    """What is in no other name."""
-    import uuid  # here, since few programs make such names, and it takes its time
+    """A tag that is in no other name."""
+    import uuid  # here, since few programs make such names, and the import is slow
 
     return uuid.uuid4()
 
 
 def create_request(path: str, value: Optional[bytes], acl: Acls, mode: Mode) -> Request[str]:
-    """The core makes a node that is open to all, and has a name."""
+    """The core's own create, if the node is open to all and has a name; else a request that the core only carries."""
     is_plain = acl is None and not mode.container and mode.ttl_ms is None
     if is_plain and not is_nameless(checked_path(path), mode):
         return requests.create(path, value, mode.ephemeral, mode.sequence)
@@ -44,7 +44,7 @@ def create_request(path: str, value: Optional[bytes], acl: Acls, mode: Mode) -> 
 
 
 def ensure_path(path: str, acl: Acls) -> Plan[None]:
-    """Makes a node and those above it, as far as they are not there."""
+    """Makes a node and the missing ones above it."""
     return _ensure(checked_path(path), acl)
 
 
@@ -65,7 +65,7 @@ def _ensure(path: str, acl: Acls) -> Plan[None]:
 
 
 def create(request: Request[Result], path: str, acl: Acls) -> Plan[Result]:
-    """Makes a node, and those above it as far as they are not there."""
+    """Makes a node, and the missing ones above it."""
     result: Result
     try:
         result = yield request

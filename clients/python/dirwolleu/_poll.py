@@ -1,7 +1,7 @@
 """The one thread of a process that keeps all its blocking clients connected: one poll for their connections, one heap for their timers.
 
-No lock is taken. Whoever asks leaves word in a single step of the interpreter, and rings a bell if the thread waits: so it does not
-matter where a thread that asks is interrupted. The thread ends after its last client, and the next one begins another.
+No lock is taken. Whoever asks leaves word in a single step of the interpreter, and rings a bell if the thread waits: so it does not matter
+where a thread that asks is interrupted. The thread ends after its last client, and the next client starts another.
 """
 
 from __future__ import annotations
@@ -28,26 +28,26 @@ from dirwolleu._waiting import ends_within
 logger = logging.getLogger("dirwolleu")
 
 READ, WRITE = 1, 4
-"""What a descriptor is polled for, as poll and epoll number it."""
+"""The events for which a descriptor is polled, as poll and epoll number them."""
 PAUSE = 1.0
-"""How long the thread rests after a turn that has failed, in seconds: so one that always fails takes no processor."""
+"""How long the thread rests after a turn that has failed, in seconds, so that one that always fails takes no processor."""
 _ONE = (1).to_bytes(8, sys.byteorder)
-"""What rings a bell: an eventfd adds it, and a pipe carries it."""
+"""The bytes that ring a bell: an eventfd adds them, and a pipe carries them."""
 _MOST_EVENTS = 64
-"""Of how many descriptors one poll tells, at most."""
+"""How many descriptors one poll reports, at most."""
 _EDGE = getattr(select, "EPOLLET", 0)
 
 Function = Callable[[], object]
 
 
 class Member(Protocol):
-    """What acts in the thread once somebody has asked it to."""
+    """A client in the thread, which acts once somebody has asked it to."""
 
     def asked(self) -> None: ...
 
 
 class _Selecting:
-    """A poll by the ways that gevent and eventlet leave, with the names of an epoll."""
+    """A poll by the means that gevent and eventlet leave, with the names of an epoll."""
 
     def __init__(self) -> None:
         self._selector = selectors.DefaultSelector()
@@ -73,7 +73,7 @@ class _Selecting:
 
 
 class Bell:
-    """Where a thread writes, and the one that polls sees that it did: an eventfd, or before Python 3.10 the ends of a pipe."""
+    """Wakes the thread that polls when another one writes: an eventfd, or before Python 3.10 the ends of a pipe."""
 
     def __init__(self) -> None:
         if hasattr(os, "eventfd"):
@@ -89,7 +89,7 @@ class Bell:
 
     def ring(self) -> None:
         try:
-            self._writes.write(_ONE)  # nothing if it is full, so that it rings already
+            self._writes.write(_ONE)  # it writes nothing if it is full: then it rings already
         except (OSError, ValueError):  # it is closed
             pass
 
@@ -102,7 +102,7 @@ class Bell:
 
 
 class Timer:
-    """A function that is called at a moment, unless that is cancelled. Its owner may take back all that it has."""
+    """A function that is called at a moment, unless the timer is cancelled. Its owner may take back all that it has."""
 
     __slots__ = "owner", "function"
 
@@ -114,14 +114,15 @@ class Timer:
 
 
 class Reactor:
-    """What polls, from the first client that joins until the last one has left. `members` counts them, within the thread."""
+    """Polls, from the first client that joins until the last one has left. `members` counts them, within the thread."""
 
     def __init__(self) -> None:
         self.rooms = Rooms()
-        """Where connections read what comes."""
+        """The rooms into which connections read."""
         self.members = 0
         self.wakes: list[Function] = []
-        """What wakes threads whose answers have come: before the next wait, which lets them have the interpreter."""
+        """Functions that wake threads whose answers have come. They are called before the next wait, which lets those have the
+        interpreter."""
         self._functions: dict[int, Callable[[int], object]] = {}
         self._posted: collections.deque[list[Function]] = collections.deque()
         self._asked: dict[Member, None] = {}
@@ -140,22 +141,22 @@ class Reactor:
     def _hang_bell(self) -> None:
         is_edge = _EDGE and hasattr(os, "eventfd") and has_system_threads()
         self._polls: Any = select.epoll() if is_edge else _Selecting()
-        if is_edge:  # which is told once for each ring, and never read
+        if is_edge:  # which is reported once for each ring, and never read
             self._polls.register(self._bell.fileno(), READ | _EDGE)
         else:
             self.watch(self._bell.fileno(), READ, lambda _: self._bell.still())
 
-    # What any thread may call.
+    # Any thread may call these.
 
     def post(self, function: Function) -> bool:
-        """Has a function called in the thread, after what was posted before, and answers whether it is: not if the thread has ended."""
+        """Calls a function in the thread, after those that were posted before, and returns whether it will: not if the thread has ended."""
         word = [function]
         self._posted.append(word)
         self._ring()
         return not (self._is_closed and _taken(word) is not None)
 
     def ask(self, member: Member) -> None:
-        """Has a member act, once for all who have asked it before it does."""
+        """Makes a member act, once for all who have asked it before it does."""
         self._asked[member] = None
         self._ring()
 
@@ -163,14 +164,14 @@ class Reactor:
         return self._thread is threading.current_thread()
 
     def await_end(self, longest: float) -> None:
-        """Waits until the thread has ended, if it has no member any more, though not without bound."""
+        """Waits, up to a bound, until the thread has ended, if it has no member left."""
         until = time.monotonic() + longest
         while self._thread is not None and not self.members and time.monotonic() < until:
             if ends_within(self._thread, 0.01):
                 break
 
     def run(self) -> None:
-        """Has a thread poll, if none does. It matters not how many are started: the first that comes here goes on."""
+        """Starts a thread that polls, if none does. It does not matter how many are started: the first one goes on."""
         if self._thread is None:
             threading.Thread(target=self._run, name="dirwolleu", daemon=True).start()
 
@@ -178,7 +179,7 @@ class Reactor:
         if self._waits:
             self._bell.ring()
 
-    # What is called within the thread.
+    # Only the thread calls these.
 
     def later(self, owner: object, seconds: float, function: Function) -> Timer:
         timer = Timer(owner, function)
@@ -190,7 +191,7 @@ class Reactor:
         heapq.heapify(self._timers)
 
     def watch(self, descriptor: int, wanted: int, function: Callable[[int], object]) -> None:
-        """Has a function called with what a descriptor is ready for. Its connection is read before timers and what was asked."""
+        """Calls a function with what a descriptor is ready for. Its connection is read before timers and requests."""
         if descriptor in self._functions:
             self._polls.modify(descriptor, wanted)
         else:
@@ -198,12 +199,14 @@ class Reactor:
         self._functions[descriptor] = function
 
     def leave(self, descriptor: int) -> None:
-        """Polls a descriptor no more. It is to be open still."""
+        """Stops polling a descriptor, which must still be open."""
         if self._functions.pop(descriptor, None) is not None:
             self._polls.unregister(descriptor)
 
     def in_thread(self, function: Callable[[], Any], then: Callable[[Any, Optional[BaseException]], object]) -> None:
-        """Has a thread of its own call a function that may wait, and this one take the result or the error. If it has ended, the other one does."""
+        """Calls a function that may wait in a thread of its own, and `then` with the result or the error in this one. If this one has
+        ended, the other one calls it.
+        """
 
         def run() -> None:
             try:
@@ -226,7 +229,7 @@ class Reactor:
             while self.members or not self._is_over():
                 try:
                     self._turn()
-                except Exception:  # none of its functions raises anything: a descriptor that is not its own was closed
+                except Exception:  # none of its functions raises anything: somebody else has closed a descriptor of its own
                     logger.exception("a turn of the clients has failed")
                     time.sleep(PAUSE)
         finally:
@@ -236,12 +239,12 @@ class Reactor:
             _forget(self)
 
     def close(self) -> None:
-        """Frees what it polls by, if no thread does."""
+        """Frees the means by which it polls, if no thread does."""
         self._polls.close()
         self._bell.close()
 
     def _is_over(self) -> bool:
-        """Whether it has nobody to serve any more. What is posted while it looks is found here, or is taken back."""
+        """Whether it has nobody to serve any more. A function that is posted while it looks is found here, or is taken back."""
         if self.members or self._posted:
             return False
         self._is_closed = True
@@ -250,7 +253,7 @@ class Reactor:
         return self._is_closed
 
     def _turn(self) -> None:
-        """What has come is read before what was asked is done, and that before what is due."""
+        """It reads what has come before it does what was asked, and does that before what is due."""
         if self.wakes:
             self._wake()
         self._waits = True  # before it looks whether something is asked
@@ -284,7 +287,7 @@ class Reactor:
                 function()
 
     def _call_those_due(self) -> None:
-        """Calls what is due now. What that sets is due after another look at what has come."""
+        """Calls the timers that are due now. Those that they set are due after another look at what has come."""
         now, due = time.monotonic(), list[Timer]()
         while self._timers and self._timers[0][0] <= now:
             due.append(heapq.heappop(self._timers)[2])
@@ -294,7 +297,7 @@ class Reactor:
 
 
 def _taken(word: list[Function]) -> Optional[Function]:
-    """Takes the only function of a list: one thread alone does."""
+    """Takes the only function of a list: only one thread does."""
     try:
         return word.pop()
     except IndexError:
@@ -302,7 +305,7 @@ def _taken(word: list[Function]) -> Optional[Function]:
 
 
 _reactors: dict[tuple[int, bool], Reactor] = {}
-"""Those that there are, by their process and by whether its threads are the system's: a forked child has none."""
+"""The reactors, by their process and by whether its threads are the system's: a forked child has none."""
 
 
 def _first(key: tuple[int, bool], made: Reactor) -> Reactor:
@@ -320,7 +323,7 @@ def _forget(reactor: Reactor) -> None:
 
 
 def join(begin: Callable[[Reactor], object]) -> Reactor:
-    """Has a function called in the thread that polls, which is begun if there is none."""
+    """Calls a function in the thread that polls, which is started if there is none."""
     key = this_process(), has_system_threads()
     while True:
         reactor = _reactors.get(key) or _first(key, Reactor())

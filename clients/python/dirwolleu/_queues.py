@@ -20,7 +20,7 @@ _MOST_PRIORITY = 999
 
 
 def in_turn(names: list[str]) -> list[str]:
-    """The names of entries, that which is taken first in front: by priority, and then in the order of their making.
+    """The names of entries in the order in which they are taken: by priority, and then in the order of their making.
 
     >>> in_turn(["entry-100-0000000003", "entry-001-tag-0000000007", "entry-100-tag-0000000001", "other"])
     ['entry-001-tag-0000000007', 'entry-100-tag-0000000001', 'entry-100-0000000003']
@@ -36,7 +36,7 @@ class BaseQueue(Generic[AnyClient]):
         self._client, self._path = client, path
 
     def _put(self, value: bytes, priority: int = 100) -> Steps[str]:
-        """Adds an entry, and answers its path. A priority is 0 to 999."""
+        """Adds an entry, and returns its path. A priority is 0 to 999."""
         if not 0 <= priority <= _MOST_PRIORITY:
             raise ValueError(f"a priority is 0 to {_MOST_PRIORITY}")
         tag = f"entry-{priority:03d}-{plans.new_tag().hex}-"
@@ -60,13 +60,13 @@ class BaseQueue(Generic[AnyClient]):
         return next((plans.child_of(self._path, name) for name in names if name.startswith(tag)), None)
 
     def _get(self, timeout: Optional[float] = None) -> Steps[Optional[bytes]]:
-        """Takes the first entry out, waits for one for at most this many seconds, and answers its data: None if none
-        came. A timeout of 0 tries once.
+        """Takes the first entry out, waits for one for at most this many seconds, and returns its data: None if none came. A
+        timeout of 0 tries once.
 
-        Once it has asked for the delete of an entry, it waits for the answer to that as any call does: so it may take longer
-        than `timeout`. Raises `ConnectionLoss` or `CallTimeoutError`, with `may_have_happened`, if that answer does not come:
-        the entry may be gone, its data are the error's `entry`, and its path is `path`. With asyncio the entry may be gone too
-        where the call is cancelled.
+        Once it has asked for the delete of an entry, it waits for the answer to that as any call does: so it may take longer than
+        `timeout`. Raises `ConnectionLoss` or `CallTimeoutError`, with `may_have_happened`, if that answer does not come: the entry
+        may be gone, the error's `entry` is its data, and `path` is its path. With asyncio the entry may be gone too if the call is
+        cancelled.
         """
         news: News = yield GetNews()
         with self._client._engine.news(news.set):
@@ -76,7 +76,7 @@ class BaseQueue(Generic[AnyClient]):
                 return None
 
     def _take(self, news: News) -> Steps[bytes]:
-        """Waits until there is an entry, deletes it, and answers its data."""
+        """Waits until there is an entry, deletes it, and returns its data."""
         while True:
             news.clear()
             try:
@@ -95,8 +95,8 @@ class BaseQueue(Generic[AnyClient]):
                 yield Wait(BETWEEN_TRIES)
 
     def _claim(self, path: str) -> Steps[Optional[bytes]]:
-        """Deletes an entry, and answers its data: None if another one was faster. The answer to the delete is waited for as that of
-        any call, however little time is left: else the entry might be gone with nobody told.
+        """Deletes an entry, and returns its data: None if another one was faster. It waits for the answer to the delete as any call
+        does, however little time is left: else the entry might be gone and nobody would know.
         """
         data = b""
         try:

@@ -1,7 +1,7 @@
-"""The record of a session: what the library is handed and what it sends, as lines that `zk_shell` replays and shows.
+"""The record of a session: what the library gets and what it sends, as lines that `zk_shell` replays and shows.
 
-No secret is written: the passwords in the request for a session and in the answer to it stand as zeros, and so does all of a
-credential. A log-in by SASL is over before the library is handed anything.
+No secret is written: the passwords in the request for a session and in the answer to it are zeros, and so is all of a
+credential. A log-in by SASL is over before the library gets anything.
 """
 
 from __future__ import annotations
@@ -17,10 +17,11 @@ from dirwolleu._session import Session
 Path = Union[str, "os.PathLike[str]"]
 
 _AT_XID, _AT_RECORD, _AT_SENT_PASSWORD, _AT_CAME_PASSWORD = 4, 12, 32, 24
-"""Where frames have what is looked for: after the length, in the request for a session, and in the answer to it."""
+"""The places of the fields that are read in frames: after the length, in the request for a session, and in the answer to
+it."""
 _AUTH = -4
 _NAMES = {1: "create", 2: "delete", 3: "exists", 4: "getdata", 5: "setdata", 12: "getchildren", -11: "close"}
-"""The calls of which the library reads something, by the types of their requests."""
+"""The calls whose answers the library reads, by the types of their requests."""
 _READS, _WITH_DATA = ("exists", "getdata", "getchildren"), ("create", "setdata")
 
 
@@ -54,7 +55,7 @@ def _call(frame: bytes) -> str:
 
 
 def _hidden(data: bytes, begin: int, end: int) -> bytes:
-    """The bytes, with zeros for those from one place to another, of which some may be elsewhere."""
+    """The bytes, with zeros for those from one place to another, some of which may be elsewhere."""
     begin, end = min(max(begin, 0), len(data)), min(max(end, 0), len(data))
     return data[:begin] + bytes(end - begin) + data[end:]
 
@@ -72,7 +73,7 @@ class Recorder:
         self._head, self._came = b"", 0
 
     def begin(self, timeout_ms: int, saved: Optional[bytes]) -> None:
-        """Another session is begun, or taken up."""
+        """Another session begins, or is resumed."""
         self._machine = f"timeout {timeout_ms}"
         if saved is not None:
             session, length = struct.unpack_from(">qi", saved)
@@ -80,7 +81,7 @@ class Recorder:
             self._machine = f"resume {timeout_ms} {session} {_data_word(bytes(length))} {zxid}"
 
     def stepped(self, now: int, step: Callable[..., object], words: tuple[Any, ...]) -> None:
-        """The library was handed this."""
+        """The library has made this step."""
         self._now = now
         if step is Session.received:
             self._bytes(bytes(words[0]))
@@ -91,7 +92,7 @@ class Recorder:
             self.cut()
 
     def cut(self) -> None:
-        """The connection is over, if there was one. It was of the session before another one that is begun."""
+        """The connection is over, if there was one. It belonged to the session before another one that begins."""
         if self._is_open:
             self._is_open, machine, self._machine = False, self._machine, ""
             self._add("cut")
@@ -119,7 +120,7 @@ class Recorder:
         self._add(f"bytes {data.hex()}")
 
     def _add(self, line: str) -> None:
-        """Adds a line, after the moment if that is another one."""
+        """Adds a line, after the moment if that has changed."""
         if self._machine:
             self._lines.append(self._machine)
             self._machine = ""

@@ -1,4 +1,5 @@
-"""Requests that the core carries without reading them: each is a record of zookeeper.jute, with what reads the record of its answer.
+"""Requests that the core carries without reading them: each is a record of zookeeper.jute, with a reader for the record of its
+answer.
 
 The session numbers, orders and bounds them as it does all calls, and asks those again that change nothing.
 """
@@ -54,7 +55,7 @@ class RawRequest(Request[Result]):
         self.read = read
 
     def result(self, answer: Answer, root: Root) -> Any:
-        """What the answer brings, or raises its error. Raises `Malformed` if its body does not read."""
+        """The result in the answer. Raises its error, or `Malformed` if its body does not parse."""
         if answer.result == library.RAW:
             return self.read(Reader(answer.text or b""), root)
         return super().result(answer, root)
@@ -112,7 +113,7 @@ def who_am_i() -> RawRequest[list[Id]]:
 
 
 class Mode(NamedTuple):
-    """What a node is made as: CreateMode of ZooKeeper."""
+    """How a node is made: CreateMode of ZooKeeper."""
 
     ephemeral: bool = False
     sequence: bool = False
@@ -121,7 +122,7 @@ class Mode(NamedTuple):
 
     @classmethod
     def of(cls, ephemeral: bool, sequence: bool, container: bool, ttl: Optional[float]) -> Mode:
-        """The mode by the words of a program, with the TTL in seconds. Raises `ValueError` and `TypeError`."""
+        """The mode for the parameters of a call, with the TTL in seconds. Raises `ValueError` and `TypeError`."""
         if container and (ephemeral or sequence):
             raise ValueError("a container is neither ephemeral nor sequential")
         if ttl is None:
@@ -141,7 +142,7 @@ class Mode(NamedTuple):
 
     @property
     def operation(self) -> int:
-        """What makes such a node, and answers with its path and its Stat."""
+        """The operation that makes such a node, whose answer has its path and its Stat."""
         if self.ttl_ms is not None:
             return library.CREATE_TTL
         return library.CREATE_CONTAINER if self.container else library.CREATE2
@@ -153,12 +154,12 @@ def is_nameless(path: str, mode: Mode) -> bool:
 
 
 def place_of(path: str, mode: Mode) -> str:
-    """The path of a node by which a server decides whether a new one may have this path."""
+    """The path by which a server decides whether a new node may have this one."""
     return path.rstrip("/") or "/" if is_nameless(checked_path(path), mode) and not path.endswith("//") else path
 
 
 def create_body(path: str, value: Optional[bytes], acl: Optional[Sequence[ACL]], mode: Mode) -> Body:
-    """What a request that makes a node says, after its header."""
+    """The body of a request that makes a node."""
     spelled = (
         jute.buffer(checked_data(value))
         + jute.acls(OPEN_ACL_UNSAFE if acl is None else acl)

@@ -1,4 +1,4 @@
-"""How an ephemeral node is kept there, for both kinds of clients."""
+"""How both kinds of clients keep an ephemeral node there."""
 
 from __future__ import annotations
 
@@ -20,7 +20,7 @@ logger = logging.getLogger("dirwolleu.connection")
 
 
 class Event(Protocol):
-    """What is set while the node is there."""
+    """An event that is set while the node is there."""
 
     def set(self) -> None: ...
     def clear(self) -> None: ...
@@ -42,7 +42,7 @@ class BaseRegistration(Generic[AnyClient]):
 
     @property
     def is_registered(self) -> bool:
-        """Whether the node is known to be there, as one of this session: at the last seen zxid, not now."""
+        """Whether the node is known to be there, as this session's: at the last seen zxid, not now."""
         self._client._engine.check_process()
         return self._is_ours(self._client._engine.settled(self._path))
 
@@ -55,7 +55,7 @@ class BaseRegistration(Generic[AnyClient]):
             logger.error("the registration %s has ended: %s", self._path, error)
 
     def _going_on(self, news: News) -> Steps[None]:
-        """Sees to it that the node is there, until it is withdrawn; and then that it is not."""
+        """Keeps the node there until it is withdrawn, and then deletes it."""
         self._news = news
         engine = self._client._engine
         with engine.news(news.set, self._path):
@@ -74,7 +74,7 @@ class BaseRegistration(Generic[AnyClient]):
             yield from self._withdraw()
 
     def _make(self) -> Plan[None]:
-        """Reads the node with a watch, if nothing good is known of it, and makes it if it is not there."""
+        """Reads the node with a watch, if there is no good answer about it, and makes it if it is not there."""
         engine = self._client._engine
         if engine.state is State.LOST:
             self._there.clear()
@@ -83,7 +83,7 @@ class BaseRegistration(Generic[AnyClient]):
             if kept is None or not kept.exists:
                 yield from self._read_or_create()
             elif not self._is_ours(kept):
-                return self._there.clear()  # another session's is waited for
+                return self._there.clear()  # it waits for the end of another session's node
             elif kept.data != self._value:
                 yield requests.set(self._path, self._value, -1)
             else:
@@ -112,7 +112,7 @@ class BaseRegistration(Generic[AnyClient]):
             self._news.set()
 
     def _withdraw(self) -> Steps[None]:
-        """Deletes the node, if it is one of this session, and makes it no more. If its session is over, so is the node."""
+        """Deletes the node, if it is this session's, and no longer makes it. If its session is over, so is the node."""
         self._is_wanted = False
         self._there.clear()
         if self._news is not None:
@@ -138,8 +138,8 @@ class BaseRegistration(Generic[AnyClient]):
 
 
 def _surely(client: AnyClient, plan: Callable[[], Steps[None]]) -> Steps[None]:
-    """Does what deletes a node of the session. When `patiently` gives up, the error is raised, and the client goes on with it in
-    the background until it is done or the session is over.
+    """Makes the steps that delete a node of the session. When `patiently` gives up, it raises the error, and the client goes on
+    in the background until the node is deleted or the session is over.
     """
     engine, session = client._engine, client._engine.session_id()
 
@@ -161,6 +161,6 @@ def _surely(client: AnyClient, plan: Callable[[], Steps[None]]) -> Steps[None]:
 
 
 def _let_pass(error: ZookeeperError) -> None:
-    """Raises an error after which the same session brings nothing more."""
+    """Raises an error after which the same session can't do it any more."""
     if isinstance(error, SessionExpiredError) or not is_lived_through(error):
         raise error

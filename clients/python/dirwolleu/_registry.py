@@ -1,4 +1,4 @@
-"""Which functions of the program wait for watches."""
+"""The functions of the program that wait for watches."""
 
 from __future__ import annotations
 

@@ -1,4 +1,4 @@
-"""What a program can ask of a server, and what its answer brings."""
+"""The requests that a program can make of a server, and the results of their answers."""
 
 from __future__ import annotations
 
@@ -41,7 +41,7 @@ _ERRORS: dict[int, type[ZookeeperError]] = {
 
 
 def refusal_of(code: int, created: Optional[str] = None) -> ZookeeperError:
-    """The error of a code that a server answered. It may be the parent for which a node can't be created."""
+    """The error of a code that a server answered. Its path may be the parent, if a node can't be created for that reason."""
     error = error_of(code)
     error.is_answer = True
     if created is not None and isinstance(error, (NoNodeError, NoChildrenForEphemeralsError)):
@@ -50,7 +50,7 @@ def refusal_of(code: int, created: Optional[str] = None) -> ZookeeperError:
 
 
 class Watcher(NamedTuple):
-    """What is called when a watch fires."""
+    """A function to call when a watch fires."""
 
     path: str
     side: int
@@ -76,7 +76,7 @@ class Request(Generic[Result]):
         watcher: Optional[Watcher] = None,
     ) -> None:
         self.call, self.words = call, words
-        """The step of a session, and what it is told after the moment, the ticket and the limit."""
+        """The step of a session, and its arguments after the moment, the ticket and the limit."""
         self.path = path
         """The path of the node that it is about."""
         self.is_repeatable = is_repeatable
@@ -84,12 +84,12 @@ class Request(Generic[Result]):
         self.watcher = watcher
 
     def leaves_watch(self, answer: Answer) -> bool:
-        """Whether a watch that was asked for is left: if there is no node, `exists` alone leaves one."""
+        """Whether a watch that was asked for is left: if there is no node, only `exists` leaves one."""
         is_absent = answer.result == library.CODE
         return answer.lack == 0 and (not is_absent or self.is_exists and answer.code == NoNodeError.code)
 
     def result(self, answer: Answer, root: Root) -> Any:
-        """What the answer brings, or raises its error. The root is that of the client."""
+        """The result in the answer. Raises its error. The root is that of the client."""
         _, lack, result, code, stat, text, names, _ = answer
         if lack:
             raise _ERRORS[lack]()
@@ -121,7 +121,7 @@ def _watcher(path: str, side: int, watch: Watch) -> Optional[Watcher]:
 
 
 def _read(call: Callable[..., list[Action]], path: str, side: int, watch: Watch) -> tuple[Any, ...]:
-    """What a request is made of that reads a side of a node."""
+    """The arguments of a request that reads a side of a node."""
     return call, checked_path(path), (path, bool(watch)), True, _watcher(path, side, watch)
 
 

@@ -22,21 +22,20 @@ _PASSING = (ConnectionLoss.code, SessionExpiredError.code, SessionMovedError.cod
 
 
 def is_passing(error: ZookeeperError) -> bool:
-    """Whether a later try may bring what this one did not: the connection or the session went, or the server is busy.
-    """
+    """Whether a later try may succeed: the connection or the session was lost, or the server is busy."""
     return not isinstance(error, ConnectionClosedError) and error.code in _PASSING
 
 
 def is_lived_through(error: ZookeeperError) -> bool:
-    """Whether what waits longer than a call may ask again: also when no answer has come in time."""
+    """Whether a wait that is longer than a call may ask again: also if no answer has come in time."""
     return is_passing(error) or isinstance(error, CallTimeoutError)
 
 
 class _Bounds(NamedTuple):
-    """What a policy is made of."""
+    """The fields of a policy."""
 
     tries: Optional[int]
-    """How often a call is asked at most; None is no bound."""
+    """How often a call is asked, at most; None is no bound."""
 
     deadline: Optional[float]
     """For how many seconds tries begin; None is no bound."""
@@ -45,7 +44,7 @@ class _Bounds(NamedTuple):
     """The first pause in seconds. Each one is twice the one before."""
 
     chance: float
-    """Which part of a pause is left to chance, from 0 to 1, so that many clients do not come back at one moment."""
+    """The random part of a pause, from 0 to 1, so that many clients do not come back at one moment."""
 
     longest_pause: float
     """The longest pause, in seconds."""
@@ -54,10 +53,10 @@ class _Bounds(NamedTuple):
 class Retry(_Bounds):
     """A policy: how often a call is asked, and how long it pauses between two tries.
 
-    A call is asked again if its connection or its session went, or the server was busy, and only if that can't
-    do a change twice: what reads, what was surely not sent, and what is the same when it is done twice, such as
-    `ensure_path`. A read whose connection was lost is asked again without a policy too. A write whose connection ended before its answer is not asked again: `ConnectionLoss` is raised, with
-    `may_have_happened` true. After an expiry a call goes on in the new session.
+    A call is asked again if its connection or its session was lost, or the server was busy, and only if that can't make a change twice: if
+    it only reads, was surely not sent, or has the same effect when it is done twice, as `ensure_path` has. A read whose connection was lost
+    is asked again without a policy too. A write whose connection ended before its answer is not asked again: it raises `ConnectionLoss`,
+    with `may_have_happened` true. After an expiry a call goes on in the new session.
 
         retry = Retry(tries=5, deadline=30.0)
         client = Client("127.0.0.1:2181", retry=retry)           # for each call
@@ -85,7 +84,7 @@ class Retry(_Bounds):
         return Attempts(self)
 
     def pauses(self) -> Iterator[float]:
-        """The pauses between tries, with their chance.
+        """The pauses between tries, with their random part.
 
         >>> list(Retry(tries=4, pause=1.0, chance=0.0).pauses())
         [1.0, 2.0, 4.0]

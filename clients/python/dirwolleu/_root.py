@@ -1,4 +1,4 @@
-"""The root of a client, which is known as its chroot: the path of the servers' tree that the program knows as `/`."""
+"""The root of a client, which is known as its chroot: the path in the servers' tree that the program knows as `/`."""
 
 from __future__ import annotations
 
@@ -9,12 +9,12 @@ from dirwolleu._paths import no_path
 
 
 class Root(NamedTuple):
-    """A path of the servers' tree, without a slash at its end: nothing for the whole tree."""
+    """A path of the servers' tree, without a slash at its end: empty for the whole tree."""
 
     path: str = ""
 
     def full(self, path: str) -> str:
-        """The servers' path of a program's path. Raises `ValueError` where that does not begin with a slash."""
+        """The servers' path of a program's path. Raises `ValueError` if that does not begin with a slash."""
         if not self.path:
             return path
         if not path.startswith("/"):
@@ -22,7 +22,7 @@ class Root(NamedTuple):
         return self.path if path == "/" else self.path + path
 
     def spell(self, path: str) -> bytes:
-        """The bytes of the servers' path of a program's path. Raises `TypeError` where that is no text, and `ValueError`."""
+        """The bytes of the servers' path of a program's path. Raises `TypeError` if that is no text, and `ValueError`."""
         checked_path(path)
         try:
             return (self.full(path) if self.path else path).encode()

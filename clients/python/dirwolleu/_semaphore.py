@@ -1,7 +1,7 @@
-"""What a thread waits for, and another one sets while it does not have the lock of the interpreter.
+"""An event for one thread, which another one sets without the lock of the interpreter.
 
-Who releases a lock of `threading` has the interpreter's lock then. So the thread that this wakes waits again at once, for that one. The
-semaphores of the C library are reached by ctypes, which lets the interpreter's lock go for the time of a call.
+A thread that releases a lock of `threading` has the interpreter's lock. So the thread that it wakes waits again at once, for that one.
+The semaphores of the C library are called by ctypes, which releases the interpreter's lock for the time of a call.
 """
 
 from __future__ import annotations
@@ -34,22 +34,22 @@ class _Moment(ctypes.Structure):
 
 
 class Semaphore:
-    """An event for one thread that waits, as `News` is. It does not matter if that is interrupted."""
+    """An event for one thread that waits, as `News` is. It does not matter if that thread is interrupted."""
 
     __slots__ = ("_at",)
 
     def __init__(self) -> None:
-        self._at = ctypes.byref(_Room())  # it holds what it points at
+        self._at = ctypes.byref(_Room())  # it keeps its target alive
         _init(self._at, 0, 0)
 
     def set(self) -> None:
-        """Ends one wait: that of a thread that waits, or the next."""
+        """Ends one wait: the current one, or the next."""
         _post(self._at)
 
     def wait(self, timeout: Optional[float]) -> bool:
         """Waits until it is set, and clears it, for at most this many seconds. It ends at a signal too, so that its handler is called.
 
-        Answers whether it has cleared it.
+        Returns whether it has cleared it.
         """
         if timeout is None:
             ended = _wait(self._at)

@@ -1,9 +1,9 @@
-"""`Session`, the session of the library: it says which server is dialled and when, has calls wait for a connection, keeps what is followed
-good, and begins another session after an expiry.
+"""`Session`, the session of the library: it says which server to dial and when, makes calls wait for a connection, keeps the subjects that
+are followed good, and begins another session after an expiry.
 
-It opens no socket and reads no clock: each step is told the moment, in milliseconds of a clock that does not go back, and answers what comes
-of it. One thread makes all steps, and any thread may look up what is kept. A ticket is the caller's number of a call or a subject, and no two
-have or had one.
+It opens no socket and reads no clock: each step gets the moment, in milliseconds of a clock that does not go back, and returns the actions.
+One thread makes all steps, and any thread may look up the kept answers. A ticket is the caller's number of a call or a subject, and is
+never used twice.
 """
 
 from __future__ import annotations
@@ -26,13 +26,13 @@ from dirwolleu.types import Stat
 NO_LIMIT = 2**64 - 1
 """The limit of a call that has none."""
 LONGEST_ANSWER, LONGEST_REQUEST = 4_194_304, 1_048_575
-"""The most bytes of a frame that comes and of one that is sent, each after its length, if a program says no other."""
+"""The most bytes of a frame that comes and of one that is sent, each after its length, if a program sets no other."""
 MOST_AT_ONCE = 98_304
-"""How many bytes of what a step says are taken together, at most. What is longer is taken one output after the other, and copied once."""
+"""How many bytes of a step's outputs are taken together, at most. Longer ones are taken one output after the other, and copied once."""
 LONG = 65_536
 """An output of this many bytes is copied once, if as many have come for it."""
 KEPT = 2_097_152
-"""Twice as many bytes stay with the process once long answers are let go."""
+"""Twice as many bytes stay with the process once long answers are freed."""
 _REFUSALS = frozenset(range(library.READ_CODE, library.MIXED_NAMES + 1))
 _EVENTS = frozenset((library.NODE_CREATED, library.NODE_DELETED, library.DATA_CHANGED, library.CHILDREN_CHANGED))
 _SIDES = frozenset((library.DATA_SIDE, library.CHILDREN_SIDE))
@@ -42,7 +42,7 @@ _RESULTS = frozenset(range(library.CODE, library.RAW + 1))
 _output = struct.Struct(">iiiiQqQQ??qqqqiiiqiiqi")  # an output: its fields, its Stat, and how many bytes follow
 _output_at, _SIZE_OF_OUTPUT = _output.unpack_from, _output.size
 _fields_of_output = fields_of(library._Output)
-_LENGTH, _HEAD, _END_OF_STAT = 6, 10, 21  # of these: the length of the text, what is before the Stat, and with it
+_LENGTH, _HEAD, _END_OF_STAT = 6, 10, 21  # of these: the place of the text's length, and where the Stat begins and ends
 _as_the_protocol_has_it = operator.itemgetter(*range(14), 16, 17, 18, 14, 19, 20, 15)
 """The fields of an output with those of the Stat in the order of the protocol."""
 _OK, _SEND, _ANSWER, _START = library.OK, library.SEND, library.ANSWER, c_size_t(0)
@@ -66,21 +66,22 @@ class PlainAction(enum.Enum):
 
 
 class TimedOut(NamedTuple):
-    """The limit of a call has come, and it waits no more. If it was sent, it may have happened, or may yet."""
+    """The limit of a call has come, and it waits no longer. If it was sent, it may have happened, or may yet."""
 
     ticket: int
     was_sent: bool
 
 
 class Shown(NamedTuple):
-    """What is kept of a subject is good. It was not, or its path was reported since, or servers had an election."""
+    """The kept answer of a subject is good. It was not, or its path was reported since, or servers had an election."""
 
     ticket: int
 
 
 class Refused(NamedTuple):
-    """A read of a subject was refused, and is made again after a second, or if its answer is too long once more after a minute. The code
-    is the server's, if it was the server that has."""
+    """A read of a subject was refused. It is made again after a second, or, if its answer is too long, once more after a minute. The code
+    is the server's, if the server has refused it.
+    """
 
     ticket: int
     refusal: int
@@ -97,27 +98,27 @@ class MemberAdded(NamedTuple):
 
 
 class MemberRemoved(NamedTuple):
-    """What this ticket follows for a tree is followed no more: there is no such node, or the tree is followed no more."""
+    """A tree no longer follows this ticket's side of a node: there is no such node, or nobody follows the tree any more."""
 
     tree: int
     ticket: int
 
 
 class TreeBounded(NamedTuple):
-    """Whether a tree has more nodes than its bound is another one than before. If it has, no more of it is followed."""
+    """A tree has come to have more nodes than its bound, or no longer has. While it has, no more of it is followed."""
 
     tree: int
     is_bounded: bool
 
 
 class TreeComplete(NamedTuple):
-    """Nothing is lacking of a tree, and it may be another one than when that was told last: `subtree` judges whether it is of one moment."""
+    """A tree is complete again, and may have changed since the last report of that: `subtree` judges whether it is of one moment."""
 
     tree: int
 
 
 class Contends(NamedTuple):
-    """How a contender stands, if that is another thing than before: one of `CONTENDER_WAITS` to `CONTENDER_GIVEN_UP`.
+    """The standing of a contender has changed: it is one of `CONTENDER_WAITS` to `CONTENDER_GIVEN_UP`.
 
     It holds by a token. If it pauses, `refusal` says why, and the code is the server's.
     """
@@ -134,7 +135,7 @@ _PLAIN_ACTIONS = {library.HANG_UP: PlainAction.HANG_UP, library.RENEWED: PlainAc
 
 
 class CredentialAnswer(NamedTuple):
-    """A server has answered the credential at this place, from 0 on: with code 0 it takes it. Each connection has another answer."""
+    """A server has answered the credential at this place, from 0 on: with code 0 it accepts it. Each connection has its own answer."""
 
     place: int
     code: int
@@ -152,23 +153,23 @@ Action = Union[library.Output, Dial, PlainAction, TimedOut, Shown, Refused, Memb
 
 @functools.cache
 def keep_what_is_let_go() -> None:
-    """Has glibc keep the memory of long answers for the next ones. What is free at the end of its heap it gives back to the system if that is more
-    than 128 KB, or twice the longest block that was mapped by itself and freed: then each page of the next answer is a fault, which takes as long as
-    all else.
+    """Makes glibc keep the memory of long answers for the next ones. It gives free memory at the end of its heap back to the system if that
+    is more than 128 KB, or twice the longest block that was mapped by itself and freed: then each page of the next answer is a fault, which
+    takes as long as all else.
     """
     bytes(KEPT)
 
 
 def unbegun(last_zxid: int) -> bytes:
-    """What takes up no session, but admits no server that is behind this zxid."""
+    """A saved session that resumes none, but admits no server that is behind this zxid."""
     return struct.pack(">qi", 0, 16) + bytes(16) + struct.pack(">q", last_zxid)
 
 
 class Session(LookUps):
     """One session after the other, with the greatest zxid seen in all of them. It holds memory of the library's until `close`.
 
-    `saved` is taken up first. The order of the addresses and the pauses between attempts are random by the seed. Raises `ValueError`
-    where no session may have such limits.
+    `saved` is resumed first. The order of the addresses and the pauses between attempts are random by the seed. Raises `ValueError` if no
+    session may have such limits.
     """
 
     def __init__(
@@ -185,7 +186,7 @@ class Session(LookUps):
         self._take_next = functools.partial(self._calls.next, byref(self._handle), byref(self._output))
         self._make_room(4096)
         self._untold = 0
-        """How many bytes have come since a step said something."""
+        """How many bytes have come since the last step with an output."""
         if saved is None:
             checked(self._calls.open_with_limits(self._handle, timeout_ms, addresses, seed, *limits))
         else:
@@ -194,11 +195,11 @@ class Session(LookUps):
     # Steps.
 
     def opened(self, now: int) -> list[Action]:
-        """The connection that was asked for is there."""
+        """The connection that the session asked for is open."""
         return self._outputs(self._calls.opened(self._handle, now))
 
     def failed(self, now: int) -> list[Action]:
-        """The connection that was asked for could not be made."""
+        """The connection that the session asked for could not be made."""
         return self._outputs(self._calls.failed(self._handle, now))
 
     def cut(self, now: int) -> list[Action]:
@@ -206,11 +207,11 @@ class Session(LookUps):
         return self._outputs(self._calls.cut(self._handle, now))
 
     def moment(self, now: int) -> list[Action]:
-        """Nothing but the moment."""
+        """Gives the session only the moment."""
         return self._outputs(self._calls.moment(self._handle, now))
 
     def received(self, now: int, data: Union[bytes, memoryview]) -> list[Action]:
-        """Bytes came, maybe in memory that the caller can write. Raises `NoMemory` where they can be handed in again."""
+        """Bytes came, maybe in memory that the caller can write. Raises `NoMemory` if they can be handed in again."""
         at = data if isinstance(data, bytes) else byref(c_char.from_buffer(data))
         code = self._calls.bytes(self._handle, now, at, len(data))
         self._untold += len(data)
@@ -224,7 +225,7 @@ class Session(LookUps):
         return outputs
 
     def addresses(self, now: int, kept: int, added: int, is_listed: bool) -> list[Action]:
-        """The list of addresses is another one: those that were in the list before, and after them those that were not."""
+        """The list of addresses is a new one: first those that were in the list before, and then those that were not."""
         return self._outputs(self._calls.addresses(self._handle, now, kept, added, is_listed))
 
     def exists(self, now: int, ticket: int, until: int, path: str, watch: bool) -> list[Action]:
@@ -264,16 +265,17 @@ class Session(LookUps):
     def raw(
         self, now: int, ticket: int, until: int, operation: int, named: Sequence[str], body: Callable[[Root], bytes]
     ) -> list[Action]:
-        """Asks for another operation, with a body that the library does not read: so the paths that it names are looked at before."""
+        """Asks for another operation, with a body that the library does not read: so the paths that it names are checked before."""
         for path in named:
             self._side_kept(path)
         spelled = body(self._root)
         return self._outputs(self._calls.raw(self._handle, now, ticket, until, operation, spelled, len(spelled)))
 
     def credential(self, now: int, scheme: str, secret: bytes) -> list[Action]:
-        """Has the session introduce itself by this too, on this connection and each later one, before all else. They have places, from 0 on.
+        """Adds a credential, which the session sends on this connection and each later one, before all else. Credentials have places, from
+        0 on.
 
-        Raises `TooLargeError` where both have more than 1,048,555 bytes.
+        Raises `TooLargeError` if the scheme and the secret have more than 1,048,555 bytes.
         """
         spelled = scheme.encode()
         code = self._calls.credential(self._handle, now, spelled, len(spelled), secret, len(secret))
@@ -282,11 +284,11 @@ class Session(LookUps):
         return self._outputs(code)
 
     def close_session(self, now: int, ticket: int, until: int) -> list[Action]:
-        """Ends the session of the servers. After `SESSION_CLOSED` nothing more of it is to be done."""
+        """Ends the session at the servers. After `SESSION_CLOSED` there is nothing more to do for it."""
         return self._outputs(self._calls.close(self._handle, now, ticket, until))
 
     def follow(self, now: int, ticket: int, path: str, side: int) -> list[Action]:
-        """Keeps what is known of the data of a node, or of the names of its children, good, even if there is no node yet."""
+        """Keeps the data of a node, or the names of its children, good, even if there is no node yet."""
         spelled = self._root.spell(path)
         calls = self._calls
         follow = calls.follow_data if side == library.DATA_SIDE else calls.follow_names
@@ -296,7 +298,7 @@ class Session(LookUps):
         return self._outputs(self._calls.unfollow(self._handle, now, ticket))
 
     def follow_tree(self, now: int, ticket: int, path: str, most: int) -> list[Action]:
-        """Follows all nodes at and below a path, of which no more are taken on if there are more than `most`."""
+        """Follows all nodes at and below a path. If there are more than `most`, it adds no more."""
         spelled = self._root.spell(path)
         return self._outputs(self._calls.follow_tree(self._handle, now, ticket, spelled, len(spelled), most), path)
 
@@ -306,8 +308,8 @@ class Session(LookUps):
     def contend(
         self, now: int, ticket: int, directory: str, naming: int, guid: str, data: bytes, acl: bytes, may_be_there: bool
     ) -> list[Action]:
-        """Has a contender join for the lock of a directory. What it makes has the ACL that these bytes spell: without any it is open to all.
-        `may_be_there` says that this session may have made a place by this guid before.
+        """Adds a contender for the lock of a directory. The nodes that it makes have the ACL that these bytes spell: without any they are
+        open to all. `may_be_there` says that this session may have made a place by this guid before.
         """
         spelled, tag = self._root.spell(directory), guid.encode()
         place, name, content = (spelled, len(spelled)), (naming, tag, len(tag)), (data, len(data), False)
@@ -321,7 +323,7 @@ class Session(LookUps):
     # Look-ups.
 
     def heard_at(self) -> Optional[int]:
-        """The moment at which the server was heard last, on any connection."""
+        """The moment at which the server was last heard, on any connection."""
         moment = c_uint64()
         code = self._calls.heard_at(self._handle, moment)
         checked(code)
@@ -331,7 +333,7 @@ class Session(LookUps):
         """Forgets all stale answers."""
         checked(self._calls.forget(self._handle))
 
-    # What a step tells.
+    # The outputs of a step.
 
     def _outputs(self, code: int, path: str = "") -> list[Action]:
         if code < _OK:
@@ -356,7 +358,7 @@ class Session(LookUps):
         self._take_all = functools.partial(self._calls.outputs, byref(self._handle), byref(self._room), c_size_t(size), byref(self._count))
 
     def _can_take_all(self) -> bool:
-        """Takes what a step says into more room, unless it is long, or there is no memory to take it at once."""
+        """Takes a step's outputs into more room, unless they are long, or there is no memory to take them at once."""
         wanted = self._count.value
         if not self._size < wanted <= MOST_AT_ONCE:
             return False
@@ -364,8 +366,9 @@ class Session(LookUps):
         return bool(self._take_all() == _OK)
 
     def _each_output(self, least: int = 0) -> list[Action]:
-        """The same, one output after the other, and all that follow one of fewer bytes than these together. If there is no memory for
-        one, it is lost."""
+        """The same, one output after the other, and all that follow one of fewer than `least` bytes together. If there is no memory for
+        one, it is lost.
+        """
         outputs: list[Action] = []
         while (code := self._take_next()) == _OK:
             fields = _as_the_protocol_has_it(_fields_of_output(self._output))
@@ -380,7 +383,7 @@ class Session(LookUps):
         return outputs
 
     def _bytes_of(self, fields: tuple[Any, ...]) -> bytes:
-        """The bytes of the output that was told last: its text, and after it the names of a listing, or the words of a drop."""
+        """The bytes of the last output: its text, and after it the names of a listing, or the words of a drop."""
         kind, length = fields[0], fields[_LENGTH]
         if kind == _ANSWER and fields[_LENGTH + 1]:
             return filled(lambda *room: self._calls.names(self._handle, *room), self._untold)
@@ -389,7 +392,7 @@ class Session(LookUps):
         return text + filled(lambda *room: self._calls.words(self._handle, *room)) if kind == library.DROP else text
 
     def _read(self, fields: tuple[Any, ...], told: bytes) -> Action:
-        """What the library says, by the fields of an output, with its Stat as the protocol has it, and its bytes."""
+        """The action of an output, by its fields, with its Stat as the protocol has it, and its bytes."""
         kind, detail, result, code, ticket, zxid, length, place, was_sent = fields[:9]
         if kind == _SEND:
             return made(Send, (told,))

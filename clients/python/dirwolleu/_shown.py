@@ -1,4 +1,4 @@
-"""What both clients have in common, and what they show without asking a server."""
+"""The base of both clients, and the look-ups that ask no server."""
 
 from __future__ import annotations
 
@@ -30,7 +30,7 @@ AnyKept = TypeVar("AnyKept", bound=Union[Kept, KeptChildren])
 
 
 def credential_of(scheme: str, credential: Union[str, bytes]) -> Credential:
-    """Raises `TypeError`, which does not tell the secret."""
+    """A credential. Raises a `TypeError` that does not show the secret."""
     spelled = credential.encode() if isinstance(credential, str) else credential
     if not isinstance(spelled, bytes):
         raise TypeError(f"a credential is a str or bytes, and not {type(credential).__name__}")
@@ -49,7 +49,7 @@ def _named(one: object) -> str:
 
 
 class Shown:
-    """What a client shows of its session, and of what it keeps."""
+    """The part of a client that shows its session and its kept answers."""
 
     def __init__(
         self,
@@ -200,8 +200,8 @@ class Shown:
     def age(self) -> float:
         """The greatest age of kept answers, in seconds; infinity if no server has answered yet.
 
-        It is the time since the newest answered ping or call was handed in: by then, the server had reported all that it knew
-        of the watched nodes. The server itself may be behind the others. On systems that tell it, as Linux does, the age includes
+        It is the time since the newest answered ping or call was handed in: by then, the server had reported all that it knew of the
+        watched nodes. The server itself may be behind the others. On systems whose clock shows it, as Linux's does, the age includes
         the time for which the machine was suspended; so does `within` of other calls.
         """
         proved_at = self._engine.connection_stats.proved_at
@@ -227,7 +227,7 @@ class Shown:
 
     def _within(self, within: Optional[float], look: Callable[[], Optional[AnyKept]]) -> Optional[AnyKept]:
         self._engine.check_process()
-        age = self.age()  # before the look-up: what is good later was good by then
+        age = self.age()  # before the look-up: an answer that is good later was good by then
         kept = look()
         if within is None or kept is None:
             return kept

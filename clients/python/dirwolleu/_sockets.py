@@ -16,19 +16,19 @@ if TYPE_CHECKING:
     import ssl
 
 MOST_ROOMS = 8
-"""How often a room that came full is filled again at once, at most: then others have their turn."""
+"""How often a room that was filled is filled again at once, at most: then others have their turn."""
 
 Do = Callable[..., object]
 
 
 class Link:
-    """One connection to a server, or an attempt to make it. All of it is done in the thread that polls."""
+    """One connection to a server, or an attempt to make it. All of it runs in the thread that polls."""
 
     not_now: tuple[type[OSError], ...] = (BlockingIOError, InterruptedError)
-    """What a socket raises that is not ready."""
+    """The errors of a socket that is not ready."""
 
     def __init__(self, reactor: Reactor, do: Do, driver: Driver) -> None:
-        """`do` does a step of the client, and what comes of it."""
+        """`do` makes a step of the client, and does what follows from it."""
         self._reactor, self._do, self._driver = reactor, do, driver
         self.inbox = Inbox(reactor.rooms)
         self._socket: Optional[socket.socket] = None
@@ -60,7 +60,7 @@ class Link:
         self._unsent += frames
 
     def close(self) -> None:
-        """Ends the connection at once, or what is to become one. The engine has asked for it."""
+        """Ends the connection, or the attempt to make one, at once. The engine has asked for it."""
         self._is_over = True
         connection, self._socket = self._socket, None
         if connection is not None:
@@ -68,7 +68,7 @@ class Link:
             connection.close()
 
     def end(self, why: str = "") -> None:
-        """Ends the connection at once, and says so."""
+        """Ends the connection at once, and tells the driver why."""
         if not self._is_over:
             self.close()
             self._driver.leave(why)
@@ -151,7 +151,7 @@ class Link:
             raise
 
     def _flush(self) -> None:
-        """Goes on with what was not written."""
+        """Sends more of the bytes that were not written."""
         assert self._socket is not None
         try:
             sent = self._socket.send(self._unsent)
@@ -162,7 +162,7 @@ class Link:
             self._watch(READ)
 
     def _read(self) -> None:
-        """Reads on only if the room came full: else the rest of what is long is mostly not there yet."""
+        """Reads on only if the room was filled: else the rest of a long frame is mostly not there yet."""
         inbox = self.inbox
         for _ in range(MOST_ROOMS):
             if self._socket is None:
@@ -177,7 +177,7 @@ class Link:
 
 
 def link(reactor: Reactor, do: Do, driver: Driver, tls: Optional[ssl.SSLContext]) -> Link:
-    """A connection that is to be dialled."""
+    """A connection that has yet to be dialled."""
     if tls is None:
         return Link(reactor, do, driver)
     from dirwolleu._tls_sockets import TlsLink

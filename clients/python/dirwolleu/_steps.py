@@ -1,7 +1,7 @@
-"""What is done one step after the other, for both kinds of clients: each step is asked, waited for or called by the client.
+"""Steps that both kinds of clients make, one after the other: each asks a request, waits, or calls a function.
 
-A rule is written once, as a generator of steps. The client for threads does them in the thread that calls, or as a task
-in the thread of the callbacks; the one for asyncio does them in a coroutine, or as a task of its loop.
+A rule is written once, as a generator of steps. The client for threads makes them in the thread that calls, or as a task in the
+thread of the callbacks; the one for asyncio makes them in a coroutine, or as a task of its loop.
 """
 
 from __future__ import annotations
@@ -18,7 +18,7 @@ from dirwolleu.exceptions import CallTimeoutError, ZookeeperError
 Result = TypeVar("Result")
 
 SHORTEST_ASK = 1.0
-"""How long an answer is waited for at least, in seconds, if a wait has less left: so a wait of no time tries once."""
+"""The shortest wait for an answer, in seconds, if a wait has less left: so a wait of no time tries once."""
 
 
 class Ask(NamedTuple):
@@ -37,11 +37,11 @@ class Wait(NamedTuple):
 
 
 class GetNews(NamedTuple):
-    """Answer what sets the news that `Wait` waits for."""
+    """Get the news that `Wait` waits for, as an object to set."""
 
 
 class Call(NamedTuple):
-    """Call a function of the program. If it is a coroutine function of asyncio, what it answers is awaited."""
+    """Call a function of the program. If it is a coroutine function of asyncio, its result is awaited."""
 
     function: Callable[[], Any]
 
@@ -51,7 +51,7 @@ Steps = Generator[Step, Any, Result]
 
 
 class TimeIsOver(Exception):
-    """The moment has come by which steps were to be done."""
+    """The moment by which steps were to be done has come."""
 
 
 def left_of(until: Optional[float]) -> Optional[float]:
@@ -80,7 +80,7 @@ def by_policy(request: Request[Any], retry: Optional[Retry], until: Optional[flo
 
 
 def run(plan: Plan[Result], retry: Optional[Retry], until: Optional[float]) -> Steps[Result]:
-    """Asks what a plan asks for, one request after the other."""
+    """Makes the requests of a plan, one after the other."""
     try:
         request = next(plan)
         while True:
@@ -96,7 +96,7 @@ def run(plan: Plan[Result], retry: Optional[Retry], until: Optional[float]) -> S
 
 
 def drive(steps: Steps[Result], do: Callable[[Step], Any]) -> Result:
-    """Does steps in this thread, one after the other. The steps handle the errors and interrupts that they raise."""
+    """Makes steps in this thread, one after the other. The steps handle the errors and interrupts that they raise."""
     try:
         step = next(steps)
         while True:
@@ -112,7 +112,7 @@ def drive(steps: Steps[Result], do: Callable[[Step], Any]) -> Result:
 
 
 def bounded(steps: Steps[Result], until: Optional[float]) -> Steps[Result]:
-    """The same steps, up to a moment: then the step that waits raises `TimeIsOver`, and what cleans up after it may wait."""
+    """The same steps, up to a moment: then the step that waits raises `TimeIsOver`, and the clean-up after it may wait."""
     try:
         step = next(steps)
         while True:

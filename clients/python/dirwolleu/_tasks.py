@@ -1,4 +1,4 @@
-"""Steps that no thread waits for: the thread of the callbacks does them."""
+"""Steps that no thread waits for: the thread of the callbacks makes them."""
 
 from __future__ import annotations
 
@@ -10,7 +10,7 @@ from dirwolleu._steps import Ask, Call, GetNews, Step, Steps, Wait
 
 
 class Doing(Protocol):
-    """What a task needs of its client."""
+    """The functions that a task needs of its client."""
 
     def _tell(self, function: Callable[[Any], object], argument: Any) -> bool: ...
     def _later(self, seconds: float, function: Callable[[], object]) -> None: ...
@@ -18,7 +18,7 @@ class Doing(Protocol):
 
 
 class _Turn:
-    """What waits for the answer to one step of a task."""
+    """The waiter for the answer to one step of a task."""
 
     def __init__(self, task: Task, number: int) -> None:
         self._task, self._number, self._is_done = task, number, False
@@ -42,9 +42,9 @@ class _Turn:
 
 
 class Task:
-    """Steps that no thread waits for. The thread of the callbacks does each of them, and is not held up between them.
+    """Steps that no thread waits for. The thread of the callbacks makes each of them, and is not held up between them.
 
-    It is also the news that its own steps wait for. `end` is told how it ended: the result, or the error.
+    It is also the news that its own steps wait for. `end` gets its result, or its error.
     """
 
     def __init__(
@@ -56,7 +56,7 @@ class Task:
         self._client, self._end = client, end
         self._is_news, self._is_told, self._waits, self._number = False, False, False, 0
         self._open = {0: True}
-        """The step that is to come, until somebody takes it: after a stop that may be any thread."""
+        """The next step, until somebody takes it: after a stop that may be any thread."""
         self._steps: Optional[Generator[Step, Any, Any]] = begin(self)
 
     def start(self) -> None:
@@ -66,10 +66,10 @@ class Task:
         self.set()
 
     def set(self) -> None:
-        """There is news. Any thread may say so."""
+        """Reports news. Any thread may call it."""
         self._is_news = True
         if not self._is_told:
-            self._is_told = True  # before it is told: the other thread may take it at once
+            self._is_told = True  # before the other thread is called: that may take it at once
             if not self._client._tell(self._wake, None):
                 self._is_told = False
 
@@ -81,7 +81,7 @@ class Task:
         return self._steps is None or number != self._number
 
     def soon(self, number: int, answer: Any, error: Optional[BaseException]) -> None:
-        """Has the task go on with what a step has brought, unless it is past."""
+        """Continues the task with the answer or the error of a step, unless the step is past."""
         came = number, answer, error
         if not self._client._tell(self._go_on, came):
             self._go_on(came)

@@ -1,4 +1,4 @@
-"""A client that is started, in the thread that keeps all blocking clients connected, and its own thread for callbacks."""
+"""A started client, in the thread that keeps all blocking clients connected, and its own thread for callbacks."""
 
 from __future__ import annotations
 
@@ -23,7 +23,7 @@ LONGEST_END = 5.0
 
 
 class Loop:
-    """What a client does in the thread that polls: each step of the engine, the first and the last.
+    """The work of a client in the thread that polls: each step of the engine, the first and the last.
 
     `begin` begins the engine. `end` ends it, if nobody has stopped it; `ended` is called when all is over.
     """
@@ -44,7 +44,7 @@ class Loop:
         """Those who wait for the end."""
         self.is_stopped = self._is_over = False
 
-    # What any thread may call.
+    # Any thread may call these.
 
     def start(self) -> None:
         join(self._run)
@@ -57,7 +57,7 @@ class Loop:
         return self._fate.is_sealed()
 
     def act(self) -> bool:
-        """Lets the driver do what was asked, and answers whether it does: not where it has ended, or never begins."""
+        """Lets the driver take the requests, and returns whether it does: not if it has ended, or never begins."""
         reactor = self._reactor
         if reactor is None:  # the first step does it, if there is one
             return not self.never_runs()
@@ -69,14 +69,14 @@ class Loop:
         self.soon(lambda: self.call_later(seconds, function))
 
     def soon(self, call: Callable[[], object]) -> None:
-        """Has a function called as a step of the client, unless it is over by then."""
+        """Calls a function as a step of the client, unless it is over by then."""
         if self._reactor is not None:
             self._reactor.post(functools.partial(self._do, call))
 
     def stop(self, end: Callable[[], None], longest: float = LONGEST_END) -> None:
-        """Does what ends the engine, and waits for that, though not without bound.
+        """Calls `end`, which ends the engine, and waits for that, up to a bound.
 
-        If the client has ended already, `end` is not called; nor if it has not begun, which it then never does.
+        If the client has ended already, `end` is not called; nor if it has not begun, and then it never begins.
         """
         self.is_stopped = True
         if self._fate.never_begins():
@@ -92,7 +92,7 @@ class Loop:
             if self._is_over or news.wait(longest):
                 self._reactor.await_end(longest)
 
-    # What is called in the thread that polls.
+    # Only the thread that polls calls these.
 
     def call_soon(self, function: Callable[..., object], *words: Any) -> None:
         assert self._reactor is not None
@@ -125,12 +125,14 @@ class Loop:
             self._driver.start(self)
 
     def _do(self, function: Callable[..., object], *words: Any) -> None:
-        """A step of the client, and what comes of it: whose answer has come goes on after the turn."""
+        """Makes a step of the client, and does what follows from it: a thread whose answer has come goes on after the
+        turn.
+        """
         if self._is_over:
             return
         try:
             function(*words)
-        except BaseException:  # SystemExit too, which would end all clients, and no program
+        except BaseException:  # SystemExit too, which would end all clients, not the program
             logger.exception("a step of a client has failed")
         if self._driver.is_over:
             self._finish()
@@ -161,7 +163,7 @@ class Loop:
 
 
 class Threads:
-    """The threads of a client that is started, from then until it is stopped, in one process."""
+    """The threads of a client, from its start to its stop, in one process."""
 
     def __init__(self, driver: Driver, engine: Engine, sleepers: Sleepers, begun: Callable[[], None]) -> None:
         """`begun` is called once the engine has begun."""
@@ -170,7 +172,7 @@ class Threads:
         self.callbacks = Callbacks(self.loop.soon)
         self.have_begun = False
         self.later: dict[str, Optional[Threads]] = {}
-        """Those of the client after these, once these are over."""
+        """The next threads of the client, once these are over."""
         self._process = this_process()
 
     def are_here(self) -> bool:

@@ -1,4 +1,4 @@
-"""The same connection by TLS."""
+"""The connection of a blocking client by TLS."""
 
 from __future__ import annotations
 
@@ -11,7 +11,7 @@ from dirwolleu._sockets import Do, Link
 
 
 class TlsLink(Link):
-    """One that shakes hands first."""
+    """A connection that shakes hands first."""
 
     not_now = (ssl.SSLWantReadError, ssl.SSLWantWriteError, BlockingIOError)
 
@@ -52,7 +52,7 @@ class TlsLink(Link):
         self._reactor.watch(self._socket.fileno(), wanted, functools.partial(self._do, self._shake_hands))
 
     def _read(self) -> None:
-        """Reads all that is deciphered already, of which no poll tells."""
+        """Also reads the bytes that are deciphered already, which no poll reports."""
         super()._read()
         while self._socket is not None and isinstance(self._socket, ssl.SSLSocket) and self._socket.pending():
             super()._read()

@@ -1,7 +1,7 @@
-"""What is shown of a tree, and when it is looked at. It has no socket and no thread.
+"""The view of a tree, and when it looks at the tree. It has no socket and no thread.
 
-The proved session decides which nodes are read, and tells when a look is worth it; the proved core judges whether all of the tree is of
-one moment. What is kept here is the newest snapshot, and why there is no newer one.
+The proved session decides which nodes are read, and reports when a look is worth it; the proved core judges whether all of the tree is
+of one moment. This module keeps the newest snapshot, and the reason why there is no newer one.
 """
 
 from __future__ import annotations
@@ -26,11 +26,11 @@ SHARE = 10
 TreeNews = Union[MemberAdded, MemberRemoved, TreeBounded, TreeComplete]
 
 _ALL = 0
-"""The ticket by which is noted what keeps all of a tree from being shown. Nothing is followed by it."""
+"""The ticket for what keeps all of a tree from being shown. Nothing is followed by it."""
 
 
 class Host(Protocol):
-    """What a tree wants of the client that it is of."""
+    """The functions that a tree needs of its client."""
 
     def settled(self, path: str) -> Optional[Kept]: ...
     def lacking(self, path: str, most: int) -> list[Lacking]: ...
@@ -46,15 +46,15 @@ class TreeView:
         self._below = "/" if root == "/" else root + "/"
         self.ticket: Optional[int] = None
         self._paths: dict[int, str] = {}
-        self._troubles: dict[int, Exception] = {}  # what keeps that from being read which a ticket follows, the newest last
-        self._logged = set[str]()  # what the log has of these since the tree was whole
+        self._troubles: dict[int, Exception] = {}  # why the subject of a ticket can't be read, the newest last
+        self._logged = set[str]()  # those that were logged since the tree was whole
         self._must_look = self._is_current = False
         self._look_at = 0
         self.latest: Optional[TreeSnapshot] = None
         self.trouble: Optional[Exception] = None
-        """Why there is no newer snapshot, if that is not just that reads are under way."""
+        """Why there is no newer snapshot, unless reads are only under way."""
 
-    # What happens.
+    # Its events.
 
     def begin_again(self) -> None:
         """The session that followed it is gone, or had no memory to follow it."""
@@ -64,16 +64,16 @@ class TreeView:
         self._troubles.clear()
 
     def end_current(self) -> None:
-        """The newest snapshot is of the past."""
+        """The newest snapshot is no longer current."""
         self._is_current = False
 
     def reported(self, path: str) -> None:
-        """What was good of a path has ended. Once it is good again, the session tells that nothing is lacking."""
+        """A good answer about a path has ended. Once it is good again, the session reports the tree complete."""
         if path == self.root or path.startswith(self._below):
             self._must_look = self._is_current = False
 
     def hear(self, news: TreeNews) -> None:
-        """The session tells news of the tree."""
+        """Takes the session's news of the tree."""
         if isinstance(news, MemberAdded):
             self._paths[news.ticket] = news.path
         elif isinstance(news, MemberRemoved):
@@ -85,17 +85,17 @@ class TreeView:
             self._must_look = True
 
     def show(self, ticket: int) -> None:
-        """What is followed by a ticket, of this tree or of something else, is good."""
+        """The subject of a ticket, of this tree or of something else, is good."""
         self._note(ticket, self._absence() if ticket == self.ticket else None)
 
     def refuse(self, ticket: int, error: ZookeeperError) -> None:
-        """A read of what is followed by a ticket, of this tree or of something else, was refused."""
+        """A read of the subject of a ticket, of this tree or of something else, was refused."""
         path = self._paths.get(ticket)
         if path is not None:
             error.path = path
             self._note(ticket, error if _is_trouble(error) else None)
 
-    # What is to be done.
+    # Its looks.
 
     def look(self, now: int) -> None:
         """Takes a snapshot, if that is worth it and the moment has come. The client is connected."""
@@ -114,15 +114,15 @@ class TreeView:
         self._note(_ALL, trouble)
 
     def is_current(self) -> bool:
-        """Whether nothing was told since the newest snapshot that has ended it."""
+        """Whether no report since the newest snapshot has ended it."""
         return self._is_current
 
     def deadline(self) -> Optional[int]:
-        """The moment at which something is to be done, though nothing is told before."""
+        """The moment of the next look, if no report comes before."""
         return self._look_at if self._must_look else None
 
     def _take(self) -> None:
-        """Takes a snapshot, if the core shows all of the tree. It fails if no read would have it do so."""
+        """Takes a snapshot, if the core shows all of the tree. Raises an error if no read would help."""
         nodes, zxid = self._host.subtree(self.root, self.most)
         if nodes is None:
             self._host.lacking(self.root, self.most)
@@ -136,7 +136,7 @@ class TreeView:
         return TooManyNodes(f"more than {self.most} nodes at and below {self.root}; ask for more, or for a path below")
 
     def _absence(self) -> Optional[NoNodeError]:
-        """That there is no root, if that is known."""
+        """The error that there is no root, if that is known."""
         kept = self._host.settled(self.root)
         if kept is None or kept.exists:
             return None
@@ -145,7 +145,7 @@ class TreeView:
         return error
 
     def _note(self, ticket: int, trouble: Optional[Exception]) -> None:
-        """Notes what keeps that from being read which a ticket follows, or that nothing does."""
+        """Notes why the subject of a ticket can't be read, or that it can."""
         before = self._troubles.pop(ticket, None)
         if trouble is None and before is None:
             return
@@ -156,12 +156,12 @@ class TreeView:
         self._tell()
 
     def _log(self, words: str) -> None:
-        """Says why the tree is not whole: each reason once, until it is."""
+        """Logs why the tree is not whole: each reason once, until it is."""
         if words not in self._logged:
             self._logged.add(words)
             logger.warning("the tree at %s is not whole: %s", self.root, words)
 
 
 def _is_trouble(error: ZookeeperError) -> bool:
-    """Whether a refused read is more than one to be made again: that a node went meanwhile, its parent tells."""
+    """Whether a refused read is more than one to make again: if a node was deleted meanwhile, its parent's names show that."""
     return not (isinstance(error, (NoNodeError, ConnectionClosedError)) or is_passing(error))

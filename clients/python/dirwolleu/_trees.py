@@ -15,7 +15,7 @@ from dirwolleu.exceptions import CallTimeoutError
 from dirwolleu.tree import TreeSnapshot
 
 MOST_NODES = 65_536
-"""How many nodes a tree has at most, if a program says nothing else: as many as the core watches."""
+"""How many nodes a tree has at most, if a program sets no bound: as many as the core watches."""
 
 
 class _Grown:
@@ -37,7 +37,7 @@ class _Grown:
 
     @property
     def current(self) -> Optional[TreeSnapshot]:
-        """The newest snapshot, if nothing that the client was told since has ended it, else None.
+        """The newest snapshot, if no report to the client since has ended it, else None.
 
         So it is the servers' tree at the client's last seen zxid.
         """
@@ -45,15 +45,15 @@ class _Grown:
 
     @property
     def trouble(self) -> Optional[Exception]:
-        """Why there is no newer snapshot, or None if that is only that reads are under way.
+        """Why there is no newer snapshot, or None if reads are only under way.
 
-        `NoNodeError`: there is no root. Another error of a server: what it refused to read. `ValueError`: there are more
-        nodes than the tree was to have.
+        `NoNodeError`: there is no root. Another error of a server: it refused a read. `ValueError`: there are more nodes than the
+        tree was to have.
         """
         return self._tree_view.trouble
 
     def close(self) -> None:
-        """Reads no more. What was read stays kept by the client, until it is stale and forgotten."""
+        """Stops reading. The client keeps the answers until they are stale and forgotten."""
         self._engine.remove_tree(self._tree_view)
         self._told()
 
@@ -72,7 +72,7 @@ class _Grown:
         return found
 
     def _next(self, told: Optional[TreeSnapshot]) -> Steps[Optional[TreeSnapshot]]:
-        """Waits for another snapshot than this one: None where the tree or the client ends before."""
+        """Waits for another snapshot than this one: None if the tree or the client ends before."""
         news: News = yield GetNews()
         self._waiting.append(news.set)
         try:
@@ -90,7 +90,7 @@ class _Grown:
 
 
 class _Client(Protocol):
-    """What a tree wants of a client for threads."""
+    """The functions that a tree needs of a client for threads."""
 
     _engine: Engine
 
@@ -98,8 +98,8 @@ class _Client(Protocol):
 
 
 class Tree(_Grown, AbstractContextManager["Tree"]):
-    """All nodes at and below a path, kept as the servers have them: what `client.tree` gives. A thread of the client reads, and reads
-    again what changes, through lost connections and new sessions: which nodes, the proved core decides.
+    """All nodes at and below a path, kept as the servers have them: `client.tree` returns one. A thread of the client reads them,
+    and reads again those that change, through lost connections and new sessions: the proved core decides which nodes.
 
     Each snapshot is of one moment, and no node is left out: the proved core judges that. When one is shown is tested.
 
@@ -121,13 +121,13 @@ class Tree(_Grown, AbstractContextManager["Tree"]):
     def wait(self, timeout: Optional[float] = None) -> TreeSnapshot:
         """The newest snapshot. If there is none yet it waits, for at most this many seconds: None is no bound.
 
-        Raises `CallTimeoutError` where none came in time, and the `trouble` that keeps it from coming.
+        Raises `CallTimeoutError` if none came in time, and the `trouble` that keeps it from coming.
         """
         found: TreeSnapshot = self._client._drive(self._first(timeout))
         return found
 
     def snapshots(self) -> Generator[TreeSnapshot, None, None]:
-        """Yields the newest snapshot, and each newer one. Where several come between two of them, the last one is told.
+        """Yields the newest snapshot, and each newer one. If several come between two of its steps, it yields the last one.
 
         It ends if the tree is closed or the client is stopped.
         """
@@ -137,7 +137,7 @@ class Tree(_Grown, AbstractContextManager["Tree"]):
 
 
 class _AsyncClient(Protocol):
-    """What a tree wants of a client for asyncio."""
+    """The functions that a tree needs of a client for asyncio."""
 
     _engine: Engine
 
@@ -145,7 +145,7 @@ class _AsyncClient(Protocol):
 
 
 class AsyncTree(_Grown, AbstractAsyncContextManager["AsyncTree"]):
-    """`dirwolleu.Tree` for asyncio: what `client.tree` of `dirwolleu.aio` gives.
+    """`dirwolleu.Tree` for asyncio: `client.tree` of `dirwolleu.aio` returns one.
 
         async with client.tree("/config") as tree:
             async for snapshot in tree.snapshots():

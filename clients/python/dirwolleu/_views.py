@@ -1,4 +1,4 @@
-"""What the session keeps good for those who follow it: nodes, lists of children, and trees."""
+"""The subjects that the session keeps good for those who follow them: nodes, lists of children, and trees."""
 
 from __future__ import annotations
 
@@ -40,7 +40,7 @@ def error_of_refusal(refusal: int, code: int) -> ZookeeperError:
 
 
 class Views(Dispatcher):
-    """Has the session follow subjects, and tells those who look at them."""
+    """Follows subjects in the session, and wakes those who follow them."""
 
     def __init__(self, *words: Any) -> None:
         super().__init__(*words)
@@ -61,7 +61,9 @@ class Views(Dispatcher):
 
     @contextlib.contextmanager
     def following(self, path: str, side: int, wake: Callable[[], None]) -> Iterator[Followed]:
-        """Within it, the core keeps a side of a path good. `wake` is called if it shows that, or a read is refused."""
+        """Keeps a side of a path good in the core until the context ends. `wake` is called when it is good, or a read
+        is refused.
+        """
         followed = Followed(path, side, wake)
         self._wishes.append((self._follow, followed))
         try:
@@ -74,7 +76,7 @@ class Views(Dispatcher):
         self._subjects[ticket] = followed
         try:
             self._step(now, Session.follow, ticket, followed.path, followed.side)
-        except Exception as error:  # whatever it is, it is of this subject alone
+        except Exception as error:  # any error concerns only this subject
             self._subjects.pop(ticket, None)
             followed.refuse(error)
 
@@ -105,7 +107,7 @@ class Views(Dispatcher):
     # Trees.
 
     def add_tree(self, tree: TreeView) -> None:
-        """Has a tree be followed, from the next step on."""
+        """Follows a tree, from the next step on."""
         self._trees.append(tree)
 
     def remove_tree(self, tree: TreeView) -> None:
@@ -117,7 +119,7 @@ class Views(Dispatcher):
         return tree in self._trees
 
     def _grow_trees(self, now: int) -> None:
-        """Has trees be followed, and looked at, if a server has accepted the session."""
+        """Follows the trees, and looks at them, if a server has accepted the session."""
         if self.state is State.CONNECTED and self.is_running:
             for tree in list(self._trees):
                 if tree.ticket is None:
@@ -125,7 +127,7 @@ class Views(Dispatcher):
                 tree.look(now)
 
     def _plant(self, now: int, tree: TreeView) -> None:
-        """Has the core follow a tree. If there is no memory for that, it is tried again with the next step."""
+        """Follows a tree in the core. If there is no memory for that, the next step tries again."""
         tree.ticket = ticket = next(self._tickets)
         self._planted[ticket] = tree
         try:
@@ -151,7 +153,7 @@ class Views(Dispatcher):
         if tree is not None:
             tree.hear(news)
 
-    # What has ended, and what is kept.
+    # Reports, and holdings.
 
     def _report(self, report: Report) -> None:
         event = WatchedEvent(_EVENTS[report.event], self.state, report.path)
@@ -162,6 +164,6 @@ class Views(Dispatcher):
         self._wake(report.path)
 
     def holdings(self) -> tuple[dict[str, int], int]:
-        """How much is followed, by kind, and the bytes that are kept of it."""
+        """How much is followed, by kind, and the bytes that are kept for it."""
         subjects, trees = list(self._subjects.values()), list(self._trees)
         return holdings_of(self, subjects, [tree.latest for tree in trees])

@@ -1,4 +1,4 @@
-"""How threads wait: for an answer, for news, and for the end of another one; and the thread of a client that calls functions."""
+"""How threads wait: for an answer, for news, and for the end of another one; and the thread in which a client calls functions."""
 
 from __future__ import annotations
 
@@ -40,33 +40,33 @@ class News:
         self._lack.acquire(blocking=False)
 
     def wait(self, timeout: Optional[float]) -> bool:
-        """Waits until it is set, and clears it. Answers whether it was set in time."""
+        """Waits until it is set, and clears it. Returns whether it was set in time."""
         return self._lack.acquire(timeout=-1 if timeout is None else min(max(timeout, 0), threading.TIMEOUT_MAX))
 
 
 class Sleepers:
     """The threads whose answers have come in a step of a client. They go on at its end.
 
-    So what they do next meets all that the step had to tell, and functions that it calls in the thread of the callbacks are not held up.
+    So they meet all that the step had to report, and do not hold up the functions that it calls in the thread of the callbacks.
     """
 
     def __init__(self) -> None:
         self.waiters: collections.deque[Union[Waiter, Future]] = collections.deque()
         self.add = self.waiters.append
-        """Has a thread go on at the end of the step."""
+        """Wakes a thread at the end of the step."""
         self._spare: list[Union[Semaphore, News]] = []
         self.keep = self._spare.append
-        """Keeps what a thread has waited for, which is not set now, for another wait."""
+        """Keeps an event that a thread has waited for, and that is not set now, for another wait."""
 
     def news(self) -> Union[Semaphore, News]:
-        """What a thread is to wait for: one that was kept, or a new one."""
+        """The event for a wait: one that was kept, or a new one."""
         try:
             return self._spare.pop()
         except IndexError:
             return Semaphore() if has_system_threads() else News()
 
     def wake(self) -> None:
-        """Has them go on. Any thread may say so, and it does not matter if it is interrupted: none is forgotten before it goes on."""
+        """Wakes them. Any thread may call it, and it does not matter if that is interrupted: no waiter is forgotten before it goes on."""
         waiters = self.waiters
         while waiters:
             try:
@@ -91,7 +91,7 @@ class Waiter:
         return not self._is_given_up and self._answer is None
 
     def cancel(self) -> None:
-        """Waits no longer. What was not handed over yet is not sent."""
+        """Waits no longer. A request that was not handed over yet is not sent."""
         self._is_given_up = True
 
     def done(self) -> bool:
@@ -106,7 +106,7 @@ class Waiter:
         self._sleepers.add(self)
 
     def wake(self) -> None:
-        """Has the thread go on, which has its answer."""
+        """Wakes the thread, which has its answer."""
         self._is_awake = True
         self._news.set()
 
@@ -118,7 +118,7 @@ class Waiter:
             if left is not None and left <= 0:
                 raise TimeoutError
             was_set = news.wait(left)
-        if was_set:  # so it is not any more: one that `wake` has still to set ends the next wait too early, once
+        if was_set:  # so it is clear again: one that `wake` has still to set would end the next wait too early, once
             self._sleepers.keep(news)
         assert self._answer is not None
         result, error = self._answer
@@ -128,13 +128,16 @@ class Waiter:
 
 
 class Future(concurrent.futures.Future[Any]):
-    """What a call that ends in `_async` answers. `cancel` answers true only if the call is not handed over, and is not sent.
+    """The future that a call whose name ends in `_async` returns. Its `cancel` returns true only if the call is not handed over, and is
+    not sent.
 
     Its callbacks run where those of watches do, so that they may call the client.
     """
 
     def __init__(self, tell: Callable[[Callable[[Any], object], Any], bool], sleepers: Optional[Sleepers] = None) -> None:
-        """Whoever looks at it finds what has come. Whoever waits for it goes on by `sleepers`, at the end of the step."""
+        """Whoever looks at it finds the answer as soon as it has come. Whoever waits for it goes on by `sleepers`, at the end of the
+        step.
+        """
         super().__init__()
         self._tell, self._sleepers = tell, sleepers
         self._is_begun = False
@@ -160,7 +163,7 @@ class Future(concurrent.futures.Future[Any]):
             self._sleepers.add(self)
 
     def wake(self) -> None:
-        """Takes what has come, and has those go on that wait for it."""
+        """Takes the answer that has come, and wakes those who wait for it."""
         if self._came is not None and not super().done():
             result, error = self._came
             with contextlib.suppress(concurrent.futures.InvalidStateError):  # another thread was first
@@ -193,16 +196,16 @@ class Future(concurrent.futures.Future[Any]):
             if not self._tell(function, done):
                 function(done)
 
-        self._sleepers = None  # so that it is told in the order of what comes
+        self._sleepers = None  # so that the function is called in the order of events
         self.wake()
         super().add_done_callback(tell)
 
 
 def ends_within(thread: threading.Thread, longest: float) -> bool:
-    """Waits for the end of a thread, and answers whether it came in time. It does not wait for one that has not begun,
-    nor for the current one.
+    """Waits for the end of a thread, and returns whether it came in time. It does not wait for one that has not begun, nor for the
+    current one.
 
-    While a thread starts, it has an `ident` before it may be joined; it may be from the moment on at which it is alive.
+    While a thread starts, it has an `ident` before it may be joined; it may be joined once it is alive.
     """
     if thread is threading.current_thread():
         return True
@@ -210,14 +213,14 @@ def ends_within(thread: threading.Thread, longest: float) -> bool:
         if thread.is_alive():
             thread.join(longest)
         return not thread.is_alive()
-    except AssertionError:  # it has ended, and CPython 3.11 trips where two threads see that at one moment
+    except AssertionError:  # it has ended, and CPython 3.11 trips if two threads see that at one moment
         return True
 
 
 class Fate:
-    """Whether a thread runs, or was stopped before it began: it and whoever stops it may ask at one time.
+    """Whether a thread runs, or was stopped before it began: the thread and whoever stops it may ask at the same time.
 
-    Who asks first decides, and all later answers are the same.
+    The first one to ask decides, and all later answers are the same.
     """
 
     def __init__(self) -> None:
@@ -237,7 +240,7 @@ class Fate:
 
 
 class _Told:
-    """A function to be called, by the first one who takes it."""
+    """A function to call, by the first one who takes it."""
 
     __slots__ = "function", "argument", "_turns"
 
@@ -255,7 +258,7 @@ class _Told:
 class Callbacks(threading.Thread):
     """The thread that calls a program's functions, one after the other, so that these may use the client.
 
-    It is started with the first of them, by `soon`: in a thread that no signal interrupts.
+    It starts with the first of them, by `soon`: in a thread that no signal interrupts.
     """
 
     def __init__(self, soon: Callable[[Callable[[], object]], object]) -> None:
@@ -264,11 +267,11 @@ class Callbacks(threading.Thread):
         self._queue: queue.SimpleQueue[Optional[_Told]] = queue.SimpleQueue()
         self._fate = Fate()
         self._turns = [None]
-        """The turn to start it, which one of those takes who see that it has not begun: `Thread.start` is not for two threads at once."""
+        """The turn to start it, which one of those takes who see that it has not begun: two threads can't call `Thread.start` at once."""
         self._is_begun = self._has_ended = self._is_left = False
 
     def tell(self, function: Callable[[Any], object], argument: Any) -> bool:
-        """Has a function called, and answers whether it is: it is not if the thread has ended."""
+        """Calls a function in the thread, and returns whether it will: not if the thread has ended."""
         told = _Told(function, argument)
         self._queue.put(told)
         if not self._is_begun:
@@ -276,16 +279,16 @@ class Callbacks(threading.Thread):
         return not (self._has_ended and told.take())
 
     def end(self) -> None:
-        """Ends after what was told before. It waits for nothing."""
+        """Ends after the functions that it has got before. It waits for nothing."""
         if not self._is_begun:
-            self._has_ended = True  # before it looks what was told
+            self._has_ended = True  # before it looks into the queue
             if self._queue.empty():
                 return
             self._begin()
         self._queue.put(None)
 
     def _begin(self) -> None:
-        """Begins, if it has not, and nobody starts it. What was told stays if no thread can be started now."""
+        """Begins, if it has not, and nobody starts it. The functions stay in the queue if no thread can be started now."""
         if self._is_begun:
             return
         try:
@@ -304,12 +307,12 @@ class Callbacks(threading.Thread):
         self._is_begun = True
 
     def seal(self) -> None:
-        """Never begins, if it has not begun: what was told is called here."""
+        """Never begins, if it has not begun: the functions that it has got are called here."""
         if self._fate.never_begins():
             self._call_the_rest()
 
     def stop(self) -> None:
-        """Ends after what was told before, and waits for that, though not without bound."""
+        """Ends after the functions that it has got before, and waits for that, up to a bound."""
         self.end()
         if not self._is_left and not ends_within(self, LONGEST_CALLBACK):
             self._is_left = True
@@ -322,7 +325,7 @@ class Callbacks(threading.Thread):
             self._call_the_rest()
 
     def _call_the_rest(self) -> None:
-        """Nothing is told from now on. What was, up to now, is still called."""
+        """Takes no more functions. Those that it has got up to now are still called."""
         self._has_ended = True
         with contextlib.suppress(queue.Empty):
             while True:
@@ -335,5 +338,5 @@ class Callbacks(threading.Thread):
             return
         try:
             told.function(told.argument)
-        except BaseException:  # SystemExit too, which would end the callbacks alone, and no program
+        except BaseException:  # SystemExit too, which would end the callbacks, not the program
             logger.exception("a callback failed")

@@ -1,4 +1,4 @@
-"""Functions that are called with what is good, by kazoo's names. They are the same for both kinds of clients."""
+"""Functions that are called with good answers, by kazoo's names. They are the same for both kinds of clients."""
 
 from __future__ import annotations
 
@@ -60,7 +60,7 @@ class _Watch(Generic[Told]):
         return function
 
     def stop(self) -> None:
-        """Calls the function no more. It may be called again."""
+        """Stops calling the function. `stop` may be called again."""
         self._is_wanted = False
         if self._news is not None:
             self._news.set()
@@ -78,19 +78,17 @@ class _Watch(Generic[Told]):
 
 
 class DataWatch(_Watch[Kept]):
-    """Calls a function with a node's data and its `DataStat`, now and whenever they have changed: with None and None
-    where there is no node.
+    """Calls a function with a node's data and its `DataStat`, now and after each change: with None and None if there is no node.
 
-    It goes on through reconnects, new sessions and a client that is started again. What the function is called with was
-    looked up right before, and was good then: so it is never older than at an earlier call, and never what the client
-    was told to be different. A node that changes faster than it can be read is told when it comes to rest, or between
-    two changes; `follow` tells each answer that was good when it came.
+    It goes on through reconnects, new sessions and a client that is started again. Its arguments were looked up right before the call, and
+    were good then: so they are never older than at an earlier call, and no report to the client had ended them. A node that changes faster
+    than it can be read is shown when it comes to rest, or between two changes; `follow` yields each answer that was good when it came.
 
-    The first call is made before the watch is there, in the thread that makes it, as kazoo's is: if the client is started
-    and an answer comes within the timeout of the session. From then on, and always with asyncio, the function is called
-    where watches are, one after the other. It may call the client. With asyncio it may be a coroutine function. If it answers False, and after `stop`, it is called no more. What it raises is logged. If a
-    read is refused for another reason than the connection, the session and the load of a server, the watch ends, and the
-    log says why.
+    The first call comes before the watch is made, in the thread that makes it, as kazoo's does: if the client is started and an answer
+    comes within the timeout of the session. From then on, and always with asyncio, the function is called where watches are, one after the
+    other. It may call the client. With asyncio it may be a coroutine function. After it returns False, and after `stop`, it is not called
+    any more. Its exceptions are logged. If a read is refused for another reason than the connection, the session and the load of a server,
+    the watch ends, and the log says why.
 
         @client.DataWatch("/config")
         def changed(data, stat):
@@ -106,8 +104,7 @@ class DataWatch(_Watch[Kept]):
 
 
 class ChildrenWatch(_Watch[KeptChildren]):
-    """Calls a function with the list of the names of a node's children, now and whenever they have changed: with an
-    empty one if there is no node.
+    """Calls a function with the list of the names of a node's children, now and after each change: with an empty one if there is no node.
 
     All else is as for `DataWatch`.
 
