@@ -1,8 +1,8 @@
 """A client of Apache ZooKeeper that knows which of its answers are still good.
 
-`dirwolleu.Client` waits for its answers, and `dirwolleu.aio.Client` is for asyncio. Both use the proved machine of the
-Dirwolleu library, which keeps what was read with a watch, and tells whether it is good or stale. Good: ZooKeeper held
-this at this zxid, and nothing that the client was told has ended it.
+`dirwolleu.Client` waits for its answers, and `dirwolleu.aio.Client` is for asyncio. Both use the proved machine of the Dirwolleu library,
+which keeps the answers to reads with a watch, and marks each of them good or stale. Good: ZooKeeper held this at this zxid, and no report
+to the client has ended it.
 """
 
 import logging
@@ -57,11 +57,12 @@ __all__ = [
 
 __version__ = _version_text(_VERSION)
 
-logging.getLogger("dirwolleu.connection").addHandler(logging.NullHandler())  # what callbacks raise is seen all the same
+logging.getLogger("dirwolleu.connection").addHandler(logging.NullHandler())  # exceptions of callbacks are logged all the same
 
 
 def __getattr__(name: str) -> Any:
-    """Imports `dirwolleu.aio` and `dirwolleu.testing` at their first use, since asyncio takes longer to load than all else of the package."""
+    """Imports `dirwolleu.aio` and `dirwolleu.testing` at their first use, since asyncio takes longer to load than the rest of the package.
+    """
     if name not in ("aio", "testing"):
         raise AttributeError(f"module {__name__!r} has no attribute {name!r}")
     import importlib

@@ -21,8 +21,8 @@ from dirwolleu.shell.words import COMMANDS, PROGRAM, general_help, help_of, read
 Write = Callable[[Union[str, bytes]], None]
 
 LONGEST_TIMEOUT = 10.0
-"""The longest timeout of a session that asks for one node, in seconds. It is no longer than the command waits: so a server that is
-silent is left while there is time for another one."""
+"""The longest session timeout of a command that makes calls, in seconds. It is at most as long as the command waits, so that a
+silent server is left while there is time for another one."""
 
 READS = ("get", "ls", "stat", "tree", "getacl", "sync")
 """The commands that change nothing."""
@@ -54,7 +54,7 @@ OWN_SERVERS = {"serve": _serve, "demo": _demo}
 
 
 def _settings(chosen: argparse.Namespace) -> dict[str, Any]:
-    """The credentials, and the context of TLS. Raises `Ending` if a file can't be read, or is not what it is to be."""
+    """The credentials, and the TLS context. Raises `Ending` if a file can't be read, or has the wrong content."""
     from dirwolleu.tls import tls_context
 
     auth = [(scheme, text) for scheme, _, text in (one.partition(":") for one in chosen.auth)]
@@ -84,7 +84,7 @@ def _watch(chosen: argparse.Namespace, write: Write) -> None:
 
 
 def _ending_of(error: Union[ZookeeperError, TimeoutError], chosen: argparse.Namespace, attempts: Attempts) -> Ending:
-    """How a command ends whose start, or whose call, has met this."""
+    """How a command ends after this error of its start or of its call."""
     is_read = chosen.command in READS
     if attempts.is_expired and isinstance(error, (TimeoutError, ConnectionClosedError)):
         return faults.expired(chosen.path)
@@ -95,7 +95,7 @@ def _ending_of(error: Union[ZookeeperError, TimeoutError], chosen: argparse.Name
 
 
 def _ask(chosen: argparse.Namespace, write: Write) -> None:
-    """Makes the calls of a command in a session of its own, and prints when all are answered."""
+    """Makes a command's calls in a session of its own, and prints once all are answered."""
     from dirwolleu.client import Client
     from dirwolleu.shell.commands import RUNS, Asking
 
@@ -141,7 +141,7 @@ def _run(chosen: argparse.Namespace) -> None:
 
 
 def _write_no_more() -> None:
-    """Has what the interpreter still has to write at its end go nowhere: else that ends it with a status of its own."""
+    """Sends the interpreter's last output nowhere: if it failed, the interpreter would end with a status of its own."""
     os.dup2(os.open(os.devnull, os.O_WRONLY), 1)
 
 
@@ -151,7 +151,7 @@ def _no_command() -> Ending:
 
 
 def _read_option(first: str) -> str:
-    """What is printed for an option that stands before a command: of letters after one dash, the first counts."""
+    """The text for an option before a command. Of letters after one dash, the first counts."""
     name, equals, value = first.partition("=")
     if name in ("--help", "--version") and equals:
         raise faults.refused(f"unexpected value '{value}' for '{name}' found; no more were expected")
@@ -163,7 +163,7 @@ def _read_option(first: str) -> str:
 
 
 def _read_after_dashes(words: Sequence[str]) -> Ending:
-    """Why no words are taken that follow two dashes."""
+    """Why words after two dashes are refused."""
     if not words:
         return _no_command()
     is_command = words[0] in COMMANDS or words[0] == "help"
@@ -171,7 +171,7 @@ def _read_after_dashes(words: Sequence[str]) -> Ending:
 
 
 def _help(words: Sequence[str]) -> str:
-    """The help that is asked for by the words after `help`."""
+    """The help that the words after `help` ask for."""
     unknown = words if words and words[0] not in (*COMMANDS, "help") else words[1:]
     if unknown:
         raise faults.refused(f"unrecognized subcommand '{unknown[0]}'")
@@ -179,7 +179,7 @@ def _help(words: Sequence[str]) -> str:
 
 
 def _read(words: Sequence[str]) -> Optional[argparse.Namespace]:
-    """What the words ask for, or None if that is help or the version, which is printed."""
+    """What the words ask for, or None after printing the help or the version."""
     if not words:
         raise _no_command()
     for number, one in enumerate(words, 1):
@@ -203,7 +203,7 @@ def _read(words: Sequence[str]) -> Optional[argparse.Namespace]:
 
 
 def main(words: Optional[Sequence[str]] = None) -> int:
-    """Does what the words say, and answers the exit status."""
+    """Does what the words say, and returns the exit status."""
     try:
         chosen = _read(sys.argv[1:] if words is None else words)
         if chosen is not None:

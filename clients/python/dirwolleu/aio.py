@@ -47,7 +47,7 @@ LONGEST_FAREWELL = 2.0
 
 
 class _Waiter(asyncio.Future[Any]):
-    """A future of the event loop, which also sends."""
+    """A future of the event loop that is a waiter too."""
 
     def begin(self) -> bool:
         return not self.done()
@@ -68,7 +68,7 @@ def _waits(
 def _sends(
     call: Callable[Concatenate[Client, Given], Wanted[Result]]
 ) -> Callable[Concatenate[Client, Given], asyncio.Future[Result]]:
-    """A function of a client that makes a call at once and answers a future. One request needs no task."""
+    """A function of a client that makes a call at once and returns a future. One request needs no task."""
 
     def sends(client: Client, /, *given: Given.args, **named: Given.kwargs) -> asyncio.Future[Result]:
         wanted, timeout = call(client, *given, **named)
@@ -115,7 +115,7 @@ class Client(Shown):
         `AuthFailedError`, and stops, if the server refuses credentials.
         """
         if not self._engine.is_running:
-            await self.stop()  # where the session has ended by itself, its driver is there still
+            await self.stop()  # if the session has ended by itself, its driver is there still
         self._engine.begin()
         if self._driver is None:
             self._driver = Driver(self._servers, self._engine, self._tls, self._sasl)
@@ -243,11 +243,11 @@ class Client(Shown):
         return self._drive(steps_of.by_policy(request, self._retry, steps_of.until_of(timeout)))
 
     async def _run(self, plan: Plan[Result], timeout: Optional[float] = None) -> Result:
-        """Asks the requests of a plan, one after the other, within a number of seconds in all."""
+        """Makes the requests of a plan, one after the other, within a number of seconds in all."""
         return await self._drive(steps_of.run(plan, self._retry, steps_of.until_of(timeout)))
 
     async def _drive(self, steps: Steps[Result], news: Optional[asyncio.Event] = None) -> Result:
-        """Does steps, one after the other. The steps handle the errors and cancellations that they raise."""
+        """Makes steps, one after the other. The steps handle the errors and cancellations that they raise."""
         news = news or asyncio.Event()
         try:
             step = next(steps)
@@ -273,8 +273,8 @@ class Client(Shown):
         return await (self._send(step.request, step.timeout) if isinstance(step, Ask) else self._send(step))
 
     async def _wait(self, news: asyncio.Event, seconds: Optional[float]) -> None:
-        """Waits for news, for at most this many seconds. `asyncio.wait_for` of Python 3.11 and before ends no wait whose news and cancellation
-        come in one turn of the loop: it forgets the cancellation.
+        """Waits for news, for at most this many seconds. `asyncio.wait_for` of Python 3.11 and before forgets a cancellation that comes in
+        one turn of the loop with the news, and so does not end the wait.
         """
         timer = None if seconds is None else asyncio.get_running_loop().call_later(seconds, news.set)
         try:
@@ -300,7 +300,7 @@ class Client(Shown):
     def _begin(
         self, begin: Callable[[AnyNews], Steps[Any]], end: Callable[[Any, Optional[BaseException]], object]
     ) -> None:
-        """Lets a task of the event loop do steps, from the start of the client on."""
+        """Lets a task of the event loop make steps, from the start of the client on."""
 
         async def run() -> None:
             news = asyncio.Event()

@@ -66,7 +66,7 @@ def _waits(call: Callable[Concatenate[Client, Given], Wanted[Result]]) -> Callab
 def _sends(
     call: Callable[Concatenate[Client, Given], Wanted[Result]]
 ) -> Callable[Concatenate[Client, Given], concurrent.futures.Future[Result]]:
-    """A function of a client that makes a call and answers a future."""
+    """A function of a client that makes a call and returns a future."""
 
     def sends(client: Client, /, *given: Given.args, **named: Given.kwargs) -> concurrent.futures.Future[Result]:
         wanted, timeout = call(client, *given, **named)
@@ -98,7 +98,7 @@ class Client(Shown):
 
     A call waits for a server and its answer for at most its own `timeout` in seconds, all tries together, or else the session's
     timeout. If its connection is lost, a read is asked again and a write is not. When the call returns or raises, the
-    client has taken in all that came with the answer and told its functions of it: `state` and the next call see that.
+    client has taken in all that came with the answer and queued the calls of its functions: `state` and the next call see that.
 
     Every call may raise:
 
@@ -132,10 +132,10 @@ class Client(Shown):
     """
 
     def _prepare(self) -> None:
-        """Makes what holds the threads. A dict's functions are single steps of the interpreter: no lock is taken."""
+        """Makes the fields that hold the threads. A dict's functions are single steps of the interpreter: no lock is taken."""
         self._sleepers = Sleepers()
         self._running: dict[str, Optional[Threads]] = {}
-        """The threads that were started last, and None once it is closed. Later ones are in `later` of those."""
+        """The threads that were started last, and None once the client is closed. Later ones are in `later` of those."""
         self._past: Optional[Threads] = None
         """Threads that are over, and may still call a function."""
 
@@ -171,7 +171,7 @@ class Client(Shown):
             is_connected = threads is not None and self._wait(functools.partial(self._is_connected, threads), until)
             trouble = self._engine.no_server(timeout)  # before the attempt that is under way is given up
         except AuthFailedError:
-            self._stop(threads)  # they end by themselves, and that is waited for
+            self._stop(threads)  # they end by themselves, and this waits for that
             raise
         finally:
             threads = threads or self._threads()
@@ -319,16 +319,16 @@ class Client(Shown):
         return result
 
     def _run(self, plan: Plan[Result], timeout: Optional[float] = None) -> Result:
-        """Asks the requests of a plan, one after the other, within a number of seconds in all."""
+        """Makes the requests of a plan, one after the other, within a number of seconds in all."""
         return self._drive(steps_of.run(plan, self._retry, steps_of.until_of(timeout)))
 
     def _drive(self, steps: Steps[Result], news: Optional[News] = None) -> Result:
-        """Does steps in this thread, one after the other. The steps handle the errors and interrupts that they raise."""
+        """Makes steps in this thread, one after the other. The steps handle the errors and interrupts that they raise."""
         self._check_process()
         try:
             return steps_of.drive(steps, functools.partial(self._do, news or News()))
         except KeyboardInterrupt as interrupt:
-            raise interrupt.with_traceback(None)  # where within a wait it came says nothing
+            raise interrupt.with_traceback(None)  # the place within a wait says nothing
         finally:
             ending.rest()
 
@@ -344,7 +344,7 @@ class Client(Shown):
     ) -> Result:
         waiter = Waiter(self._sleepers)
         try:
-            self._engine.ask(moment(), request, waiter, timeout)  # it also looks which process this is
+            self._engine.ask(moment(), request, waiter, timeout)  # it also checks the process
             self._act()
             result: Result = waiter.result(patience)
             return result
@@ -382,7 +382,7 @@ class Client(Shown):
     def _begin(
         self, begin: Callable[[AnyNews], Steps[Any]], end: Callable[[Any, Optional[BaseException]], object]
     ) -> None:
-        """Lets the thread of the callbacks do steps, from the start of the client on."""
+        """Lets the thread of the callbacks make steps, from the start of the client on."""
         self._engine.check_process()
         tasks = self._tasks
 
@@ -396,7 +396,7 @@ class Client(Shown):
             task.start()
 
     def _begin_plan(self, plan: Plan[Any], timeout: Optional[float] = None) -> Future:
-        """Lets the thread of the callbacks ask the requests of a plan."""
+        """Lets the thread of the callbacks make the requests of a plan."""
         self._check_process()
         future = Future(self._tell)
         future.begin()

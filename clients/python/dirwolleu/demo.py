@@ -1,6 +1,6 @@
-"""`python3 -m dirwolleu demo`: clients live through a history that a seed chooses, and tell what they know. `run` is the command.
+"""`python3 -m dirwolleu demo`: clients live through a history that a seed chooses, and show what they know. `run` is the command.
 
-All that others change is noted with its zxid. Each answer is compared with that.
+Each change by others is noted with its zxid. Each answer is compared with these.
 """
 
 from __future__ import annotations
@@ -26,7 +26,7 @@ VALUES = "amber azure coral ivory jade lilac olive pearl ruby sand teal umber".s
 NAMES = "ada bob cleo dan eve fay gus hal ida jon kim lou".split()
 CONFIG, FLEET, JOB = "/config", "/fleet", "/job"
 PACE = 1.2
-"""How many seconds a line stands before the next one, at a pace to read along."""
+"""How many seconds pass after each line, at a pace to read along."""
 TIMEOUT = 30.0
 """The timeout of a session, in seconds: long, so that no busy machine ends a connection."""
 WAIT = 60.0
@@ -55,7 +55,7 @@ class History:
         self._changes: list[tuple[int, str, Optional[bytes]]] = []
 
     def note(self, zxid: int, path: str, data: Optional[bytes]) -> None:
-        """A node has these data from this zxid on, or is not there."""
+        """A node has these data from this zxid on, or is gone."""
         self._changes.append((zxid, path, data))
 
     def nodes(self, zxid: int) -> dict[str, bytes]:
@@ -65,7 +65,7 @@ class History:
 
 
 class Stage:
-    """Where the history happens: the server, what others do there, and the lines that are told."""
+    """The place of the history: the server, the changes of others there, and the lines that are printed."""
 
     def __init__(self, server: Server, source: random.Random, write: Write, pause: float) -> None:
         self.server, self.source = server, source
@@ -94,7 +94,7 @@ class Stage:
         return self.source.choice([one for one in VALUES if one.encode() != other_than]).encode()
 
     def set(self, path: str, data: bytes) -> int:
-        """Others make a node or write it. Answers the zxid of that."""
+        """Others make a node or write it. Returns the zxid of that."""
         is_there = path in self._history.nodes(self.server.zxid)
         zxid = self.server.set(path, data) if is_there else self.server.create(path, data)
         self._history.note(zxid, path, data)
@@ -108,7 +108,7 @@ class Stage:
         return zxid
 
     def compare(self, zxid: int, paths: str, known: dict[str, bytes]) -> None:
-        """Raises `AssertionError` if this is not what was held at and below this path, at this zxid."""
+        """Raises `AssertionError` if the servers did not hold this at and below this path, at this zxid."""
         held = {path: data for path, data in self._history.nodes(zxid).items() if f"{path}/".startswith(f"{paths}/")}
         if known != held:
             raise AssertionError(f"at zxid {zxid} the client knew {known}, and ZooKeeper held {held}")
@@ -130,24 +130,24 @@ class Follower:
         self._snapshots = stack.enter_context(self.client.tree(FLEET)).snapshots()
 
     def tell(self, kept: Kept, remark: str = "") -> Kept:
-        """Tells what the client knew of the node."""
+        """Prints what the client knew of the node."""
         self.stage.compare(kept.last_zxid, CONFIG, {CONFIG: kept.data or b""} if kept.exists else {})
         what = f"{CONFIG} is {quoted(kept.data)}" if kept.exists else f"there is no {CONFIG}"
         self.stage.client(kept.last_zxid, f"{what}{remark}")
         return kept
 
     def node(self, zxid: int) -> Kept:
-        """Tells what the client knew of the node, as soon as that is of this zxid or of a later one."""
+        """Prints what the client knew of the node, as soon as that has this zxid or a later one."""
         return self.tell(next(kept for kept in self._answers if kept.last_zxid >= zxid))
 
     def known(self, remark: str = "") -> Kept:
-        """Tells what the client knows of the node now, without a request."""
+        """Prints what the client knows of the node now, without a request."""
         kept = self.client.kept(CONFIG)
         assert kept is not None and kept.mark is Mark.GOOD
         return self.tell(kept, remark)
 
     def tree(self, zxid: int) -> TreeSnapshot:
-        """Tells what the client knew of the tree, as soon as that is of this zxid or of a later one."""
+        """Prints what the client knew of the tree, as soon as that has this zxid or a later one."""
         snapshot = next(one for one in self._snapshots if one.zxid >= zxid)
         self.stage.compare(snapshot.zxid, FLEET, {path: node.data or b"" for path, node in snapshot.items()})
         change = snapshot.changed_since(self._before)
@@ -186,7 +186,7 @@ def show_mark(stage: Stage, follower: Follower) -> None:
 
 
 def change_fleet(stage: Stage, names: list[str]) -> int:
-    """Others change nodes of the tree, of which some have these names. Answers the last zxid."""
+    """Others change nodes of the tree, some of which have these names. Returns the last zxid."""
     zxid = 0
     for name in stage.source.sample(NAMES, stage.source.randint(2, 3)):
         path = f"{FLEET}/{name}"
@@ -296,7 +296,7 @@ def show_lock(stage: Stage) -> None:
 
 
 def run(seed: Optional[int], is_slow: bool, write: Write) -> None:
-    """Shows a history. Raises `AssertionError` if a client knew what was not so."""
+    """Shows a history. Raises `AssertionError` if a client was wrong."""
     seed = random.SystemRandom().randrange(1000) if seed is None else seed
     with Server() as server:
         write(HEAD.format(hosts=server.hosts, seed=seed))

@@ -1,4 +1,4 @@
-"""What a call can raise. The names are kazoo's where kazoo has one."""
+"""The errors of calls. The names are kazoo's, if kazoo has one."""
 
 from __future__ import annotations
 
@@ -36,10 +36,10 @@ _OPEN = "it may or may not have happened: read again"
 
 
 class ZookeeperError(Exception):
-    """What all errors of calls are.
+    """The base of all errors of calls.
 
-    Its text is the reason, the path, and what to do if the reason does not say it: `no node: /nope`. `code` is
-    ZooKeeper's number of the error, below 0, and None if ZooKeeper has none.
+    Its text is the reason, the path, and what to do if the reason does not say it: `no node: /nope`. `code` is ZooKeeper's number of the
+    error, below 0, and None if ZooKeeper has none.
     """
 
     code: Optional[int] = None
@@ -47,10 +47,10 @@ class ZookeeperError(Exception):
     """The node that the call is about; of a create that its parent prevents, the parent. None if there is none."""
 
     may_have_happened: bool = False
-    """Whether a change that was asked for may have happened, or may still: to ask again might do it twice."""
+    """Whether a change that was asked for may have happened, or may still: asking again might do it twice."""
 
     is_answer: bool = False
-    """Whether a server answered the call with this code, if the client itself may find so too, as that the session has expired."""
+    """Whether a server answered the call with this code, if the client itself may raise it too, as when the session has expired."""
 
     entry: Optional[bytes] = None
     """Of `Queue.get`, if an entry may have been taken out: its data."""
@@ -58,7 +58,7 @@ class ZookeeperError(Exception):
     _reason, _advice = "the call has failed", ""
 
     def __str__(self) -> str:
-        """The arguments are the reason and the advice, of which each may be left out."""
+        """The arguments are the reason and the advice. Each may be left out."""
         reason, advice = self._reason, self._advice
         if self.args:
             reason, advice = self.args[0], _OPEN if self.may_have_happened else ""
@@ -89,8 +89,8 @@ class NotConnectedError(ConnectionLoss):
 
 
 class CallTimeoutError(ZookeeperError, TimeoutError):
-    """No answer came in time: within the `timeout` of the call, or that of the session. Where `may_have_happened` is true, it may
-    still happen.
+    """No answer came in time: within the `timeout` of the call, or that of the session. If `may_have_happened` is true, it may still
+    happen.
     """
 
     _reason = "no answer has come in time"
@@ -173,7 +173,7 @@ class InvalidACLError(ZookeeperError):
 
 
 class LockLostError(ZookeeperError):
-    """It is not shown any more that a lock is held."""
+    """A lock is no longer shown to be held."""
 
 
 class LockTimeout(ZookeeperError, TimeoutError):
@@ -181,8 +181,8 @@ class LockTimeout(ZookeeperError, TimeoutError):
 
 
 class MixedNamesError(ZookeeperError):
-    """Others contend for a lock by other names, beside which this contender can't stand: kazoo's beside Curator's. `path` is
-    that of the lock. No contender of its own is left.
+    """Others contend for a lock by names that this contender's can't be mixed with: kazoo's with Curator's. `path` is that of the lock. No
+    contender of its own is left.
     """
 
     _reason = "contenders by another kind of names are there"
@@ -219,7 +219,7 @@ class TransactionFailedError(ZookeeperError):
         self.index = index
         """Which operation was refused, from 0 on."""
         self.error = error
-        """Why it was."""
+        """Why it was refused."""
         if error is not None:
             self.code, self.path = error.code, error.path
 

@@ -1,9 +1,9 @@
-"""What a client does, as numbers: what `observe` tells of, and a page of it for Prometheus.
+"""A client's activity in numbers: the events that `observe` reports, and a page of them for Prometheus.
 
     metrics = Metrics(client)
     page = metrics.text()
 
-The names of the series are one in C, Rust and Python.
+The series have the same names in C, Rust and Python.
 """
 
 from __future__ import annotations
@@ -23,8 +23,8 @@ class ConnectionEvent(NamedTuple):
     """Something has happened to a connection, or to the session."""
 
     kind: str
-    """`connected`: a server has accepted the session. `failed`: an attempt, of which no connection came. `over`: of a connection. `expired`: the
-    session has."""
+    """`connected`: a server has accepted the session. `failed`: an attempt to connect has failed. `over`: a connection has ended.
+    `expired`: the session has expired."""
     reason: str
     """Of `over`: `ended` by the server or the network, `silent`, `unreadable`, `server_behind`, `watches_refused`, `expired`, `closed`,
     `credentials_refused` or `dropped`."""
@@ -35,7 +35,7 @@ class ConnectionEvent(NamedTuple):
 
 
 class CallEvent(NamedTuple):
-    """A call was answered, or will not be. One that nobody waits for any more is not told of."""
+    """A call was answered, or will not be. One that nobody waits for any more is not reported."""
 
     kind: str
     """`exists`, `get`, `children`, `set`, `create`, `delete`, `transaction`, `sync`, `acl`, `close` or `other`."""
@@ -44,11 +44,11 @@ class CallEvent(NamedTuple):
     """`ok`, `refused` by the server, `lost`, `expired`, `closed`, `not_connected`, `late`, or `not_asked`: refused before it was sent, or its
     answer is too long."""
     code: int
-    """ZooKeeper's number of what the server has answered, 0 if it has not or all was well."""
+    """ZooKeeper's number of the server's error, 0 if it has not answered or all was well."""
     zxid: int
     """The greatest zxid that was seen by then."""
     seconds: float
-    """How long it took, from the asking on."""
+    """How long it took, from the request on."""
 
 
 class Transfer(NamedTuple):
@@ -62,7 +62,7 @@ class Transfer(NamedTuple):
 Observation = Union[ConnectionEvent, CallEvent, Transfer]
 
 BOUNDS = (0.001, 0.002, 0.005, 0.01, 0.02, 0.05, 0.1, 0.2, 0.5, 1, 2, 5, 10)
-"""Up to which seconds calls are counted together."""
+"""The bounds, in seconds, up to which calls are counted together."""
 
 
 class _Histogram:
@@ -87,7 +87,7 @@ class Metrics:
         client.observe(self._take)
 
     def _take(self, told: Observation) -> None:
-        """In the client's own thread. No lock is taken: the others only look."""
+        """Runs in the client's own thread. No lock is taken: the others only look."""
         if isinstance(told, Transfer):
             self._bytes[told.direction] += told.size
         elif isinstance(told, CallEvent):

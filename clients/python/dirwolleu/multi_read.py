@@ -17,7 +17,8 @@ from dirwolleu.types import Stat
 __all__ = ["Read", "ReadOutcome"]
 
 ReadOutcome = Union[tuple[Optional[bytes], Stat], list[str], ZookeeperError]
-"""What a read of `multi_read` brings: a node's data and its Stat, or the names of its children, or the error of this read alone."""
+"""The result of a read of `multi_read`: a node's data and its Stat, or the names of its children, or the error of this read
+alone."""
 
 _GET_DATA, _GET_CHILDREN = 4, 8
 
@@ -30,12 +31,12 @@ class Read(NamedTuple):
 
     @classmethod
     def data(cls, path: str) -> Read:
-        """Of a node's data and its Stat."""
+        """A read of a node's data and its Stat."""
         return cls(_GET_DATA, checked_path(path))
 
     @classmethod
     def children(cls, path: str) -> Read:
-        """Of the names of a node's children."""
+        """A read of the names of a node's children."""
         return cls(_GET_CHILDREN, checked_path(path))
 
     def _outcome(self, reader: Reader) -> ReadOutcome:
@@ -50,7 +51,7 @@ class Read(NamedTuple):
 
 
 def multi_read(reads: Iterable[Read]) -> RawRequest[list[ReadOutcome]]:
-    """All of them, as one request. Raises `TypeError` if one is no `Read`."""
+    """All reads, as one request. Raises `TypeError` if one is no `Read`."""
     asked = list(reads)
     for one in asked:
         if not isinstance(one, Read):

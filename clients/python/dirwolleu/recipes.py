@@ -46,7 +46,7 @@ Returned = TypeVar("Returned")
 
 
 def _does(call: Callable[Concatenate[Any, Given], Steps[Result]]) -> Callable[Concatenate[Any, Given], Result]:
-    """What does the steps of a recipe, and waits for their end."""
+    """A function that makes the steps of a recipe, and waits for their end."""
 
     def does(recipe: Any, /, *given: Given.args, **named: Given.kwargs) -> Result:
         result: Result = recipe._client._drive(call(recipe, *given, **named))
@@ -73,17 +73,16 @@ class Held(BaseHeld[Client], AbstractContextManager["Held"]):
 
 
 class _Taker(BaseTaker[Client, Held]):
-    """What is taken, and given back at the end of a `with` block."""
+    """A lock or a semaphore, which is released at the end of a `with` block."""
 
     def acquire(self, timeout: Optional[float] = None) -> Held:
-        """Waits until the lock is held. It is not reentrant: who holds it and takes it again waits for itself.
+        """Waits until the lock is held. It is not reentrant: a holder that takes it again waits for itself.
 
-        Raises `LockTimeout` after `timeout` seconds, and leaves no contender then; a timeout of 0 tries once. It waits until no
-        contender is left, for twice the timeout of the session at most, as when there is no connection; after that the core goes on to
-        delete it. Lost connections, expired sessions and calls without an answer are lived through: no `CallTimeoutError` is
-        raised. Raises `MixedNamesError` if others contend by other names; `ConnectionClosedError` when the client is stopped;
-        another `ZookeeperError` if a server refuses to make or to show the nodes, and one that says so when their numbers at
-        the path are used up.
+        Raises `LockTimeout` after `timeout` seconds, and leaves no contender then; a timeout of 0 tries once. It waits until no contender
+        is left, for twice the timeout of the session at most, as when there is no connection; after that the core goes on to delete it. The
+        wait survives lost connections, expired sessions and calls without an answer: it raises no `CallTimeoutError`. Raises
+        `MixedNamesError` if others contend by other names; `ConnectionClosedError` when the client is stopped; another `ZookeeperError` if
+        a server refuses to make or to show the nodes, and one that says so when their numbers at the path are used up.
         """
         return self._client._drive(self._taking(timeout))
 
@@ -100,29 +99,26 @@ class _Taker(BaseTaker[Client, Held]):
 
 
 class Lock(_Taker, BaseLock[Client, Held]):
-    """An exclusive lock: one of those that take it at a path holds it at a time, at each zxid. All contenders of a path use one
-    kind of `names`: kazoo's or Curator's.
+    """An exclusive lock: at each zxid, one contender at a path holds it at most. All contenders of a path use one kind of `names`: kazoo's
+    or Curator's.
 
-    The contenders are ephemeral nodes below the path, in the order of their numbers. The proved core contends: it makes the
-    node, finds it again if an answer was lost, watches it and the last one before it, and deletes it when the lock is
-    released or a wait ends. It says whether the node holds, and by which token: no other one was before it in a listing
-    that was answered after it was made, and it is there, at the last seen zxid. After an expiry a wait goes on by another
-    node. What is proved is so if all contenders at the path are made as these are, and by fewer than 2,147,483,648
-    creates; what is here, which waits for what the core tells, is tested.
+    The contenders are ephemeral nodes below the path, in the order of their numbers. The proved core contends: it makes the node, finds it
+    again if an answer was lost, watches it and the last one before it, and deletes it when the lock is released or a wait ends. It says
+    whether the node holds, and by which token: no other one was before it in a listing that was answered after it was made, and it is
+    there, at the last seen zxid. After an expiry a wait goes on by another node. The proof holds if all contenders at the path are made as
+    these are, and by fewer than 2,147,483,648 creates; the code here, which waits for the core's reports, is tested.
 
-    With `names="kazoo"` kazoo's `Lock`, and those of Dirwolleu in C and Rust by these names, are in the same line; with
-    `names="curator"` Curator's `InterProcessMutex` is. kazoo and Curator do not see each other's contenders: `acquire`
-    raises `MixedNamesError` if the core finds one of other names before this one holds.
+    With `names="kazoo"` kazoo's `Lock`, and those of Dirwolleu in C and Rust by these names, are in the same line; with `names="curator"`
+    Curator's `InterProcessMutex` is. kazoo and Curator do not see each other's contenders: `acquire` raises `MixedNamesError` if the core
+    finds one of other names before this one holds.
 
-    The node, and those at the path and above it that are made, have this `acl`, a list of `security.ACL`; without one they are open
-    to all.
+    The node, and those at the path and above it that are made, have this `acl`, a list of `security.ACL`; without one they are open to all.
 
-    A program that was paused, or whose packets are late, can still believe that it holds when another one does. So work
-    in small steps, `check` before each, and hand the `token` on. `on_lost` is called once, in the thread of the
-    callbacks, when the lock is lost: with the connection, the session or the node. With `keeps_while_suspended` a lost
-    connection alone does not end it, as long as the session goes on: it is held as of the last seen zxid, and `check(within)`
-    says when that is too long ago. What was lost once stays lost: release it. If the node is gone, or its data were set, the
-    core does not take it again, and another one may hold.
+    A program that was paused, or whose packets are late, can still believe that it holds when another one does. So work in small steps,
+    `check` before each, and pass the `token` along. `on_lost` is called once, in the thread of the callbacks, when the lock is lost: with
+    the connection, the session or the node. With `keeps_while_suspended` a lost connection alone does not end it, as long as the session
+    goes on: it is held as of the last seen zxid, and `check(within)` says when that is too long ago. A lock that was lost once stays lost:
+    release it. If the node is gone, or its data were set, the core does not take it again, and another one may hold.
 
         lock = dirwolleu.Lock(client, "/locks/job", identifier="host-1")
         with lock as held:
@@ -150,9 +146,9 @@ class WriteLock(Lock):
 class ReadLock(Lock):
     """The shared side of a lock: any number hold it at a time, while no `WriteLock` and no `Lock` at the path does.
 
-    It waits for those alone that came before it and do not share. With `names="kazoo"` it shares with kazoo's `ReadLock`,
-    and with `names="curator"` with the `readLock` of Curator's `InterProcessReadWriteLock`. Those that hold it together
-    have tokens in no order that says anything; a `WriteLock` that comes after them has a greater one.
+    It waits only for those that came before it and do not share. With `names="kazoo"` it shares with kazoo's `ReadLock`, and with
+    `names="curator"` with the `readLock` of Curator's `InterProcessReadWriteLock`. The tokens of those that hold it together have no order
+    that says anything; a `WriteLock` that comes after them has a greater one.
 
         with dirwolleu.ReadLock(client, "/locks/table") as held:
             held.check()
@@ -170,7 +166,7 @@ class Semaphore(_Taker, BaseSemaphore[Client, Held]):
     which count other nodes, have one above it: `acquire` raises `MixedNamesError` there, and at the nodes of Curator's
     `InterProcessSemaphoreV2`; and kazoo's raises `ValueError` here. That number is read and compared here, and is not proved.
 
-    What is said of `acquire`, `check`, `acl`, `on_lost` and `keeps_while_suspended` at `Lock` holds here too; `acquire` raises
+    `acquire`, `check`, `acl`, `on_lost` and `keeps_while_suspended` are as for `Lock`; besides, `acquire` raises
     `ValueError` if the node says that there are more leases or fewer. The token of a lease is the zxid at which it was made; it is
     of no use to fence, since others hold beside it.
 
@@ -209,29 +205,28 @@ class Election:
         )
 
     def run(self, lead: Callable[[Held], Returned]) -> Returned:
-        """Waits until this candidate leads, calls a function with the lock that it holds, and answers what that does. Before that
-        it raises what `Lock.acquire` raises.
+        """Waits until this candidate leads, calls a function with the lock that it holds, and returns its result. Before that it raises
+        what `Lock.acquire` raises.
 
-        Leadership ends with the function. It is for the function to `check`, and to return if the lock is lost.
+        Leadership ends with the function. The function has to `check`, and to return if the lock is lost.
         """
         with self._lock as held:
             return lead(held)
 
     def contenders(self) -> list[str]:
-        """The identifiers of the candidates, that of the leader first."""
+        """The identifiers of the candidates, the leader's first."""
         return self._lock.contenders()
 
     def leader(self) -> Optional[str]:
-        """The identifier of the one that leads, or None if nobody stands. Whoever asks need not stand: it is a look at the nodes of a moment."""
+        """The identifier of the leader, or None if there is no candidate. The caller need not be one: it shows the nodes of a moment."""
         return next(iter(self._lock.contenders(1)), None)
 
 
 class Registration(BaseRegistration[Client], AbstractContextManager["Registration"]):
     """An ephemeral node that is made again in each new session, until it is withdrawn.
 
-    A node of an earlier session of this program is waited for until it is gone. Where somebody deletes the node, it is
-    made again, and if somebody sets other data, these are set again. The thread of the callbacks sees to it, and is
-    not held up by it.
+    It waits until a node of an earlier session of this program is gone. If somebody deletes the node, it makes the node again, and if
+    somebody sets other data, it sets its own again. The thread of the callbacks does that, and is not held up by it.
 
         with dirwolleu.Registration(client, "/workers/host-1", b"10.0.0.1:80") as registration:
             registration.wait(10.0)
@@ -248,7 +243,7 @@ class Registration(BaseRegistration[Client], AbstractContextManager["Registratio
         self.withdraw()
 
     def wait(self, timeout: Optional[float] = None) -> bool:
-        """Waits until the node is there, for at most this many seconds, and answers whether it is."""
+        """Waits until the node is there, for at most this many seconds, and returns whether it is."""
         self._client._engine.check_process()
         with ending.resting():
             return self._is_there.wait(timeout)
@@ -258,7 +253,7 @@ class Registration(BaseRegistration[Client], AbstractContextManager["Registratio
 
 
 class Barrier(BaseBarrier[Client]):
-    """What holds clients back while its node is there, as kazoo's `Barrier` does.
+    """Holds clients back while its node is there, as kazoo's `Barrier` does.
 
         barrier = dirwolleu.Barrier(client, "/migration")
         barrier.create()
@@ -287,8 +282,8 @@ class DoubleBarrier(BaseDoubleBarrier[Client]):
 class Counter(BaseCounter[Client, Number]):
     """A number that is changed by compare and set, by the node of kazoo's `Counter`: an int or a float, as `default` is.
 
-    Each change happens once, whoever else changes the number. Where the answer to one was lost it is looked for: if it
-    has not happened, it is asked again; if that can't be told, `ConnectionLoss` says that it may have happened.
+    Each change happens once, whoever else changes the number. If the answer to one was lost, the counter looks for the change: if it has
+    not happened, it asks again; if it can't find out, it raises a `ConnectionLoss` that says that it may have happened.
 
         counter = dirwolleu.Counter(client, "/jobs", default=0)
         before = counter.get()
@@ -305,27 +300,27 @@ class Counter(BaseCounter[Client, Number]):
         super().__init__(client, path, default)
 
     def get(self) -> Number:
-        """The number. Raises `ValueError` where the node has other data."""
+        """The number. Raises `ValueError` if the node has other data."""
         return self._client._drive(self._getting())
 
     def add(self, number: Number) -> Number:
-        """Adds a number, and answers what it comes to. Raises `TypeError`, and changes nothing, if a counter of ints would have no int."""
+        """Adds a number and returns the sum. Raises `TypeError`, and changes nothing, if a counter of ints would have no int."""
         return self.change(lambda current: cast(Number, current + number))
 
     def change(self, function: Callable[[Number], Number]) -> Number:
-        """Sets the number to what a function makes of it, and answers that.
+        """Sets the number to what a function returns for it, and returns that.
 
-        The function is called again if another client was first. Raises `TypeError` as `add` does.
+        It calls the function again if another client was first. Raises `TypeError` as `add` does.
         """
         return self._client._drive(self._changing(function))
 
 
 class Queue(BaseQueue[Client]):
-    """Entries that each go to one of those that take them: by priority, 0 first, then in the order of making.
+    """A queue whose entries each go to one taker: by priority, 0 first, then in the order of making.
 
-    An entry that was put is there once, even if an answer was lost. It is deleted before it is worked on: if its
-    taker ends then, nobody works on it. For work that must not be lost, see the queue of docs/COOKBOOK.md, which deletes
-    after the work. The nodes have the names of kazoo's `Queue`, with a tag more.
+    An entry that was put is there once, even if an answer was lost. It is deleted before it is worked on: if its taker ends then, nobody
+    works on it. For work that must not be lost, see the queue of docs/COOKBOOK.md, which deletes after the work. The nodes have the names
+    of kazoo's `Queue`, with a tag more.
 
         queue = dirwolleu.Queue(client, "/jobs")
         queue.put(b"one")

@@ -1,4 +1,4 @@
-"""SASL: a session says who it is by challenges and tokens, on each connection before anything else is asked over it.
+"""SASL: a session identifies itself by challenges and tokens, on each connection, before any other request.
 
     client = dirwolleu.Client("zk1:2181", sasl=digest_md5("app", password))
 
@@ -16,10 +16,11 @@ from typing import Callable, Optional
 __all__ = ["Sasl", "Step", "digest_md5"]
 
 Step = Callable[[bytes], Optional[bytes]]
-"""One log-in: is called with no bytes first, and then with each challenge of the server. It answers the token to send, or None if the
-log-in is over. What it raises ends the client, with its words in an `AuthFailedError`. All blocking clients of the process wait while it runs."""
+"""One log-in: a function that is called with no bytes first, and then with each challenge of the server. It returns the token to send,
+or None if the log-in is over. An exception ends the client, with its words in an `AuthFailedError`. All blocking clients of the process
+wait while it runs."""
 Sasl = Callable[[], Step]
-"""Makes what logs in on one connection."""
+"""Makes the `Step` of one connection."""
 
 _DIRECTIVE = re.compile(r'([\w-]+)=(?:"((?:[^"\\]|\\.)*)"|([^",]*))')
 _COUNT, _QOP = "00000001", "auth"
@@ -65,14 +66,14 @@ class _DigestMd5:
         ).encode()
 
     def digest(self, realm: str, nonce: str, cnonce: str, act: str) -> str:
-        """What shows that the password is known, for an act."""
+        """The proof that the password is known, for an act."""
         secret = _md5(f"{self._username}:{realm}:{self._password}".encode())
         key = _md5(secret + f":{nonce}:{cnonce}".encode()).hex()
         return _md5(f"{key}:{nonce}:{_COUNT}:{cnonce}:{_QOP}:{_md5(act.encode()).hex()}".encode()).hex()
 
 
 def _md5(data: bytes) -> bytes:
-    return hashlib.md5(data, usedforsecurity=False).digest()  # what the protocol says, strong or not
+    return hashlib.md5(data, usedforsecurity=False).digest()  # the protocol demands it, strong or not
 
 
 def _quoted(text: str) -> str:

@@ -29,7 +29,7 @@ class AuthFailedError(ZookeeperError):
 
 
 class Id(NamedTuple):
-    """Who: a scheme, such as `digest`, and what that scheme names somebody by."""
+    """An identity: a scheme, such as `digest`, and the name that it has there."""
 
     scheme: str
     id: str
@@ -47,7 +47,7 @@ class Permissions:
 
 
 class ACL(NamedTuple):
-    """One line of a node's list: what somebody may do to it."""
+    """One line of a node's list: the permissions of somebody."""
 
     perms: int
     id: Id
@@ -57,7 +57,7 @@ class ACL(NamedTuple):
 
     @property
     def acl_list(self) -> list[str]:
-        """The names of what is permitted: `["ALL"]`, or some of READ, WRITE, CREATE, DELETE and ADMIN."""
+        """The names of the permissions: `["ALL"]`, or some of READ, WRITE, CREATE, DELETE and ADMIN."""
         if self.perms & Permissions.ALL == Permissions.ALL:
             return ["ALL"]
         names = ("READ", "WRITE", "CREATE", "DELETE", "ADMIN")
@@ -68,7 +68,7 @@ ANYONE_ID_UNSAFE = Id("world", "anyone")
 AUTH_IDS = Id("auth", "")
 
 OPEN_ACL_UNSAFE = (ACL(Permissions.ALL, ANYONE_ID_UNSAFE),)
-"""Anybody may do anything: what a node has for which no ACL is given."""
+"""Anybody may do anything: the list of a node for which no ACL is given."""
 CREATOR_ALL_ACL = (ACL(Permissions.ALL, AUTH_IDS),)
 """Those who have the credentials of the session that makes the node may do anything, and nobody else."""
 READ_ACL_UNSAFE = (ACL(Permissions.READ, ANYONE_ID_UNSAFE),)
@@ -76,12 +76,12 @@ READ_ACL_UNSAFE = (ACL(Permissions.READ, ANYONE_ID_UNSAFE),)
 
 
 def make_digest_acl_credential(username: str, password: str) -> str:
-    """What the scheme `digest` names a user by: the name, and a hash of name and password.
+    """The identity of a user in the scheme `digest`: the name, and a hash of name and password.
 
     >>> make_digest_acl_credential("super", "test")
     'super:D/InIHSb7yEEbrWz8b9l71RjZJU='
     """
-    import base64  # here, since few programs want these, and they take their time
+    import base64  # here, since few programs want these, and they are slow to load
     import hashlib
 
     spelled = f"{username}:{password}".encode()
@@ -98,7 +98,7 @@ def make_digest_acl(
     admin: bool = False,
     all: bool = False,
 ) -> ACL:
-    """A line of an ACL for who has the credentials `digest`, `username:password` (`add_auth`).
+    """A line of an ACL for those who have the credentials `digest`, `username:password` (`add_auth`).
 
     >>> make_digest_acl("bob", "secret", read=True, write=True).acl_list
     ['READ', 'WRITE']

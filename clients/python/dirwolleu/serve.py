@@ -13,7 +13,7 @@ from dirwolleu.exceptions import ZookeeperError
 from dirwolleu.testing import Server
 
 LONGEST_WAIT = 1e6
-"""In seconds."""
+"""The longest `wait` of a script, in seconds."""
 
 
 class ScriptError(Exception):
@@ -29,7 +29,7 @@ class Step(NamedTuple):
 
 
 def _bare(function: Callable[[Server], object]) -> Callable[[str], Callable[[Server], object]]:
-    """What reads the rest of a line that has only one word."""
+    """A reader of the rest of a line that has only one word."""
 
     def read(rest: str) -> Callable[[Server], object]:
         if rest:
@@ -83,7 +83,7 @@ READS: dict[str, Callable[[str], Callable[[Server], object]]] = {
     "restart": _bare(Server.restart),
     "wait": _wait,
 }
-"""What reads the rest of a line, by its first word. It raises `ValueError`."""
+"""The readers of the rest of a line, by its first word. They raise `ValueError`."""
 
 
 def step_in(place: str, line: str) -> Optional[Step]:
@@ -118,7 +118,7 @@ def do_step(server: Server, step: Step) -> None:
 
 
 def obey(server: Server, lines: Iterable[str]) -> None:
-    """Does lines as they come. What is wrong with one is said on standard error."""
+    """Does lines as they come. It says on standard error what is wrong with one."""
     for number, line in enumerate(lines, 1):
         try:
             step = step_in(f"line {number}", line)

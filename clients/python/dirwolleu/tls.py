@@ -1,4 +1,4 @@
-"""TLS for connections to servers, by the options that kazoo has for it."""
+"""TLS for connections to servers, by kazoo's options for it."""
 
 from __future__ import annotations
 
@@ -23,12 +23,12 @@ def tls_context(
 ) -> ssl.SSLContext:
     """A context for `Client(.., ssl=context)`, made of files in PEM. Any other context of the module `ssl` serves too.
 
-    `ca` has the certificates that are trusted; without it those of the system are. `certfile` and `keyfile` are the
+    `ca` has the trusted certificates; by default the system's are trusted. `certfile` and `keyfile` are the
     client's own certificate and key, if the server wants one; `keyfile` may be left out if both are in one file.
     The name in the server's certificate has to be that of the connection string, unless `check_hostname` is false. With
     `verify_certs` false any server is believed, and so is whoever is on the way to it.
 
-    Raises `OSError` where a file can't be read, and `ssl.SSLError` where it is no certificate or key: both name the file. Raises
+    Raises `OSError` if a file can't be read, and `ssl.SSLError` if it is no certificate or key: both name the file. Raises
     `ValueError` for a key without its certificate.
 
         context = dirwolleu.tls_context(ca="ca.pem", certfile="client.pem", keyfile="client.key")
@@ -53,7 +53,7 @@ def tls_context(
 
 @contextlib.contextmanager
 def _naming(*files: Optional[str]) -> Iterator[None]:
-    """Has an error of what reads these files name the one that can't be read, or else all."""
+    """Adds to an error of reading these files the name of the one that can't be read, or else all names."""
     try:
         yield
     except OSError as error:

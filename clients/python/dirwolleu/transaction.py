@@ -80,7 +80,7 @@ class _Operations:
         return len(self._parts)
 
     def request(self) -> RawRequest[list[Outcome]]:
-        """All of it, as one request."""
+        """All operations, as one request."""
         parts = list(self._parts)
 
         def body(root: Root) -> bytes:
@@ -122,7 +122,7 @@ def _raise(parts: list[_Part], codes: list[int]) -> None:
 class Transaction(_Operations, AbstractContextManager["Transaction"]):
     """Several changes that happen together or not at all, in their order.
 
-    `commit` sends them. In a `with` block, the end of the block does, unless an error leaves it.
+    `commit` sends them. At the end of a `with` block they are sent too, unless an error leaves it.
 
         with client.transaction() as transaction:
             transaction.check("/config", version=3)

@@ -31,7 +31,8 @@ class TreeChange(NamedTuple):
     added: tuple[str, ...]
     removed: tuple[str, ...]
     changed: tuple[str, ...]
-    """The paths of nodes that are in both, with other data or another stat. Of a node that was deleted and made again, too."""
+    """The paths of nodes that are in both, with other data or another stat. They include nodes that were deleted and made
+    again."""
 
     def __bool__(self) -> bool:
         return bool(self.added or self.removed or self.changed)
@@ -40,8 +41,8 @@ class TreeChange(NamedTuple):
 class TreeSnapshot(Mapping[str, TreeNode]):
     """All nodes at and below a path, by their paths, as the servers' history has them at one zxid. It never changes.
 
-    Each node is after its parent. None is left out: a path at or below the root that is not in it had no node at that zxid. That
-    is what the proved core says; that this class shows it is tested.
+    Each node is after its parent. None is left out: a path at or below the root that is not in it had no node at that zxid. The
+    proved core says that; that this class shows it is tested.
 
         with client.tree("/config") as tree:
             snapshot = tree.wait(timeout=10)
@@ -71,7 +72,7 @@ class TreeSnapshot(Mapping[str, TreeNode]):
         return f"<TreeSnapshot of {len(self)} nodes at and below {self.root} at zxid {self.zxid}>"
 
     def children(self, path: str) -> tuple[str, ...]:
-        """The names below a node, in the order of their bytes. Raises `KeyError` where the node is not in the tree."""
+        """The names below a node, in the order of their bytes. Raises `KeyError` if the node is not in the tree."""
         if path not in self._nodes:
             raise KeyError(path)
         if self._children is None:
@@ -79,7 +80,7 @@ class TreeSnapshot(Mapping[str, TreeNode]):
         return tuple(self._children.get(path, ()))
 
     def changed_since(self, earlier: Optional[Mapping[str, TreeNode]]) -> TreeChange:
-        """What differs from an earlier snapshot: all of it is new if that is None."""
+        """The difference from an earlier snapshot: all of it is new if that is None."""
         old = {} if earlier is None else earlier
         return TreeChange(
             tuple(path for path in self if path not in old),

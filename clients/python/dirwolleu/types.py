@@ -1,4 +1,4 @@
-"""What a client answers and tells."""
+"""The types of a client's answers and reports."""
 
 from __future__ import annotations
 
@@ -10,7 +10,7 @@ __all__ = ["DataStat", "EventType", "Kept", "KeptChildren", "Mark", "Snapshot", 
 
 
 class State(str, enum.Enum):
-    """How a client stands to the servers."""
+    """The state of a client's session and connection."""
 
     CONNECTED = "CONNECTED"
     """A server has accepted the session."""
@@ -26,7 +26,7 @@ class State(str, enum.Enum):
 
 
 class EventType(str, enum.Enum):
-    """What a watch tells."""
+    """The event of a watch."""
 
     CREATED = "CREATED"
     DELETED = "DELETED"
@@ -34,11 +34,11 @@ class EventType(str, enum.Enum):
     CHILD = "CHILD"
 
     NONE = "NONE"
-    """Nothing of the node: the watch has ended with the session."""
+    """No event of the node: the watch has ended with the session."""
 
 
 class WatchedEvent(NamedTuple):
-    """What a watch is called with, once."""
+    """The argument with which a watch is called, once."""
 
     type: EventType
     state: State
@@ -54,17 +54,17 @@ calls nothing.
 
 
 class Mark(enum.IntEnum):
-    """Whether anything that the client was told has ended a kept answer. It tells of a zxid, and not of a time."""
+    """Whether a report to the client has ended a kept answer. It is about a zxid, and not about a time."""
 
     GOOD = 1
-    """ZooKeeper held this at the last seen zxid, and nothing that the client was told has ended it."""
+    """ZooKeeper held this at the last seen zxid, and no report to the client has ended it."""
 
     STALE = 2
-    """A change was told since, and the path was not read again."""
+    """A change was reported since, and the path was not read again."""
 
 
 class Stat(NamedTuple):
-    """What is known of a node, as zookeeper.jute has it. Times are milliseconds since 1970."""
+    """The metadata of a node, as zookeeper.jute has them. Times are milliseconds since 1970."""
 
     czxid: int
     mzxid: int
@@ -92,13 +92,13 @@ class DataStat(NamedTuple):
 
 
 class Stats(NamedTuple):
-    """What a client has counted since it was made, and how it is now."""
+    """The counts of a client since it was made, and its calls now."""
 
     dials: int
     """How many attempts to connect there were."""
 
     connections: int
-    """How many connections had a server that accepted the session."""
+    """On how many connections a server accepted the session."""
 
     expiries: int
     """How many sessions have expired."""
@@ -107,7 +107,7 @@ class Stats(NamedTuple):
     """How many calls a server has answered, with a result or an error."""
 
     lost: int
-    """How many calls have ended without an answer: a connection or a session went, or their own timeout."""
+    """How many calls have ended without an answer: with a connection or a session, or by their own timeout."""
 
     waiting: int
     """How many calls wait to be sent now."""
@@ -116,19 +116,18 @@ class Stats(NamedTuple):
     """How many calls were sent and wait for their answers now."""
 
     round_trip: Optional[float]
-    """How long answers to calls and pings take of late, in seconds, or None if none came yet."""
+    """How long answers to calls and pings took recently, in seconds, or None if none came yet."""
 
 
 class Kept(NamedTuple):
-    """What a client keeps of a node that was read with a watch."""
+    """The kept answer for a node that was read with a watch."""
 
     path: str
 
     mark: Mark
 
     last_zxid: int
-    """The greatest zxid that the client has seen: if the mark is good, the answer is that of the history at this
-    zxid.
+    """The greatest zxid that the client has seen: if the mark is good, the answer is that of the history at this zxid.
     """
 
     stat: Optional[DataStat]
@@ -138,7 +137,7 @@ class Kept(NamedTuple):
     """The node's data. None if they are null, if they were not read, and if no node is there."""
 
     has_data: bool
-    """Whether the data are known, null or not: `exists` alone does not tell them."""
+    """Whether the data are known, null or not: `exists` alone does not bring them."""
 
     @property
     def exists(self) -> bool:
@@ -147,20 +146,20 @@ class Kept(NamedTuple):
 
 
 class Snapshot(NamedTuple):
-    """What is kept of several nodes, all of it good, and of one moment: what `client.snapshot` gives."""
+    """The kept answers for several nodes, all good and of one moment: `client.snapshot` returns one."""
 
     zxid: int
     """The zxid at which the servers had all of it."""
 
     nodes: Mapping[str, Kept]
-    """What is kept of the nodes, by path."""
+    """The kept answers for the nodes, by path."""
 
     children: Mapping[str, KeptChildren]
-    """What is kept of the names below the parents, by path."""
+    """The kept answers for the names below the parents, by path."""
 
 
 class KeptChildren(NamedTuple):
-    """What a client keeps of the children of a node that were read with a watch."""
+    """The kept answer for the children of a node that were read with a watch."""
 
     path: str
 
@@ -178,4 +177,4 @@ class KeptChildren(NamedTuple):
     """The zxid of the last change of this set, 0 if there is no node."""
 
     exists: bool = True
-    """Whether there is a node. `follow_children` tells its absence too, which is kept of its data."""
+    """Whether there is a node. `follow_children` yields its absence too, which is in the kept answer for its data."""
