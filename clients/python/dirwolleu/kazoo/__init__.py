@@ -1,6 +1,7 @@
-"""kazoo's names over the client of dirwolleu: what patroni, tooz and taskflow use of it, for programs that stay as they are.
+"""kazoo's names over the client of dirwolleu, as far as patroni, tooz and taskflow use them, for programs that stay as they
+are.
 
-`install()` has `import kazoo` give this package, and `python3 -m dirwolleu.kazoo PROGRAM ARGS..` runs a program so.
+`install()` makes `import kazoo` give this package, and `python3 -m dirwolleu.kazoo PROGRAM ARGS..` runs a program so.
 """
 
 from __future__ import annotations
@@ -15,14 +16,14 @@ __all__ = ["__version__", "install"]
 
 
 _BY_NEED = {f"{__name__}.handlers.gevent", f"{__name__}.handlers.eventlet"}
-"""What wants another package: it is found below this one when it is imported."""
+"""The modules that want another package: they are found below this one when they are imported."""
 
 
 def install() -> None:
-    """Has `import kazoo` and its modules give this package, in this process, from now on.
+    """Makes `import kazoo` and its modules give this package, in this process, from now on.
 
-    Call it before anything imports kazoo: raises `ImportError` where that has happened. Modules of kazoo that are not
-    here can't be imported any more, so that nothing is half the one and half the other. It may be called again.
+    Call it before anything imports kazoo: it raises `ImportError` if that has happened. Modules of kazoo that are not here
+    can't be imported any more, so that nothing is half the one and half the other. It may be called again.
 
         import dirwolleu.kazoo
 

@@ -1,4 +1,5 @@
-"""What is asked over a connection of its own: four letters, and what the client's session does not carry, over another session."""
+"""Requests over a connection of their own: four letters, and over another session those that the client's session does not carry.
+"""
 
 from __future__ import annotations
 
@@ -21,7 +22,7 @@ _LONGEST_WORDS = 65536
 
 
 def all_of(receive: Callable[[int], bytes]) -> bytes:
-    """What comes up to the end of a connection, as far as that is of use."""
+    """The bytes up to the end of a connection, as far as they are of use."""
     taken = b""
     while len(taken) < _LONGEST_WORDS and (piece := receive(8192)):
         taken += piece

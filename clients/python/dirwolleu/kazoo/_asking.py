@@ -1,4 +1,4 @@
-"""What a `KazooClient` asks, step by step, and what programs reach for in its `_connection`."""
+"""The requests of a `KazooClient`, step by step, and the names that programs use of its `_connection`."""
 
 from __future__ import annotations
 
@@ -27,7 +27,7 @@ class Ask(NamedTuple):
     request: Request[Any]
     form: Callable[[Any], Any]
     once: Kinds = ()
-    """After which errors it is not to be asked again by a policy, if it may have happened."""
+    """The errors after which a policy must not ask it again, if it may have happened."""
 
 
 def once_of(ephemeral: bool, sequence: bool) -> Kinds:
@@ -38,7 +38,7 @@ def once_of(ephemeral: bool, sequence: bool) -> Kinds:
 
 
 def told(error: BaseException, once: Kinds) -> BaseException:
-    """The error of kazoo that a caller is told."""
+    """The error of kazoo for a caller."""
     found = error_of(error)
     if isinstance(found, once) and isinstance(found, ZookeeperError):
         found.is_final = bool(getattr(error, "may_have_happened", False))
@@ -46,7 +46,9 @@ def told(error: BaseException, once: Kinds) -> BaseException:
 
 
 def protected(path: str, request_of: Callable[[str], Request[str]]) -> Plan[str]:
-    """Makes a node whose name begins with a tag, as Curator's `withProtection`: so it is found again if the answer was lost."""
+    """Makes a node whose name begins with a tag, as Curator's `withProtection`, so that it is found again if the answer was
+    lost.
+    """
     parent, _, name = path.rpartition("/")
     tag = f"_c_{plans.new_tag()}-"
     request = request_of(f"{parent}/{tag}{name}")
@@ -65,7 +67,7 @@ def protected(path: str, request_of: Callable[[str], Request[str]]) -> Plan[str]
 
 
 class Run:
-    """A plan of several requests, which are asked one after the other. It waits for nothing."""
+    """A plan of several requests, which it makes one after the other. It waits for nothing."""
 
     def __init__(self, client: KazooClient, plan: Plan[Any], form: Callable[[Any], Any], once: Kinds = ()) -> None:
         self._client, self._plan, self._form, self._once = client, plan, form, once
@@ -98,16 +100,16 @@ class Run:
 
 
 class Connection:
-    """What programs reach for in kazoo's `client._connection`."""
+    """The names that programs use of kazoo's `client._connection`."""
 
     def __init__(self, client: KazooClient) -> None:
         self._client = client
 
     def _connect(self, host: str, hostip: str, port: int) -> tuple[float, float]:
-        """Is called for each connection whose session a server has accepted.
+        """It is called for each connection whose session a server has accepted.
 
-        Answers the read timeout and the connect timeout in milliseconds. A program that puts a function in its place
-        may answer a smaller read timeout: then a server that is silent for so long is left.
+        Returns the read timeout and the connect timeout in milliseconds. A program may replace it by a function that returns a
+        smaller read timeout: then the client leaves a server that is silent for so long.
         """
         timeout = self._client._granted_timeout() * 1000
         return timeout * 2 / 3, timeout / max(len(self._client.hosts), 1)

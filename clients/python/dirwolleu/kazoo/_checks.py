@@ -1,4 +1,4 @@
-"""What values of calls have to be, in kazoo's words."""
+"""Checks of the values of calls, in kazoo's words."""
 
 from __future__ import annotations
 
@@ -43,5 +43,5 @@ def own_acls(acls: Acls) -> Acls:
 
 
 def own_key(certfile: Optional[str], keyfile: Optional[str]) -> Optional[str]:
-    """The key as dirwolleu takes it. kazoo heeds none that has no certificate."""
+    """The key as dirwolleu takes it. kazoo ignores one that has no certificate."""
     return None if certfile is None else keyfile

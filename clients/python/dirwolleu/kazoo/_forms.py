@@ -50,7 +50,7 @@ def created(result: Created) -> tuple[str, ZnodeStat]:
 
 
 class Children(Request[Any]):
-    """Reads the names of a node's children, and what is known of the node."""
+    """Reads the names of a node's children, and the node's metadata."""
 
     def result(self, answer: Answer, root: Root) -> Any:
         names = super().result(answer, root)
@@ -64,7 +64,7 @@ def reconfig(joining: Optional[str], leaving: Optional[str], new_members: Option
 
 
 def hosts(hosts: HostList) -> Hosts:
-    """What a text or a list of hosts says, with the chroot in kazoo's form. Raises `ValueError`."""
+    """Reads a text or a list of hosts, with the chroot in kazoo's form. Raises `ValueError`."""
     if not isinstance(hosts, str):
         texts = [host.strip() for host in hosts]
         chroot = texts.pop() if texts and texts[-1].startswith("/") else ""
@@ -75,7 +75,7 @@ def hosts(hosts: HostList) -> Hosts:
 
 
 def policy(name: str, policy: object, handler: SequentialThreadingHandler) -> KazooRetry:
-    """The policy that a keyword has, if None is one without end."""
+    """The policy of a keyword; None is one without end."""
     if policy is None:
         return KazooRetry(max_tries=None, sleep_func=handler.sleep_func)
     if isinstance(policy, dict):
@@ -92,13 +92,15 @@ _OLD = {"max_retries": "max_tries", "retry_delay": "delay", "retry_backoff": "ba
 
 
 def old_policy(others: dict[str, Any]) -> Optional[dict[str, Any]]:
-    """Takes the old keywords of a policy out, which hold for both: the words of a `KazooRetry`, or None if there is none."""
+    """Takes out the old keywords of a policy, which hold for both: the arguments of a `KazooRetry`, or None if there are none."""
     found = {new: others.pop(old) for old, new in _OLD.items() if old in others}
     return {"max_tries": None, **found} if found else None
 
 
 def sasl(options: Optional[dict[str, Any]], auth_data: Iterable[tuple[str, str]]) -> Optional[Sasl]:
-    """What logs in by `sasl_options`, or by a pair of `auth_data` as long ago. Raises `ConfigurationError` where it is not known here."""
+    """The log-in by `sasl_options`, or by a pair of `auth_data` as long ago. Raises `ConfigurationError` if the mechanism is not known
+    here.
+    """
     for scheme, credential in auth_data:
         if scheme == "sasl" and options is None:
             warnings.warn("Passing SASL configuration as part of the auth_data is deprecated, use sasl_options", DeprecationWarning)
@@ -115,7 +117,7 @@ def sasl(options: Optional[dict[str, Any]], auth_data: Iterable[tuple[str, str]]
 
 
 def refuse(read_only: object, handler: object, others: dict[str, Any]) -> None:
-    """Raises an error that names the keyword which asks for what is not done."""
+    """Raises an error that names the keyword whose request is not supported."""
     if others:
         raise TypeError(f"__init__() got unexpected keyword arguments: {', '.join(sorted(others))}")
     if read_only:

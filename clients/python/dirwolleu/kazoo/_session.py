@@ -1,7 +1,7 @@
-"""The session of a `KazooClient`, from `start` to `stop`: a client of dirwolleu whose steps tell kazoo's functions.
+"""The session of a `KazooClient`, from `start` to `stop`: a client of dirwolleu whose steps call kazoo's functions.
 
-What an engine tells, it tells within its step, in the thread of all clients. So the order is the engine's own, and
-what is called here is not to wait for anything.
+An engine reports within its step, in the thread of all clients. So the order is the engine's own, and the functions that
+are called here must not wait for anything.
 """
 
 from __future__ import annotations
@@ -45,27 +45,27 @@ def _count_of_hosts(servers: Servers) -> int:
 
 
 class Identity(NamedTuple):
-    """What a session is known by. It is a secret."""
+    """The number, the password and the last zxid of a session. It is a secret."""
 
     number: int
     password: bytes
     last_zxid: int = 0
 
     def spelled(self) -> bytes:
-        """As a client of dirwolleu takes it up."""
+        """The bytes by which a client of dirwolleu resumes it."""
         head = struct.pack(">qi", self.number, len(self.password))
         return head + self.password + struct.pack(">q", self.last_zxid)
 
 
 def identity_of(saved: bytes) -> Identity:
-    """What a client of dirwolleu has saved."""
+    """The identity in the saved bytes of a client of dirwolleu."""
     number, length = struct.unpack(">qi", saved[:12])
     (last_zxid,) = struct.unpack(">q", saved[12 + length :])
     return Identity(number, saved[12 : 12 + length], last_zxid)
 
 
 class Answered:
-    """What waits for the answer to a request, and hands it to an async result in kazoo's form."""
+    """Waits for the answer to a request, and gives it to an async result in kazoo's form."""
 
     def __init__(self, outcome: AsyncResult, ask: Ask) -> None:
         self._outcome, self._form, self._once = outcome, ask.form, ask.once
@@ -88,7 +88,7 @@ class Answered:
 
 
 class _Probe:
-    """What waits for the answer to a probe: that something comes is enough."""
+    """Waits for the answer to a probe: it is enough that something comes."""
 
     def begin(self) -> bool:
         return True
@@ -106,8 +106,8 @@ class _Probe:
 class KazooEngine(Engine):
     """An engine that also closes a connection whose server was not heard for a read timeout, as kazoo does.
 
-    Where half of that has passed without a byte, it asks for the root, and if nothing comes for the other half, the
-    connection is over. Without a read timeout the rules of `Engine` hold alone.
+    If half of that has passed without a byte, it asks for the root, and if nothing comes for the other half, the
+    connection is over. Without a read timeout only the rules of `Engine` hold.
     """
 
     read_timeout_ms: Optional[int] = None
@@ -150,13 +150,13 @@ class KazooEngine(Engine):
         return self.read_timeout_ms is not None or super().is_recast()
 
     def drop_watchers(self) -> list[Watcher]:
-        """Forgets the functions that wait for watches, and tells them."""
+        """Forgets the functions that wait for watches, and returns them."""
         dropped = self._watchers.all()
         self._watchers.clear()
         return dropped
 
     def drop_connection(self, why: str) -> None:
-        """Has the connection closed. The session goes on."""
+        """Closes the connection. The session goes on."""
         if self.state is State.CONNECTED:
             self.drop(moment(), why)
 
@@ -174,13 +174,13 @@ class KazooEngine(Engine):
         super()._leave_connection()
 
     def refuse(self, words: str, may_have_happened: bool) -> None:
-        self._on_refused()  # before the calls that wait are told
+        self._on_refused()  # before the calls that wait fail
         super().refuse(words, may_have_happened)
         self._on_over()
 
 
 class KazooPolicy:
-    """The tries and the time that a policy has for finding a server. The pauses between tries are those of the library."""
+    """The tries and the time that a policy has for finding a server. The library decides the pauses between tries."""
 
     def __init__(self, retry: KazooRetry, count_of_hosts: Callable[[], int]) -> None:
         self._retry, self._count_of_hosts = retry.copy(), count_of_hosts
@@ -188,7 +188,7 @@ class KazooPolicy:
         self._until: Optional[float] = None
 
     def is_over(self, stats: ConnectionStats) -> bool:
-        """Whether no server is looked for any more, after a connection or an attempt that has ended now."""
+        """Whether the search for a server ends, after a connection or an attempt that has ended now."""
         if stats.admissions != self._admissions:
             self._admissions, self._dials, self._until = stats.admissions, 0, None
             self._retry.reset()
@@ -221,7 +221,7 @@ class KazooDriver(Driver):
         self.connects = lambda place: handler._dial((place.address, place.port), timeout)
 
     def use_policy(self, retry: KazooRetry, on_end: Callable[[], object]) -> None:
-        """Has the tries and the time be those of a policy. If it gives up, the engine ends."""
+        """Bounds the tries and the time by a policy. If it gives up, the engine ends."""
         self._policy = KazooPolicy(retry, functools.partial(_count_of_hosts, self.servers))
         self._on_end = on_end
 
@@ -235,7 +235,7 @@ class KazooDriver(Driver):
 
 
 class Session(Client):
-    """A client of dirwolleu whose steps tell a `KazooClient`."""
+    """A client of dirwolleu whose steps report to a `KazooClient`."""
 
     _engine: KazooEngine
 
@@ -262,7 +262,7 @@ class Session(Client):
         """Begins to connect, and does not wait for a server."""
         self._check_process()
         threads = self._begin_threads()
-        if threads is not None:  # it is, without a moment up to which it waits
+        if threads is not None:  # it always is, without a bound of the wait
             self._wait(threads.have_come, None)
 
     def is_running(self) -> bool:
@@ -276,13 +276,13 @@ class Session(Client):
         self.act()
 
     def act(self) -> None:
-        """Has the thread of the clients do what was asked."""
+        """Lets the thread of the clients take the requests."""
         threads = self._threads()
         if threads is not None:
             threads.loop.act()
 
     def soon(self, call: Callable[[], object]) -> None:
-        """Has the thread of the clients call a function, and do what comes of it."""
+        """Lets the thread of the clients call a function, and do what follows from it."""
         threads = self._threads()
         if threads is not None:
             threads.loop.soon(call)
@@ -293,12 +293,12 @@ class Session(Client):
         self.soon(lambda: self._engine.drop_connection(why))
 
     def tell_listeners(self, function: Callable[[Any], object], argument: Any) -> None:
-        """Calls what may wait, in the thread of the listeners."""
+        """Calls a function that may wait, in the thread of the listeners."""
         if not super()._tell(function, argument):
             function(argument)
 
     def drop_watchers(self) -> list[Watcher]:
-        """Within a step: forgets the functions that wait for watches, and tells them."""
+        """Within a step: forgets the functions that wait for watches, and returns them."""
         return self._engine.drop_watchers()
 
     def use_read_timeout(self, milliseconds: Optional[int]) -> None:
@@ -306,11 +306,11 @@ class Session(Client):
         self._engine.read_timeout_ms = milliseconds
 
     def identity(self) -> Identity:
-        """What the session is known by."""
+        """The number, the password and the last zxid of the session."""
         return identity_of(self._engine.saved())
 
     def no_server(self, timeout: Optional[float]) -> str:
-        """That no server was found in this time, and what became of the last attempt, in words."""
+        """Says that no server was found in this time, and how the last attempt went."""
         return self._engine.no_server(timeout)
 
     def place(self) -> Optional[Place]:
@@ -326,14 +326,14 @@ class Session(Client):
     def _tell(self, function: Callable[[Any], object], argument: Any) -> bool:
         try:
             function(argument)
-        except Exception:  # of a program's logger or handler: the step goes on
+        except Exception:  # from a program's logger or handler: the step goes on
             logger.exception("what was told could not be handed on")
         return True
 
 
 @dataclass(frozen=True)
 class Told:
-    """What the engine calls when a watch fires: it has the handler call the program's function."""
+    """The function that the engine calls when a watch fires: it lets the handler call the program's function."""
 
     owner: KazooClient
     function: Callable[[Any], object]

@@ -64,10 +64,10 @@ class TransactionRequest(AbstractContextManager["TransactionRequest"]):
         self._add(CheckVersion(checked_path(path), version))
 
     def commit(self) -> list[Any]:
-        """Does all of it, and tells what each operation has brought.
+        """Does all of it, and returns the result of each operation.
 
-        If one is refused, nothing has happened, and the results are errors: that of the one which was refused,
-        `RolledBackError` for those before it and `RuntimeInconsistency` for those after it. None is raised.
+        If one is refused, nothing has happened, and the results are errors: the refused one has its own, those before
+        it `RolledBackError`, and those after it `RuntimeInconsistency`. It raises none of them.
         """
         results: list[Any] = self.commit_async().get()
         return results
@@ -115,7 +115,7 @@ def _results(count: int, reader: Reader, root: Root) -> list[Any]:
 
 
 def _result(reader: Reader, root: Root) -> Any:
-    """What one operation has brought, or its error. Raises `Malformed`."""
+    """The result of one operation, or its error. Raises `Malformed`."""
     operation = reader.multi_header()
     if operation == serialization.ERROR:
         return error_of_code(reader.integer())

@@ -100,8 +100,8 @@ _REFUSED = "not in the whitelist"
 class KazooClient:
     """A client of ZooKeeper with kazoo's names, errors and behaviour, over the proved core of dirwolleu.
 
-    It has what kazoo's documentation says of these keywords. What it does not do, it refuses by name: `read_only`, and
-    mechanisms of `sasl_options` other than DIGEST-MD5. `README.md` of the package says where it differs.
+    The keywords are as in kazoo's documentation. It refuses by name those that it does not support: `read_only`, and
+    mechanisms of `sasl_options` other than DIGEST-MD5. `README.md` of the package says how it differs.
 
         from dirwolleu.kazoo.client import KazooClient
 
@@ -158,7 +158,7 @@ class KazooClient:
         self.state_listeners: set[Listener] = set()
         self._live, self._stopped = self.handler.event_object(), self.handler.event_object()
         self._decided = self.handler.event_object()
-        """Set once a server has accepted the session that was begun last, or none is looked for any more."""
+        """Set once a server has accepted the session that was begun last, or the search for one is over."""
         self._stopped.set()
         self._session: Optional[Session] = None
         self._change = self.handler.rlock_object()
@@ -183,11 +183,11 @@ class KazooClient:
         self.ShallowParty = functools.partial(ShallowParty, self)
         self.WriteLock = functools.partial(WriteLock, self)
 
-    # How it stands.
+    # Its state.
 
     @property
     def client_state(self) -> str:
-        """How the session stands: one of `KeeperState`."""
+        """The state of the session: one of `KeeperState`."""
         return self._state
 
     @property
@@ -218,7 +218,7 @@ class KazooClient:
     def chroot(self) -> str:
         """The node of the servers that the program knows as `/`: empty if that is the servers' own.
 
-        It can be set while the client is not started. Raises `ConfigurationError` where it is.
+        It can be set while the client is not started. Raises `ConfigurationError` if it is.
         """
         return "" if self._found is None else self._found.root.path
 
@@ -233,7 +233,7 @@ class KazooClient:
     def set_hosts(self, hosts: forms.HostList, randomize_hosts: Optional[bool] = None) -> None:
         """Goes on with these hosts. The session moves to another one if `Client.set_hosts` does.
 
-        Raises `ConfigurationError` where the chroot is another one than before.
+        Raises `ConfigurationError` if the chroot is another one than before.
         """
         found = forms.hosts(hosts)
         if self._found is not None and found.root != self._found.root:
@@ -246,13 +246,13 @@ class KazooClient:
             session.set_hosts(found.text)
 
     def add_listener(self, listener: Listener) -> None:
-        """Calls a function with each new `KazooState`, in a thread of its own. One that returns True is called no more."""
+        """Calls a function with each new `KazooState`, in a thread of its own. After it returns True it is not called any more."""
         if not callable(listener):
             raise ConfigurationError("listener must be callable")
         self.state_listeners.add(listener)
 
     def remove_listener(self, listener: Listener) -> None:
-        """Calls the function no more."""
+        """Stops calling the function."""
         self.state_listeners.discard(listener)
 
     def unchroot(self, path: str) -> str:
@@ -264,8 +264,8 @@ class KazooClient:
     def start(self, timeout: Optional[float] = 15) -> None:
         """Begins to connect, and waits until a server has accepted the session.
 
-        Raises the handler's `timeout_exception` after this many seconds, and `AuthFailedError` where the server refuses
-        the credentials; then it is stopped.
+        Raises the handler's `timeout_exception` after this many seconds, and `AuthFailedError` if the server refuses the credentials;
+        then it is stopped.
         """
         with ending.resting(timeout):
             self.start_async()
@@ -282,7 +282,7 @@ class KazooClient:
             warnings.warn("No chroot path exists, the chroot path should be created before normal use.")
 
     def start_async(self) -> threading.Event:
-        """Begins to connect, and answers an event that is set while a server has accepted the session."""
+        """Begins to connect, and returns an event that is set while a server has accepted the session."""
         with ending.resting(), self._change:
             session = self._session
             if session is not None and session.is_running():
@@ -306,7 +306,7 @@ class KazooClient:
             self._identity, self._state = None, KeeperState.CLOSED
 
     def restart(self) -> None:
-        """Ends the session and begins another one, which is of no server that is behind what was seen."""
+        """Ends the session and begins another one, at no server that is behind what the client has seen."""
         last_zxid = self.last_zxid
         self.stop()
         self._identity = Identity(0, bytes(PASSWORD_LENGTH), last_zxid)
@@ -348,7 +348,7 @@ class KazooClient:
             self._session = None
         self.handler.stop()
 
-    # What the engine tells, within its steps: nothing here waits.
+    # The engine calls these, within its steps: nothing here waits.
 
     def _told_state(self, state: State) -> None:
         if state is State.CONNECTED:
@@ -384,14 +384,14 @@ class KazooClient:
             self._state = KeeperState.CONNECTING
 
     def _state_of_loss(self) -> str:
-        """How the session stands that is over now."""
+        """The state of the session that is over now."""
         if self._state == KeeperState.AUTH_FAILED:
             return self._state
         goes_on = self._session is not None and self._session.is_running()
         return KeeperState.EXPIRED_SESSION if goes_on else KeeperState.CLOSED
 
     def _told_refusal(self) -> None:
-        """The server does not take the credentials. The session is over."""
+        """The server refuses the credentials. The session is over."""
         self._state = KeeperState.AUTH_FAILED
         self.logger.warning("AUTH_FAILED closing: the server does not take the credentials")
 
@@ -402,7 +402,7 @@ class KazooClient:
         self.logger.warning("Failed connecting to Zookeeper within the connection retry policy.")
 
     def _told_over(self) -> None:
-        """No server is looked for any more."""
+        """The search for a server is over."""
         self.handler._soon(self._decided.set)
 
     def _told_watch(self, function: Callable[[Any], object], event: OwnEvent) -> None:
@@ -414,7 +414,7 @@ class KazooClient:
         self._dispatch(function, WatchedEvent(EventType.NONE, self._state_of_loss(), None))
 
     def _end_watches(self) -> None:
-        """Tells each function that waits for a watch that the connection is over. As in kazoo, it is called no more."""
+        """Tells each function that waits for a watch that the connection is over. As in kazoo, it is not called any more."""
         session = self._session
         told = WatchedEvent(EventType.NONE, self._state, None)
         for watcher in () if session is None else session.drop_watchers():
@@ -471,19 +471,19 @@ class KazooClient:
         return 0 if self._session is None else self._session.session_id
 
     def _kept(self, path: str) -> Optional[Kept]:
-        """What is kept of a node."""
+        """The kept answer for a node."""
         return None if self._session is None else self._session.kept(own_path(path))
 
     def _kept_children(self, path: str) -> Optional[KeptChildren]:
-        """What is kept of the children of a node."""
+        """The kept answer for the children of a node."""
         return None if self._session is None else self._session.kept_children(own_path(path))
 
     # Calls.
 
     def _call(self, request: Any, async_object: AsyncResult) -> Optional[bool]:
-        """Sends a request, whose answer the async result is set to. Each call goes through here.
+        """Sends a request, and sets the async result to its answer. Each call goes through here.
 
-        Where the session is over, the result is set to the error, and this answers False.
+        If the session is over, it sets the result to the error, and returns False.
         """
         if not isinstance(request, Ask):
             self._break(request)
@@ -506,7 +506,7 @@ class KazooClient:
         return False
 
     def _break(self, marker: object) -> None:
-        """What kazoo's harness for tests asks for: the end of the connection, or of the session."""
+        """Does what kazoo's harness for tests asks for: ends the connection, or the session."""
         identity = self.client_id
         if marker is _SESSION_EXPIRED and identity is not None:
             _end_elsewhere(self._peer(), *identity)
@@ -522,7 +522,7 @@ class KazooClient:
         return Run(self, plan, form, once).begin()
 
     def _drive(self, steps_of: Callable[[Session], Steps[Any]]) -> Any:
-        """Does steps of a recipe of dirwolleu in this thread. Raises kazoo's errors."""
+        """Makes steps of a recipe of dirwolleu in this thread. Raises kazoo's errors."""
         session = self._session
         if session is None:
             raise ConnectionClosedError("Connection has been closed")
@@ -541,7 +541,7 @@ class KazooClient:
         return self._retry.copy()(func, *args, **kwargs)
 
     def exists(self, path: str, watch: Watch = None) -> Optional[ZnodeStat]:
-        """What is known of a node, or None if there is none."""
+        """The metadata of a node, or None if there is none."""
         found: Optional[ZnodeStat] = self.exists_async(path, watch).get()
         return found
 
@@ -550,7 +550,7 @@ class KazooClient:
         return self._send(requests.exists(checked_path(path), self._told(watch)), forms.stat)
 
     def get(self, path: str, watch: Watch = None) -> tuple[Optional[bytes], ZnodeStat]:
-        """The data of a node, and what is known of it. Raises `NoNodeError`."""
+        """The data of a node, and its metadata. Raises `NoNodeError`."""
         found: tuple[Optional[bytes], ZnodeStat] = self.get_async(path, watch).get()
         return found
 
@@ -559,7 +559,7 @@ class KazooClient:
         return self._send(requests.get(checked_path(path), self._told(watch)), forms.data)
 
     def get_children(self, path: str, watch: Watch = None, include_data: bool = False) -> Any:
-        """The names of a node's children; with `include_data` also what is known of the node. Raises `NoNodeError`."""
+        """The names of a node's children; with `include_data` also the node's metadata. Raises `NoNodeError`."""
         return self.get_children_async(path, watch, include_data).get()
 
     def get_children_async(self, path: str, watch: Watch = None, include_data: bool = False) -> AsyncResult:
@@ -581,10 +581,10 @@ class KazooClient:
         include_data: bool = False,
         protect: bool = False,
     ) -> Any:
-        """Makes a node, and tells its path; with `include_data` also its `ZnodeStat`.
+        """Makes a node, and returns its path; with `include_data` also its `ZnodeStat`.
 
-        With `protect`, which kazoo does not have, its name begins with a tag, and it is looked for if the answer is lost.
-        Raises `NodeExistsError`, `NoNodeError`, `NoChildrenForEphemeralsError`, `InvalidACLError`.
+        With `protect`, which kazoo does not have, its name begins with a tag, and it is looked for if the answer is lost. Raises
+        `NodeExistsError`, `NoNodeError`, `NoChildrenForEphemeralsError`, `InvalidACLError`.
         """
         return self.create_async(path, value, acl, ephemeral, sequence, makepath, include_data, protect).get()
 
@@ -624,7 +624,7 @@ class KazooClient:
         return self._run(protected(path, request_of))
 
     def ensure_path(self, path: str, acl: Acls = None) -> bool:
-        """Makes a node and those above it, as far as they are not there."""
+        """Makes a node and the missing ones above it."""
         return bool(self.ensure_path_async(path, acl).get())
 
     def ensure_path_async(self, path: str, acl: Acls = None) -> AsyncResult:
@@ -659,7 +659,7 @@ class KazooClient:
         return self._send(requests.delete(checked_path(path), version), forms.true)
 
     def sync(self, path: str) -> str:
-        """Has the server take in all that was done before it answers."""
+        """Lets the server take in all that was done before it answers."""
         return str(self.sync_async(path).get())
 
     def sync_async(self, path: str) -> AsyncResult:
@@ -667,7 +667,7 @@ class KazooClient:
         return self._send(records.sync(checked_path(path)))
 
     def get_acls(self, path: str) -> tuple[list[ACL], ZnodeStat]:
-        """The ACL of a node, and what is known of it. Raises `NoNodeError`."""
+        """The ACL of a node, and its metadata. Raises `NoNodeError`."""
         found: tuple[list[ACL], ZnodeStat] = self.get_acls_async(path).get()
         return found
 
@@ -690,9 +690,9 @@ class KazooClient:
         return self._send(records.set_acls(checked_path(path), acls, version), forms.stat)
 
     def add_auth(self, scheme: str, credential: str) -> bool:
-        """Says who the session is, now and on each later connection.
+        """Identifies the session by a credential, now and on each later connection.
 
-        Raises `AuthFailedError` where the server refuses it; then the session is over, as in kazoo.
+        Raises `AuthFailedError` if the server refuses it; then the session is over, as in kazoo.
         """
         return bool(self.add_auth_async(scheme, credential).get())
 
@@ -711,10 +711,11 @@ class KazooClient:
     def reconfig(
         self, joining: Optional[str], leaving: Optional[str], new_members: Optional[str], from_config: int = -1
     ) -> tuple[bytes, ZnodeStat]:
-        """Changes who the servers are, and tells what `/zookeeper/config` has then: `joining` and `leaving`, or all by `new_members`.
+        """Changes the set of servers, by `joining` and `leaving`, or all by `new_members`, and returns what `/zookeeper/config` has
+        then.
 
         It is asked over a session of its own, with the client's credentials. Raises `NoAuthError`, `BadArgumentsError`,
-        `BadVersionError` where the configuration is not the one of `from_config`, and `ConnectionLoss`: then it may have happened.
+        `BadVersionError` if the configuration is not the one of `from_config`, and `ConnectionLoss`: then it may have happened.
         """
         found: tuple[bytes, ZnodeStat] = self.reconfig_async(joining, leaving, new_members, from_config).get()
         return found
@@ -736,9 +737,9 @@ class KazooClient:
         return reader.buffer() or b"", ZnodeStat(*reader.stat())
 
     def command(self, cmd: bytes = b"ruok") -> str:
-        """What the server of the connection answers to a word such as `srvr`, over a connection of its own.
+        """The answer of the connection's server to a word such as `srvr`, over a connection of its own.
 
-        Raises `ConnectionLoss` where there is no connection, and `OSError`.
+        Raises `ConnectionLoss` if there is no connection, and `OSError`.
         """
         if not self.connected:
             raise ConnectionLoss("No connection to server")
@@ -762,8 +763,8 @@ class KazooClient:
     def server_version(self, retries: int = 3) -> tuple[int, ...]:
         """The version of the server, such as (3, 8, 0).
 
-        It asks by `envi` as kazoo does, and by `srvr`, which a server answers if its settings name no words, if it does not
-        answer that one. Raises `KazooException` where neither tells it in this many tries and one.
+        It asks by `envi` as kazoo does, and if the server does not answer that one by `srvr`, which a server answers if its settings
+        name no words. Raises `KazooException` if neither shows the version in this many tries and one.
         """
         for _ in range(1 + max(0, retries)):
             words = self.command(b"envi")

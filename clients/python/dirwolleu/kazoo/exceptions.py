@@ -9,11 +9,11 @@ from dirwolleu.security import AuthFailedError as OwnAuthFailedError
 
 
 class KazooException(Exception):
-    """What all errors of kazoo are."""
+    """The base of all errors of kazoo."""
 
 
 class ZookeeperError(KazooException):
-    """What a server, or the state of the session, answers to a call. Its text has the path, and what to do."""
+    """The error of a call, of a server or by the state of the session. Its text has the path, and what to do."""
 
     code: Optional[int] = None
     """ZooKeeper's number of the error, and None if there is none."""
@@ -31,7 +31,7 @@ class ConfigurationError(KazooException):
 
 
 class ConnectionDropped(KazooException):
-    """The connection is over. It is named here for programs that catch it: calls raise `ConnectionLoss`."""
+    """The connection is over. It is here only for programs that catch it: calls raise `ConnectionLoss`."""
 
 
 class LockTimeout(KazooException):
@@ -57,19 +57,19 @@ class RuntimeInconsistency(ZookeeperError):
 
 
 class DataInconsistency(ZookeeperError):
-    """The server has found its data not to fit together."""
+    """The server has found its data inconsistent."""
 
     code = -3
 
 
 class ConnectionLoss(ZookeeperError):
-    """The connection ended before the answer: a change may or may not have happened. Or none came to be in time."""
+    """The connection ended before the answer: a change may or may not have happened. Or no connection came in time."""
 
     code = -4
 
 
 class MarshallingError(ZookeeperError):
-    """A request or an answer does not read."""
+    """A request or an answer does not parse."""
 
     code = -5
 
@@ -87,7 +87,7 @@ class OperationTimeoutError(ZookeeperError):
 
 
 class BadArgumentsError(ZookeeperError):
-    """The path, the mode or the data are refused."""
+    """The server refuses the path, the mode or the data."""
 
     code = -8
 
@@ -105,7 +105,7 @@ class ReconfigInProcessError(ZookeeperError):
 
 
 class APIError(ZookeeperError):
-    """An error that a server answers if it has none that says more."""
+    """An error that a server answers if it has no more specific one."""
 
     code = -100
 
@@ -153,19 +153,19 @@ class SessionExpiredError(ZookeeperError):
 
 
 class InvalidCallbackError(ZookeeperError):
-    """The server does not take the callback."""
+    """The server refuses the callback."""
 
     code = -113
 
 
 class InvalidACLError(ZookeeperError):
-    """The server does not take the ACL."""
+    """The server refuses the ACL."""
 
     code = -114
 
 
 class AuthFailedError(ZookeeperError):
-    """The server does not take the credentials."""
+    """The server refuses the credentials."""
 
     code = -115
 
@@ -177,7 +177,7 @@ class SessionMovedError(ZookeeperError):
 
 
 class NotReadOnlyCallError(ZookeeperError):
-    """The server reads only. Its name is here alone: this package connects to no such server."""
+    """The server reads only. Only its name is here: this package connects to no such server."""
 
     code = -119
 
@@ -220,14 +220,14 @@ def _kind_of(error: BaseException) -> type[ZookeeperError]:
         return OperationTimeoutError
     if isinstance(error, OwnAuthFailedError):
         return AuthFailedError
-    if isinstance(error, ValueError):  # of a path
+    if isinstance(error, ValueError):  # from a path
         return BadArgumentsError
     code = getattr(error, "code", None)
     return EXCEPTIONS.get(code, ZookeeperError) if isinstance(code, int) else ZookeeperError
 
 
 def error_of(error: BaseException) -> BaseException:
-    """The error of kazoo that says what one of dirwolleu does. That is its cause."""
+    """The error of kazoo for one of dirwolleu, which is its cause."""
     if isinstance(error, KazooException):
         return error
     if not isinstance(error, (own.ZookeeperError, ValueError, MemoryError)):

@@ -1,4 +1,4 @@
-"""What a text or a list of hosts says (kazoo.hosts)."""
+"""The parts of a text or a list of hosts (kazoo.hosts)."""
 
 from __future__ import annotations
 
@@ -8,7 +8,7 @@ from urllib.parse import urlsplit
 
 
 def collect_hosts(hosts: Union[str, Sequence[str]]) -> tuple[list[tuple[str, int]], Optional[str]]:
-    """The hosts with their ports, and the chroot, if there is one. Raises `ValueError` where a host has no name."""
+    """The hosts with their ports, and the chroot, if there is one. Raises `ValueError` if a host has no name."""
     if isinstance(hosts, str):
         servers, slash, root = hosts.partition("/")
         texts, chroot = servers.split(","), slash + root

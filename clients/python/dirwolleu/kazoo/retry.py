@@ -22,7 +22,7 @@ LONGEST_SLEEP = 0.1
 
 
 class ForceRetryError(Exception):
-    """What a function raises that wants to be called again."""
+    """A function raises this to be called again."""
 
 
 class RetryFailedError(KazooException):
@@ -30,17 +30,17 @@ class RetryFailedError(KazooException):
 
 
 class InterruptedError(RetryFailedError):
-    """The function `interrupt` of a policy has answered true."""
+    """The function `interrupt` of a policy has returned true."""
 
 
 class KazooRetry:
-    """Calls a function again if its connection or its session went.
+    """Calls a function again if its connection or its session was lost.
 
-    It is kazoo's policy, so a change that may have happened is made again too: a create may then raise
-    `NodeExistsError` for a node of its own. A sequential create is not: it raises what it has raised. `max_tries` is how often it is called again: -1 and None are no bound;
-    `delay` is the first pause in seconds, each later one is `backoff` times the one before, up to `max_delay`, and up to
-    the part `max_jitter` of each is left to chance. With `deadline` no pause begins that would end after this many seconds.
-    An expired session counts unless `ignore_expire` is false. A client that is stopped is never asked again.
+    It is kazoo's policy, so a change that may have happened is made again too: a create may then raise `NodeExistsError` for a node of its
+    own. A sequential create is not made again: it raises its error. `max_tries` is how often the function is called again: -1 and None are
+    no bound; `delay` is the first pause in seconds, each later one is `backoff` times the one before, up to `max_delay`, and up to the part
+    `max_jitter` of each is random. With `deadline` no pause begins that would end after this many seconds. An expired session counts unless
+    `ignore_expire` is false. A client that is stopped is never asked again.
     """
 
     RETRY_EXCEPTIONS: tuple[type[Exception], ...] = (ConnectionLoss, OperationTimeoutError, ForceRetryError)
@@ -86,7 +86,7 @@ class KazooRetry:
         return other
 
     def __call__(self, func: Callable[..., Returned], *args: Any, **kwargs: Any) -> Returned:
-        """Calls a function until it returns, or raises what is not tried again. Raises `RetryFailedError`."""
+        """Calls a function until it returns, or raises an error that is not tried again. Raises `RetryFailedError`."""
         self.reset()
         if self.deadline is not None:
             self._until = time.monotonic() + self.deadline
@@ -102,7 +102,7 @@ class KazooRetry:
             self._sleep(pause)
 
     def next_pause(self, error: Optional[BaseException] = None) -> float:
-        """How long to wait before the next try, in seconds. Raises `RetryFailedError` where there is none."""
+        """How long to wait before the next try, in seconds. Raises `RetryFailedError` if there is none."""
         if self._attempts == self.max_tries:
             raise RetryFailedError("Too many retry attempts") from error
         self._attempts += 1

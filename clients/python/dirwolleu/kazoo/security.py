@@ -41,7 +41,7 @@ def make_acl(
     admin: bool = False,
     all: bool = False,
 ) -> ACL:
-    """A line of an ACL for whom a scheme names so.
+    """A line of an ACL for somebody, by the name that a scheme has.
 
     >>> make_acl("x509", "CN=patroni", read=True).acl_list
     ['READ']

@@ -1,1 +1,1 @@
-"""What kazoo.handlers has for threads."""
+"""The names of kazoo.handlers for threads."""

@@ -1,7 +1,8 @@
-"""What handlers for green threads share: those who wait leave the processor to others of the same thread of the system.
+"""The base of the handlers for green threads: a waiting one leaves the processor to others of the same thread of the
+system.
 
-The client's own threads are the system's. What they have to tell is handed to the thread of the handler, if a green one
-calls it: so no lock and no event of green threads is ever touched by another thread.
+The client's own threads are the system's. The thread of the handler gets their reports, and a green one calls the
+functions: so no other thread ever touches a lock or an event of green threads.
 """
 
 from __future__ import annotations
@@ -22,14 +23,14 @@ from dirwolleu.kazoo.protocol.states import Callback
 
 
 class GreenResult(threads.AsyncResult):
-    """What a call that does not wait answers, for green threads."""
+    """The result of a call that does not wait, for green threads."""
 
     def __init__(self, handler: GreenHandler) -> None:
         super().__init__(handler)
         self._green, self._is_set = handler, handler.event_object()
 
     def wait(self, timeout: Optional[float] = None) -> bool:
-        """Waits until it holds something, for at most this many seconds, and answers whether it does."""
+        """Waits until it holds something, for at most this many seconds, and returns whether it does."""
         with ending.resting():
             self._is_set.wait(timeout)
             return self._is_ready
@@ -94,7 +95,7 @@ class GreenHandler(SequentialThreadingHandler):
             _run(function)
 
     def _hear(self, bell: int) -> None:
-        """Calls what other threads have told, until it is stopped."""
+        """Calls the functions that other threads have handed over, until it is stopped."""
         while self._running:
             self._wait_readable(bell)
             with contextlib.suppress(BlockingIOError):
@@ -111,7 +112,7 @@ class GreenHandler(SequentialThreadingHandler):
     def _ring(self) -> None:
         bell = self._bell
         if bell is not None:
-            with contextlib.suppress(OSError):  # it is full, so that it is heard; or it was closed
+            with contextlib.suppress(OSError):  # it is full, and so rings already; or it was closed
                 os.write(bell[1], b"\0")
 
     def _soon(self, function: Function) -> None:
@@ -122,7 +123,7 @@ class GreenHandler(SequentialThreadingHandler):
             self._ring()
 
     def _elsewhere(self, function: Callable[[], Any]) -> Any:
-        """Has a thread of the system do what would hold up all green threads here, and waits for it."""
+        """Calls, in a thread of the system, a function that would hold up all green threads here, and waits for it."""
         if not self._running or _thread.get_native_id() != self._home:
             return function()
         return self._begin_elsewhere(function).get()
@@ -157,9 +158,9 @@ class GreenHandler(SequentialThreadingHandler):
         return utils.create_socket_pair(self.sockets)
 
     def async_result(self) -> GreenResult:
-        """What a call that does not wait answers."""
+        """The result of a call that does not wait."""
         return self.result(self)
 
     def dispatch_callback(self, callback: Callback) -> None:
-        """Has the green thread of the watches call a function."""
+        """Lets the green thread of the watches call a function."""
         self._soon(lambda: self.callback_queue.put(lambda: callback.func(*callback.args)))

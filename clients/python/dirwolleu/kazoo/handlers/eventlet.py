@@ -1,4 +1,4 @@
-"""The handler for eventlet. It wants no monkey patching, and takes it (kazoo.handlers.eventlet)."""
+"""The handler for eventlet. It needs no monkey patching, and works with it (kazoo.handlers.eventlet)."""
 
 from __future__ import annotations
 
@@ -21,7 +21,7 @@ TimeoutError = KazooTimeoutError
 
 
 class AsyncResult(GreenResult):
-    """What a call that does not wait answers: who waits for it leaves the processor to other green threads."""
+    """The result of a call that does not wait: whoever waits for it leaves the processor to other green threads."""
 
 
 class SequentialEventletHandler(GreenHandler):
@@ -52,7 +52,7 @@ class SequentialEventletHandler(GreenHandler):
         return green_threading.RLock()
 
     def spawn(self, func: Callable[..., object], *args: Any, **kwargs: Any) -> Any:
-        """Calls a function in a green thread of its own, and answers the thread."""
+        """Calls a function in a green thread of its own, and returns the thread."""
         thread = green_threading.Thread(target=func, args=args, kwargs=kwargs, daemon=True)
         thread.start()
         return thread

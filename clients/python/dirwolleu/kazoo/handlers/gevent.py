@@ -1,4 +1,4 @@
-"""The handler for gevent. It wants no monkey patching, and takes it (kazoo.handlers.gevent)."""
+"""The handler for gevent. It needs no monkey patching, and works with it (kazoo.handlers.gevent)."""
 
 from __future__ import annotations
 
@@ -17,7 +17,7 @@ __all__ = ["AsyncResult", "KazooTimeoutError", "SequentialGeventHandler"]
 
 
 class AsyncResult(GreenResult):
-    """What a call that does not wait answers: who waits for it leaves the processor to other greenlets."""
+    """The result of a call that does not wait: whoever waits for it leaves the processor to other greenlets."""
 
 
 class SequentialGeventHandler(GreenHandler):
@@ -48,7 +48,7 @@ class SequentialGeventHandler(GreenHandler):
         return _lock.RLock()
 
     def spawn(self, func: Callable[..., object], *args: Any, **kwargs: Any) -> Any:
-        """Calls a function in a greenlet of its own, and answers the greenlet."""
+        """Calls a function in a greenlet of its own, and returns the greenlet."""
         return gevent.spawn(func, *args, **kwargs)
 
     def _wait_readable(self, descriptor: int) -> None:

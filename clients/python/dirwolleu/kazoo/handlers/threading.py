@@ -1,4 +1,4 @@
-"""The handler for threads: who calls a program's functions, and what a call that does not wait answers."""
+"""The handler for threads: it calls a program's functions, and makes the results of calls that do not wait."""
 
 from __future__ import annotations
 
@@ -38,7 +38,7 @@ class KazooTimeoutError(Exception):
 
 
 class AsyncResult:
-    """What a call that does not wait answers: a value or an exception, once (kazoo.interfaces.IAsyncResult)."""
+    """The result of a call that does not wait: a value or an exception, once (kazoo.interfaces.IAsyncResult)."""
 
     def __init__(self, handler: SequentialThreadingHandler) -> None:
         self._handler = handler
@@ -66,7 +66,7 @@ class AsyncResult:
         self._settle(None, exception)
 
     def get(self, block: bool = True, timeout: Optional[float] = None) -> Any:
-        """Answers the value or raises the exception. Raises `KazooTimeoutError` after `timeout` seconds."""
+        """Returns the value or raises the exception. Raises `KazooTimeoutError` after `timeout` seconds."""
         if block:
             self.wait(timeout)
         if not self._is_ready:
@@ -80,12 +80,12 @@ class AsyncResult:
         return self.get(block=False)
 
     def wait(self, timeout: Optional[float] = None) -> bool:
-        """Waits until it holds something, for at most this many seconds, and answers whether it does."""
+        """Waits until it holds something, for at most this many seconds, and returns whether it does."""
         with ending.resting(), self._condition:
             return self._condition.wait_for(self.ready, timeout)
 
     def rawlink(self, callback: Callable[[Any], object]) -> None:
-        """Has the handler call a function with this object once it holds something."""
+        """Lets the handler call a function with this object once it holds something."""
         with self._condition:
             if not self._is_ready:
                 if callback not in self._callbacks:
@@ -94,13 +94,13 @@ class AsyncResult:
         self._dispatch(callback)
 
     def unlink(self, callback: Callable[[Any], object]) -> None:
-        """Calls the function no more, unless that has happened."""
+        """Does not call the function any more, unless that has happened."""
         with self._condition:
             if callback in self._callbacks:
                 self._callbacks.remove(callback)
 
     def relay(self, callback: Callable[[Any], object]) -> None:
-        """Has a function called with this object in the thread that sets it. It is not to wait for anything."""
+        """Calls a function with this object in the thread that sets it. The function must not wait for anything."""
         with self._condition:
             if not self._is_ready:
                 self._relays.append(callback)
@@ -146,7 +146,7 @@ class _Worker(threading.Thread):
             _run(function)
 
     def end(self) -> None:
-        """Ends after what was put in before, which is waited for, though not without bound."""
+        """Ends after the functions that were put in before, and waits for them, up to a bound."""
         self._functions.put(None)
         if threading.current_thread() is self:
             return
@@ -158,9 +158,9 @@ class _Worker(threading.Thread):
 class SequentialThreadingHandler:
     """Calls watches one after the other in one thread, and the functions of async results in another.
 
-    A program may derive its own: `create_connection` is what each dial calls, and `spawn`, `event_object` and the
-    others are called where kazoo calls them. `select` and the sockets are here for those who override them; the client
-    itself waits by an event loop.
+    A program may derive its own: each dial calls `create_connection`, and `spawn`, `event_object` and the others are
+    called as kazoo calls them. `select` and the sockets are here for those who override them; the client itself waits
+    by an event loop.
     """
 
     name = "sequential_threading_handler"
@@ -198,7 +198,7 @@ class SequentialThreadingHandler:
             self._running = True
 
     def stop(self) -> None:
-        """Ends after the functions that wait. For one that does not return it waits 5 seconds."""
+        """Ends after the functions that wait. It waits 5 seconds for one that does not return."""
         with self._state_change:
             if not self._running:
                 return
@@ -257,31 +257,31 @@ class SequentialThreadingHandler:
         return threading.RLock()
 
     def async_result(self) -> AsyncResult:
-        """What a call that does not wait answers."""
+        """The result of a call that does not wait."""
         return AsyncResult(self)
 
     def spawn(self, func: Callable[..., object], *args: Any, **kwargs: Any) -> threading.Thread:
-        """Calls a function in a thread of its own, and answers the thread."""
+        """Calls a function in a thread of its own, and returns the thread."""
         thread = threading.Thread(target=func, args=args, kwargs=kwargs, daemon=True)
         thread.start()
         return thread
 
     def _soon(self, function: Function) -> None:
-        """Calls a function where those go on that wait by this handler, in order: for threads that is anywhere."""
+        """Calls a function in the thread of those that wait by this handler, in order: for threads that is any."""
         function()
 
     def _elsewhere(self, function: Callable[[], Any]) -> Any:
-        """Calls what holds a thread of the system up until something happens."""
+        """Calls a function that holds a thread of the system up until something happens."""
         return function()
 
     def _begin_elsewhere(self, function: Callable[[], Any]) -> AsyncResult:
-        """Calls it in a thread of its own, and answers what is set to its result."""
+        """Calls it in a thread of its own, and returns an object that is set to its result."""
         outcome = self.async_result()
         threading.Thread(target=utils.wrap(outcome)(function), daemon=True).start()
         return outcome
 
     def _tell_listeners(self, session: Any, function: Callable[[Any], object], argument: Any) -> None:
-        """Has a function called that calls listeners, in order. A session has a thread for that."""
+        """Lets a function be called that calls listeners, in order. A session has a thread for that."""
         session.tell_listeners(function, argument)
 
     def _dial(self, address: tuple[str, int], timeout: Optional[float]) -> _Socket:
@@ -289,5 +289,5 @@ class SequentialThreadingHandler:
         return self.create_connection(address=address, timeout=timeout)
 
     def dispatch_callback(self, callback: Callback) -> None:
-        """Has the thread of the watches call a function."""
+        """Lets the thread of the watches call a function."""
         self.callback_queue.put(lambda: callback.func(*callback.args))

@@ -1,4 +1,4 @@
-"""What handlers share: results, sockets, and what sets a result to what a function returns (kazoo.handlers.utils)."""
+"""Sockets, and wrappers that set a result to what a function returns, for handlers (kazoo.handlers.utils)."""
 
 from __future__ import annotations
 
@@ -74,7 +74,7 @@ def _wrapped(context: ssl.SSLContext, connection: socket.socket) -> socket.socke
 
 
 def capture_exceptions(async_result: AsyncResult) -> Callable[[Callable[..., Returned]], Callable[..., Optional[Returned]]]:
-    """Has a result be set to the exception that a function raises, which is not raised then."""
+    """Sets a result to the exception that a function raises, and does not raise it then."""
 
     def capture(function: Callable[..., Returned]) -> Callable[..., Optional[Returned]]:
         @functools.wraps(function)
@@ -91,7 +91,7 @@ def capture_exceptions(async_result: AsyncResult) -> Callable[[Callable[..., Ret
 
 
 def wrap(async_result: AsyncResult) -> Callable[[Callable[..., Returned]], Callable[..., Optional[Returned]]]:
-    """Has a result be set to what a function returns, or to the exception that it raises."""
+    """Sets a result to what a function returns, or to the exception that it raises."""
 
     def settle(function: Callable[..., Returned]) -> Callable[..., Optional[Returned]]:
         @capture_exceptions(async_result)

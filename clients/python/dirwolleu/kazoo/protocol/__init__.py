@@ -1,1 +1,1 @@
-"""What kazoo.protocol has of states, events and paths."""
+"""The states, events and paths of kazoo.protocol."""

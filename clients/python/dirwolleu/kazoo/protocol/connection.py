@@ -1,4 +1,6 @@
-"""What kazoo's harness for tests hands to `client._call`: to lose a connection, or a session (kazoo.protocol.connection)."""
+"""The markers that kazoo's harness for tests hands to `client._call` to lose a connection, or a session
+(kazoo.protocol.connection).
+"""
 
 from __future__ import annotations
 
@@ -13,7 +15,7 @@ _WAIT = 10.0
 
 
 def _end_elsewhere(address: tuple[str, int], number: int, password: bytes) -> None:
-    """Ends a session at its server over another connection, so that to its client it has expired. Raises `OSError`."""
+    """Ends a session at its server over another connection, so that it has expired for its client. Raises `OSError`."""
     connect = struct.pack(">iqiqi", 0, 0, 10000, number, len(password)) + password
     with socket.create_connection(address, _WAIT) as connection:
         connection.sendall(struct.pack(">i", len(connect)) + connect + _CLOSE)

@@ -4,9 +4,9 @@ from __future__ import annotations
 
 
 def normpath(path: str, trailing: bool = False) -> str:
-    """A path without empty names. Raises `ValueError` where a name is `.` or `..`.
+    """A path without empty names. Raises `ValueError` if a name is `.` or `..`.
 
-    Where `trailing` is true, a slash at its end stays.
+    If `trailing` is true, a slash at its end stays.
 
     >>> normpath("//a///b/")
     '/a/b'
@@ -19,7 +19,7 @@ def normpath(path: str, trailing: bool = False) -> str:
 
 
 def join(a: str, *p: str) -> str:
-    """The parts with slashes between them. A part that begins with a slash makes those before it be left out.
+    """The parts with slashes between them. If a part begins with a slash, those before it are left out.
 
     >>> join("/a", "b", "c")
     '/a/b/c'

@@ -6,7 +6,7 @@ from typing import Any, Callable, NamedTuple, Optional
 
 
 class KazooState:
-    """How a client stands to the servers, as its listeners are told."""
+    """The state of a client, as its listeners get it."""
 
     SUSPENDED = "SUSPENDED"
     """There is no connection, and the session may live."""
@@ -16,7 +16,7 @@ class KazooState:
 
 
 class KeeperState:
-    """How a session stands, as a watch is told."""
+    """The state of a session, as a watch gets it."""
 
     AUTH_FAILED = "AUTH_FAILED"
     CONNECTED = "CONNECTED"
@@ -27,18 +27,19 @@ class KeeperState:
 
 
 class EventType:
-    """What a watch tells."""
+    """The event of a watch."""
 
     CREATED = "CREATED"
     DELETED = "DELETED"
     CHANGED = "CHANGED"
     CHILD = "CHILD"
     NONE = "NONE"
-    """Nothing of the node: the watch has ended, with the connection or the session."""
+    """No event of the node: the watch has ended, with the connection or the session."""
 
 
 class WatchedEvent(NamedTuple):
-    """What a watch is called with, once: the type is one of `EventType`, the state one of `KeeperState`."""
+    """The argument with which a watch is called, once: the type is one of `EventType`, the state one of `KeeperState`.
+    """
 
     type: str
     state: str
@@ -55,7 +56,7 @@ class Callback(NamedTuple):
 
 
 class ZnodeStat(NamedTuple):
-    """What is known of a node, by the names of zookeeper.jute. Times are milliseconds since 1970."""
+    """The metadata of a node, by the names of zookeeper.jute. Times are milliseconds since 1970."""
 
     czxid: int
     mzxid: int

@@ -15,21 +15,21 @@ if TYPE_CHECKING:
 
 
 class Barrier:
-    """What holds clients back while its node is there. Lost connections and expired sessions are lived through."""
+    """Holds clients back while its node is there. It survives lost connections and expired sessions."""
 
     def __init__(self, client: KazooClient, path: str) -> None:
         self.client, self.path = client, path
 
     def create(self) -> None:
-        """Puts the barrier up, if it is not."""
+        """Puts the barrier up, if it is not up."""
         self.client._drive(lambda session: self._of(session)._create())
 
     def remove(self) -> bool:
-        """Takes the barrier away, and answers whether there was one."""
+        """Takes the barrier away, and returns whether there was one."""
         return bool(self.client._drive(lambda session: self._of(session)._remove()))
 
     def wait(self, timeout: Optional[float] = None) -> bool:
-        """Waits until there is no barrier, for at most this many seconds, and answers whether that came to pass."""
+        """Waits until there is no barrier, for at most this many seconds, and returns whether it is gone."""
         return bool(self.client._drive(lambda session: self._of(session)._wait(timeout)))
 
     def _of(self, session: Client) -> BaseBarrier[Client]:
@@ -47,7 +47,7 @@ class DoubleBarrier:
         self._identifier = identifier or ""
 
     def enter(self) -> None:
-        """Waits until all have come. If that fails, this one does not take part, as `participating` tells."""
+        """Waits until all have come. If that fails, this member does not take part, as `participating` shows."""
         try:
             self.participating = bool(self.client._drive(lambda session: self._of(session)._enter()))
         except KazooException:

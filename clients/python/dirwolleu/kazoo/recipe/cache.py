@@ -1,6 +1,6 @@
 """A tree of nodes that is kept as the servers have it (kazoo.recipe.cache).
 
-It is over `Client.tree`: all that is looked up between two events is of one moment, so no transaction is seen by half.
+It uses `Client.tree`: all look-ups between two events are of one moment, so no transaction is seen by half.
 """
 
 from __future__ import annotations
@@ -30,17 +30,17 @@ class NodeData(NamedTuple):
     path: str
     data: Optional[bytes]
     stat: ZnodeStat
-    """`cversion` and `aversion` are None: no watch tells of these."""
+    """`cversion` and `aversion` are None: no watch reports these."""
 
 
 class _Event(NamedTuple):
     event_type: int
     event_data: Optional[NodeData]
-    """The node of NODE_ADDED and NODE_UPDATED, and the one that was there of NODE_REMOVED."""
+    """The node of NODE_ADDED and NODE_UPDATED, and the former one of NODE_REMOVED."""
 
 
 class TreeEvent(_Event):
-    """What a listener is told: `event_type` is one of these, and `event_data` the node that it is about."""
+    """The argument of a listener: `event_type` is one of these, and `event_data` the node that it is about."""
 
     __slots__ = ()
 
@@ -51,7 +51,7 @@ class TreeEvent(_Event):
     CONNECTION_RECONNECTED = 4
     CONNECTION_LOST = 5
     INITIALIZED = 6
-    """All of the tree was told, at first or since the session was lost."""
+    """All of the tree was reported, at first or since the session was lost."""
 
     @classmethod
     def make(cls, event_type: int, event_data: Optional[NodeData]) -> TreeEvent:
@@ -69,8 +69,8 @@ _OF_STATES = {
 class TreeCache:
     """All nodes at and below a path, which are read again when they change, through lost connections and new sessions.
 
-    Each state of the tree is of one moment. Its changes are told one after the other by the handler: what is added after
-    its parent, what is removed before. `most` bounds the number of its nodes.
+    Each state of the tree is of one moment. The handler reports its changes one after the other: a new node after its parent,
+    a removed one before. `most` bounds the number of its nodes.
 
         cache = TreeCache(client, "/config")
         cache.listen(print)
@@ -92,7 +92,7 @@ class TreeCache:
         self._is_initialized = self._is_told = False
 
     def start(self) -> None:
-        """Begins to read, and makes the path's node if there is none. Raises `KazooException` where it was begun before."""
+        """Begins to read, and makes the path's node if there is none. Raises `KazooException` if it was begun before."""
         if self._state != self.STATE_LATENT:
             raise KazooException("a cache is started once, and not after it was closed")
         self._state = self.STATE_STARTED
@@ -101,7 +101,7 @@ class TreeCache:
         self._follow()
 
     def close(self) -> None:
-        """Reads no more, tells no more, and forgets what it has."""
+        """Reads no more, reports no more, and forgets its nodes."""
         self._state = self.STATE_CLOSED
         self._client.remove_listener(self._told_state)
         if self._tree is not None:
@@ -109,17 +109,17 @@ class TreeCache:
         self._snapshot = TreeSnapshot(self._path, 0, ())
 
     def listen(self, listener: Callable[[TreeEvent], object]) -> Callable[[TreeEvent], object]:
-        """Has a function called with each `TreeEvent`."""
+        """Calls a function with each `TreeEvent`."""
         self._listeners.append(listener)
         return listener
 
     def listen_fault(self, listener: Callable[[Exception], object]) -> Callable[[Exception], object]:
-        """Has a function called with each exception of a listener, and each reason why the tree can't be read."""
+        """Calls a function with each exception of a listener, and each reason why the tree can't be read."""
         self._fault_listeners.append(listener)
         return listener
 
     def get_data(self, path: str, default: Any = None) -> Any:
-        """The `NodeData` of a node, if there is one, else `default`. Raises `ValueError` where the path is not of the tree."""
+        """The `NodeData` of a node, if there is one, else `default`. Raises `ValueError` if the path is not in the tree."""
         node = self._snapshot.get(self._checked(path))
         return default if node is None else _data_of(node, self._snapshot)
 
@@ -144,13 +144,13 @@ class TreeCache:
             self._wake()
 
     def _wake(self) -> None:
-        """Within a step of the engine: has the handler look."""
+        """Within a step of the engine: makes the handler look."""
         if not self._is_told:
             self._is_told = True
             self._client.handler.dispatch_callback(Callback("cache", self._look, ()))
 
     def _look(self) -> None:
-        """Tells by what the newest snapshot differs from the one before."""
+        """Reports how the newest snapshot differs from the one before."""
         self._is_told = False
         tree = self._tree
         if tree is None or self._state != self.STATE_STARTED:

@@ -24,8 +24,8 @@ class _CuratorsCounter(BaseCounter["Client", int]):
 
 
 class Counter:
-    """An int or a float, as `default` is. Each change happens once, whoever else changes the number: one whose answer was lost is
-    looked for. With `support_curator` it is an int of 32 bits in the form of Curator's `SharedCount`.
+    """An int or a float, as `default` is. Each change happens once, whoever else changes the number: if its answer was lost, the
+    counter looks for it. With `support_curator` it is an int of 32 bits in the form of Curator's `SharedCount`.
 
         counter = client.Counter("/jobs")
         counter += 2

@@ -1,4 +1,4 @@
-"""An election: the leader is the one that holds a lock (kazoo.recipe.election)."""
+"""An election: the leader is the holder of a lock (kazoo.recipe.election)."""
 
 from __future__ import annotations
 
@@ -11,7 +11,7 @@ if TYPE_CHECKING:
 
 
 class Election:
-    """Calls a function while this candidate leads: a lock at the path is held."""
+    """Calls a function while this candidate leads: while it holds a lock at the path."""
 
     def __init__(self, client: KazooClient, path: str, identifier: Optional[str] = None) -> None:
         self.lock = client.Lock(path, identifier)
@@ -31,5 +31,5 @@ class Election:
         self.lock.cancel()
 
     def contenders(self) -> list[str]:
-        """What the candidates are called, the one that leads first."""
+        """The identifiers of the candidates, the leader's first."""
         return self.lock.contenders()

@@ -1,4 +1,4 @@
-"""Leases: who has taken one keeps it for a time, also while it does not run (kazoo.recipe.lease)."""
+"""Leases: a holder keeps one for a time, also while it does not run (kazoo.recipe.lease)."""
 
 from __future__ import annotations
 
@@ -19,17 +19,17 @@ _MOMENT = "%Y-%m-%dT%H:%M:%S"
 
 class NonBlockingLease:
     """A lease of one holder, for `duration` from now on. It is true if it was obtained: `identifier`, which is the name of the host
-    where it is None, had it already, or nobody has it any more.
+    if it is None, had it already, or nobody has it any more.
 
-    It does not wait for a holder. The clocks of the hosts tell who has it: they are to agree. kazoo's leases are of the
-    same nodes.
+    It does not wait for a holder. The clocks of the hosts decide who has it: they have to agree. kazoo's leases are of the same
+    nodes.
 
         if client.NonBlockingLease("/leases/report", datetime.timedelta(hours=1)):
             print("this host writes the report")
     """
 
     _version = 1
-    """The form in which the holder is written. A lease that was written in another one is not touched."""
+    """The form in which the holder is written. A lease in another form is not touched."""
 
     def __init__(
         self,
@@ -48,7 +48,7 @@ class NonBlockingLease:
         return self.obtained
 
     def _obtain(self) -> bool:
-        """Whether the lease is this one's from now on. A write of one that has lost the lock meanwhile is refused."""
+        """Whether the lease is this one's from now on. If this one has lost the lock meanwhile, its write is refused."""
         now = self._utcnow()
         try:
             data, stat = self._client.get(self._path)

@@ -1,6 +1,6 @@
 """Locks, by kazoo's names of nodes (kazoo.recipe.lock).
 
-A lock hands a contender to the proved core, and waits for what that tells: see `dirwolleu.Lock`.
+A lock hands a contender to the proved core, and waits for its reports: see `dirwolleu.Lock`.
 """
 
 from __future__ import annotations
@@ -52,8 +52,8 @@ class _News:
 class Lock:
     """An exclusive lock: of those that contend at a path, one holds at a time.
 
-    It is not reentrant. It is held if the proved core says so, as of the last seen zxid, and waits for all contenders with names of
-    kazoo. Beside contenders with names of Curator `acquire` raises an error, which says whose they are: those do not see this one.
+    It is not reentrant. It is held if the proved core says so, as of the last seen zxid, and waits for all contenders with names of kazoo.
+    Beside contenders with names of Curator `acquire` raises an error, which says whose they are: those do not see this one.
     `extra_lock_patterns` of others than kazoo raise `ConfigurationError`. A program that was paused may believe that it holds when another
     one does: see `dirwolleu.Lock`, which has a token against that.
 
@@ -86,21 +86,21 @@ class Lock:
 
     @property
     def is_acquired(self) -> bool:
-        """Whether the lock was taken and not released, and is not lost: with its session, or as its node was deleted."""
+        """Whether the lock was taken and not released, and is not lost: with its session, or because its node was deleted."""
         taken = self._taken
         return taken is not None and taken.shown() == taken.token
 
     def cancel(self) -> None:
-        """Has a wait for the lock end with `CancelledError`."""
+        """Ends a wait for the lock with `CancelledError`."""
         self.cancelled = True
         self.wake_event.set()
 
     def acquire(self, blocking: bool = True, timeout: Optional[float] = None, ephemeral: bool = True) -> bool:
-        """Takes the lock, and answers whether it has.
+        """Takes the lock, and returns whether it has.
 
-        Where `blocking` is false, it tries once. Raises `LockTimeout` where the one before it is there after `timeout`
-        seconds; it answers False if that time has passed otherwise. No contender is left then. Raises `ConfigurationError`
-        where the node is not to be `ephemeral`.
+        If `blocking` is false, it tries once. Raises `LockTimeout` if the contender before it is there after `timeout` seconds; it returns
+        False if that time has passed otherwise. No contender is left then. Raises `ConfigurationError` if the node is not to be
+        `ephemeral`.
         """
         if not ephemeral:
             raise ConfigurationError(
@@ -150,7 +150,7 @@ class Lock:
         return True
 
     def _drive(self, steps: Steps[Result], event: Any) -> Result:
-        """Does steps in this thread, which wait for news alone, by an event that nobody else waits for. Raises kazoo's errors."""
+        """Makes steps in this thread. They only wait for news, by an event that nobody else waits for. Raises kazoo's errors."""
         try:
             return drive(steps, lambda step: self._done(step, event))
         except own.MixedNamesError as error:
@@ -165,14 +165,14 @@ class Lock:
         return session
 
     def _mixed_names(self) -> BaseException:
-        """Says who was met, for people, as far as the names at the path can be had."""
+        """The error that says who was met, for people, as far as the names at the path can be had."""
         names: list[str] = []
         with contextlib.suppress(KazooException):
             names = self.client.get_children(self.path)
         return error_of(mixed_names(self._session()._engine, own_path(self.path), names, KAZOO))
 
     def _done(self, step: Step, event: Any) -> Optional[_News]:
-        """Does a step. One of `acquire`, which waits by `wake_event`, is ended by `cancel`: another thread may release meanwhile."""
+        """Makes a step. `cancel` ends one of `acquire`, which waits by `wake_event`: another thread may release meanwhile."""
         if not isinstance(step, Wait):
             return _News(self.client, event)
         is_ended = event is self.wake_event and self.cancelled
@@ -185,7 +185,7 @@ class Lock:
         return None
 
     def release(self) -> bool:
-        """Lets go of the lock, and answers whether it was held. Raises `ConnectionLoss` where its node may be there for a while."""
+        """Releases the lock, and returns whether it was held. Raises `ConnectionLoss` if its node may be there for a while."""
         taken, was_held = self._taken, self.is_acquired
         self.node = None
         self._taken = None  # after the node: another thread that has this lock takes it from here on, and sets the others
@@ -194,7 +194,7 @@ class Lock:
         return was_held
 
     def contenders(self) -> list[str]:
-        """What the contenders are called, in the order of their numbers. It is a look at the nodes of a moment, and decides nothing."""
+        """The identifiers of the contenders, in the order of their numbers. It shows the nodes of a moment, and decides nothing."""
         self.client.ensure_path(self.path)
         found = []
         for name in in_line(self._session()._engine, own_path(self.path), self.client.get_children(self.path)):

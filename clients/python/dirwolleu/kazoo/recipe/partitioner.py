@@ -25,14 +25,14 @@ Share = Callable[[str, list[str], Iterable[Any]], list[Any]]
 
 
 class PartitionState:
-    """How a partitioner stands."""
+    """The state of a partitioner."""
 
     ALLOCATING = "ALLOCATING"
     """The members are not at rest, or the locks of this one's part are not all held."""
     ACQUIRED = "ACQUIRED"
     """This one's part is its own."""
     RELEASE = "RELEASE"
-    """The members have changed: `release_set` is to be called."""
+    """The members have changed: call `release_set`."""
     FAILURE = "FAILURE"
     """The session is over, or the party was left."""
 
@@ -40,9 +40,9 @@ class PartitionState:
 class SetPartitioner:
     """Shares the members of a set out among those that take part, each of which holds a lock for each member of its part.
 
-    The program is to look at `state` again and again: while it is acquired, the partitioner is the members of its part;
-    where it is release, the program ends its work and calls `release_set`. `partition_func` takes the identifier, those of
-    all that take part, and the set, and answers a part. The party is to be at rest for `time_boundary` seconds.
+    The program has to look at `state` again and again: while it is acquired, the partitioner is the members of its part;
+    if it is release, the program ends its work and calls `release_set`. `partition_func` takes the identifier, those of
+    all that take part, and the set, and returns a part. The party has to be at rest for `time_boundary` seconds.
     `state_change_event` is set at each change of the state.
 
         shares = client.SetPartitioner("/shares", set=("a", "b", "c"))
@@ -86,12 +86,12 @@ class SetPartitioner:
 
     @property
     def failed(self) -> bool:
-        """Whether it takes part no more."""
+        """Whether it no longer takes part."""
         return self.state == PartitionState.FAILURE
 
     @property
     def release(self) -> bool:
-        """Whether `release_set` is to be called."""
+        """Whether to call `release_set`."""
         return self.state == PartitionState.RELEASE
 
     @property
@@ -105,11 +105,11 @@ class SetPartitioner:
         return self.state == PartitionState.ACQUIRED
 
     def wait_for_acquire(self, timeout: float = 30) -> None:
-        """Waits until it has its part, or takes part no more, for at most this many seconds: `state` says which."""
+        """Waits until it has its part, or no longer takes part, for at most this many seconds: `state` says which."""
         self._is_settled.wait(timeout)
 
     def release_set(self) -> None:
-        """Lets go of the part, and shares out again."""
+        """Releases the part, and shares out again."""
         self._part = []
         if not self._release_locks():
             self._fail_out()
@@ -122,7 +122,7 @@ class SetPartitioner:
         self._begin()
 
     def finish(self) -> None:
-        """Lets go of the part, and takes part no more."""
+        """Releases the part, and no longer takes part."""
         self._release_locks()
         self._fail_out()
 
@@ -143,7 +143,7 @@ class SetPartitioner:
         self.state_change_event.set()
 
     def _begin(self) -> None:
-        """Waits for the party to be at rest, and takes the part then, in a thread of its own."""
+        """Waits for the party to be at rest, and then takes the part in a thread of its own."""
         watch = PatientChildrenWatch(self._client, self._party_path, self._time_boundary)
         watch.start().rawlink(functools.partial(self._at_rest, self.state_id))
 
@@ -157,7 +157,7 @@ class SetPartitioner:
         self._client.handler.spawn(self._allocate, state_id, changed)
 
     def _told_change(self, state_id: int, _: object) -> None:
-        """The members have changed: what was acquired is to be released. While it is allocated, `_allocate` looks."""
+        """The members have changed: an acquired part is to be released. While it is allocated, `_allocate` looks."""
         with self._changes:
             if self.acquired and self.state_id == state_id + 1:
                 self._enter(PartitionState.RELEASE)
@@ -186,7 +186,7 @@ class SetPartitioner:
         self._begin_again(state_id)
 
     def _takes(self, lock: Any, state_id: int, changed: AsyncResult) -> bool:
-        """Whether a lock is held now. It is not waited for if the members change meanwhile."""
+        """Whether a lock is held now. It does not wait for the lock if the members change meanwhile."""
         while self._is_current(state_id) and not changed.ready():
             try:
                 if lock.acquire(timeout=self._longest_wait):
@@ -205,7 +205,7 @@ class SetPartitioner:
             self._begin()
 
     def _release_locks(self) -> bool:
-        """Lets go of all locks, and tells whether they are gone: tries for the timeout of the session."""
+        """Releases all locks, and returns whether they are gone: it tries for the timeout of the session."""
         until = time.monotonic() + self._client._granted_timeout()
         while self._locks:
             try:
@@ -231,6 +231,6 @@ class SetPartitioner:
 
 
 def _round_robin(identifier: str, members: Iterable[str], partitions: Iterable[Any]) -> list[Any]:
-    """Each takes every so-manieth member of the set, from its own place on."""
+    """Each takes every n-th member of the set, from its own place on, if n take part."""
     ranked = sorted(members)
     return sorted(partitions)[ranked.index(identifier) :: len(ranked)]

@@ -42,7 +42,7 @@ class BaseParty:
         self.participating = True
 
     def leave(self) -> bool:
-        """Takes part no more, and answers whether it did."""
+        """No longer takes part, and returns whether it did."""
         self.participating = False
         return bool(self.client.retry(self._leave))
 
@@ -92,7 +92,7 @@ class Party(BaseParty):
 
 
 class ShallowParty(BaseParty):
-    """Members whose identifiers are part of the names of their nodes, so that one call tells them all."""
+    """Members whose identifiers are part of the names of their nodes, so that one call brings all of them."""
 
     def __init__(self, client: KazooClient, path: str, identifier: Optional[str] = None) -> None:
         super().__init__(client, path, identifier)

@@ -23,14 +23,14 @@ def _check_priority(priority: int) -> None:
 
 
 class BaseQueue:
-    """What both queues are."""
+    """The base of both queues."""
 
     def __init__(self, client: KazooClient, path: str) -> None:
         self.client, self.path = client, path
 
 
 class Queue(BaseQueue):
-    """Entries that each go to one of those that take them: by priority, 0 first, then in the order of making.
+    """A queue whose entries each go to one taker: by priority, 0 first, then in the order of making.
 
     An entry that was put is there once, even if an answer was lost. It is deleted before it is worked on.
     """
@@ -40,7 +40,7 @@ class Queue(BaseQueue):
         return int(self.client._drive(lambda session: self._of(session)._size()))
 
     def get(self) -> Optional[bytes]:
-        """Takes the first entry out, and answers its data: None if there is none."""
+        """Takes the first entry out, and returns its data: None if there is none."""
         found: Optional[bytes] = self.client._drive(lambda session: self._of(session)._get(0))
         return found
 
@@ -55,8 +55,8 @@ class Queue(BaseQueue):
 
 
 class LockingQueue(BaseQueue):
-    """Entries that are locked by an ephemeral node as they are taken, and deleted by `consume`: where the session of its taker ends
-    before, another one takes the entry.
+    """A queue whose entries are locked by an ephemeral node as they are taken, and deleted by `consume`: if the session of the taker
+    ends before, another one takes the entry.
     """
 
     def __init__(self, client: KazooClient, path: str) -> None:
@@ -89,8 +89,8 @@ class LockingQueue(BaseQueue):
         self._commit(transaction)
 
     def get(self, timeout: Optional[float] = None) -> Optional[bytes]:
-        """Locks the first entry that nobody has locked, and answers its data. It waits for one for at most this many seconds, and then
-        answers None. Until that entry is consumed or released, it answers it again.
+        """Locks the first entry that nobody has locked, and returns its data. It waits for one for at most this many seconds, and then
+        returns None. Until that entry is consumed or released, it returns it again.
         """
         self._ensure_paths()
         until = None if timeout is None else time.monotonic() + timeout
@@ -116,11 +116,11 @@ class LockingQueue(BaseQueue):
         return bool(data == self.id)
 
     def consume(self) -> bool:
-        """Deletes the entry that was taken, and answers whether it was still locked."""
+        """Deletes the entry that was taken, and returns whether it was still locked."""
         return self._end(self._entries, self._locks)
 
     def release(self) -> bool:
-        """Leaves the entry that was taken to others, and answers whether it was still locked."""
+        """Leaves the entry that was taken to others, and returns whether it was still locked."""
         return self._end(self._locks)
 
     def _end(self, *folders: str) -> bool:

@@ -17,10 +17,10 @@ if TYPE_CHECKING:
 
 
 class Semaphore:
-    """A lock that `max_leases` hold at a time. All that use its path say the same number, which the node of the path has.
+    """A lock that `max_leases` hold at a time. All that use its path use the same number, which the node of the path has.
 
-    Leases are ephemeral nodes below the path. Whoever takes one holds the lock beside it, and a transaction makes the lease
-    only while the lock's node is there: so there are never more than the most, if all that take one do so.
+    Leases are ephemeral nodes below the path. Whoever takes one holds the lock beside it, and a transaction makes the lease only
+    while the lock's node is there: so there are never more than `max_leases`, if all that take one do so.
 
         semaphore = client.Semaphore("/downloads", "host-1", max_leases=3)
         with semaphore:
@@ -45,17 +45,17 @@ class Semaphore:
         return self._is_held and self._session == self.client._session_number()
 
     def cancel(self) -> None:
-        """Has a wait for a lease end with `CancelledError`."""
+        """Ends a wait for a lease with `CancelledError`."""
         self.cancelled = True
         self.wake_event.set()
         if self._lock is not None:
             self._lock.cancel()
 
     def acquire(self, blocking: bool = True, timeout: Optional[float] = None) -> bool:
-        """Takes a lease, and answers whether it has: at once, if `blocking` is false.
+        """Takes a lease, and returns whether it has: at once, if `blocking` is false.
 
-        Raises `LockTimeout` where there is none after `timeout` seconds, and `ValueError` where the path's node says that
-        there are more leases or fewer. What another call has taken is kept.
+        Raises `LockTimeout` if there is none after `timeout` seconds, and `ValueError` if the path's node says that there are
+        more leases or fewer. A lease that another call has taken is kept.
         """
         if self.is_acquired:
             return True
@@ -95,7 +95,7 @@ class Semaphore:
             self._lock.release()
 
     def _agree(self) -> None:
-        """Sees to it that the node of the path says how many leases there are. One that says something else is left as it is."""
+        """Makes sure that the node of the path says how many leases there are. One that says something else is left as it is."""
         while True:
             try:
                 data, _ = self.client.get(self.path)
@@ -111,7 +111,7 @@ class Semaphore:
             raise ValueError(f"{self.path} has {number} leases at most, and not {self.max_leases}")
 
     def _has_lease(self) -> bool:
-        """Whether the lease of an earlier try is there, whose answer was lost."""
+        """Whether the lease of an earlier try, whose answer was lost, is there."""
         stat = self.client.exists(self.create_path) if self._may_be_there else None
         return stat is not None and stat.ephemeralOwner == self._session
 
@@ -142,7 +142,7 @@ class Semaphore:
             raise ForceRetryError()  # the lock is lost
 
     def _clean_up(self) -> None:
-        """Deletes what a wait that has ended may have left."""
+        """Deletes the nodes that a wait that has ended may have left."""
         self._lock = None
         try:
             if self._may_be_there:
@@ -151,7 +151,7 @@ class Semaphore:
             pass  # there is none, or the session ends it
 
     def release(self) -> bool:
-        """Lets go of the lease, and answers whether there was one."""
+        """Releases the lease, and returns whether there was one."""
         return bool(self.client.retry(self._release))
 
     def _release(self) -> bool:
@@ -165,7 +165,7 @@ class Semaphore:
         return True
 
     def lease_holders(self) -> list[str]:
-        """What those are called that hold a lease, in no order."""
+        """The identifiers of those that hold a lease, in no order."""
         return list(self._holders())
 
     def _holders(self) -> Iterator[str]:
@@ -178,7 +178,7 @@ class Semaphore:
                 data, _ = self.client.retry(self.client.get, join(self.path, name))
                 yield (data or b"").decode()
             except NoNodeError:
-                pass  # it is let go of
+                pass  # it was released
 
     def __enter__(self) -> Semaphore:
         self.acquire()

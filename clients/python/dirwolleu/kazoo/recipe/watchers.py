@@ -1,7 +1,7 @@
 """Functions that are called with each new value (kazoo.recipe.watchers).
 
-A function is called with what was good right before: the core has kept the answer, and was told of no change since. An
-answer that is stale by then is read again, at once or with the event that tells of the change.
+The values were good right before: the core has kept the answer, and no report has ended it since. An answer that is stale by
+then is read again, at once or with the event that reports the change.
 """
 
 from __future__ import annotations
@@ -28,7 +28,7 @@ Read = TypeVar("Read")
 
 
 def _takes(function: Callable[..., object], count: int) -> bool:
-    """Whether a function can be called with this many values. One that does not tell can."""
+    """Whether a function can be called with this many values. One whose signature is not known can."""
     try:
         inspect.signature(function).bind(*range(count))
     except TypeError:
@@ -39,7 +39,7 @@ def _takes(function: Callable[..., object], count: int) -> bool:
 
 
 class _Watch:
-    """What both watches share: one function, and one reading at a time."""
+    """The base of both watches: one function, and one read at a time."""
 
     def __init__(self, client: KazooClient, path: str, goes_on: bool) -> None:
         self._client, self._path = client, path
@@ -49,7 +49,7 @@ class _Watch:
         self._retry = KazooRetry(max_tries=None, sleep_func=client.handler.sleep_func)
 
     def __call__(self, func: Function) -> Function:
-        """Calls a function from now on. Raises `KazooException` where there is one already."""
+        """Calls a function from now on. Raises `KazooException` if there is one already."""
         if self._func is not None or self._stopped:
             raise KazooException(f"A function has already been associated with this {type(self).__name__} instance.")
         self._func = func
@@ -63,8 +63,8 @@ class _Watch:
             self._look(event)
 
     def _is_followed(self, event: Optional[WatchedEvent], was_told: bool) -> bool:
-        """Whether another look comes after this one, whose answer is not good any more: at the next connection, or if
-        this one comes after a lost connection at the event that has ended the answer. So that change has its event.
+        """Whether another look comes after this one, whose answer is no longer good: at the next connection, or, if this one
+        comes after a lost connection, at the event that has ended the answer. So that change has its event.
         """
         return not self._client.connected or event is None and was_told
 
@@ -82,7 +82,7 @@ class _Watch:
             try:
                 self._tell(event)
             except ConnectionClosedError:
-                pass  # the client was stopped: the next session tells
+                pass  # the client was stopped: the next session looks
 
     def _tell(self, event: Optional[WatchedEvent]) -> None:
         raise NotImplementedError
@@ -104,8 +104,8 @@ class _Watch:
 class DataWatch(_Watch):
     """Calls a function with the data and the `ZnodeStat` of a node, at once and after each change.
 
-    If there is no node, both are None. A function that takes three values has the `WatchedEvent` too, which is None
-    at first and after a lost connection. One that returns False is called no more.
+    If there is no node, both are None. A function that takes three values gets the `WatchedEvent` too, which is None at first
+    and after a lost connection. After it returns False it is not called any more.
 
         @client.DataWatch("/config")
         def told(data, stat):
@@ -136,7 +136,7 @@ class DataWatch(_Watch):
         self._call(*((data, stat, event) if _takes(self._func, 3) else (data, stat)))
 
     def _read(self, event: Optional[WatchedEvent]) -> Optional[tuple[Optional[bytes], Optional[ZnodeStat]]]:
-        """A good answer, or None when another look tells."""
+        """A good answer, or None if another look brings one."""
         while True:
             found: tuple[Optional[bytes], Optional[ZnodeStat]] = self._retry(self._ask)
             if self._is_good(found[1]):
@@ -162,9 +162,9 @@ class DataWatch(_Watch):
 class ChildrenWatch(_Watch):
     """Calls a function with the names of a node's children, at once and after each change.
 
-    With `send_event` the function has the `WatchedEvent` too, which is None at first and after a lost connection. One
-    that returns False is called no more, and neither is one whose node is gone. With `allow_session_lost` false it is not
-    called after a lost connection.
+    With `send_event` the function gets the `WatchedEvent` too, which is None at first and after a lost connection. After it
+    returns False it is not called any more, nor after its node is gone. With `allow_session_lost` false it is not called
+    after a lost connection.
 
         @client.ChildrenWatch("/workers")
         def told(names):
@@ -197,7 +197,7 @@ class ChildrenWatch(_Watch):
         self._call(*((names, event) if self._sends_event else (names,)))
 
     def _read(self, event: Optional[WatchedEvent]) -> Optional[list[str]]:
-        """A good answer, or None when another look tells."""
+        """A good answer, or None if another look brings one."""
         ask = functools.partial(self._client.get_children, self._path, self._watcher)
         while True:
             names: list[str] = self._client.retry(ask)
@@ -218,7 +218,7 @@ class PatientChildrenWatch:
         self.client, self.path, self.time_boundary = client, path, time_boundary
 
     def start(self) -> AsyncResult:
-        """Answers a result that is set once the names are at rest: to these, and to a result that is set when they change."""
+        """Returns a result that is set once the names are at rest: to these, and to a result that is set when they change."""
         outcome = self.client.handler.async_result()
         self.client.handler.spawn(self._wait, outcome)
         return outcome
