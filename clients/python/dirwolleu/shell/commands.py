@@ -1,4 +1,4 @@
-"""The commands that read or change nodes: each makes its calls, and gives the lines, or the bytes, that are printed."""
+"""The commands that read or change nodes: each makes its calls, and gives the lines, or the bytes, to print."""
 
 from __future__ import annotations
 
@@ -29,7 +29,7 @@ Printed = Iterator[Union[str, bytes]]
 
 
 class Asking:
-    """A client, and how long its answers are waited for, all of them together."""
+    """A client, and how long to wait for its answers, all of them together."""
 
     def __init__(self, client: Client, seconds: float) -> None:
         self.client = client
@@ -79,14 +79,14 @@ def _child(asking: Asking, path: str, name: str) -> str:
 
 
 def _below(asking: Asking, chosen: argparse.Namespace, depth: int, path: str) -> list[str]:
-    """The paths of the nodes below a node that are gone through. The nodes at the greatest depth are not listed, unless one is the root."""
+    """The paths of the nodes below a node, if it is walked into. The nodes at the greatest depth are not listed, unless one is the root."""
     is_gone_through = chosen.depth is None or depth < chosen.depth
     names = _names(asking, path) if depth == 0 or is_gone_through else []
     return [_child(asking, path, name) for name in names] if is_gone_through else []
 
 
 def _walk(asking: Asking, chosen: argparse.Namespace) -> Iterator[str]:
-    """The path of a node and of each one below it, each before those below it. One that is gone when it is listed is left out."""
+    """The path of a node and of each one below it, each before those below it. A node that is gone when it is to be listed is left out."""
     left, count = [(0, chosen.path)], 0
     while left:
         if count == chosen.most:
@@ -201,4 +201,4 @@ RUNS: dict[str, Callable[[Asking, argparse.Namespace], Printed]] = {
     "getacl": getacl,
     "setacl": setacl,
 }
-"""What runs a command, by its name."""
+"""The function that runs a command, by its name."""

@@ -1,4 +1,4 @@
-"""What a client says of its connections, in the words of `zk_shell`."""
+"""The reports of a client on its connections, in the words of `zk_shell`."""
 
 from __future__ import annotations
 
@@ -12,7 +12,7 @@ from dirwolleu.shell.faults import Dialled
 NO_SESSION = "connected, but no session was accepted"
 _NOT_FOUND = "host not found"
 _OWN = "it was closed"
-"""The reason of an end that the client itself has made."""
+"""The reason of an end that the client itself has caused."""
 
 _WORDS = {
     "broken pipe": "a write failed",
@@ -32,7 +32,7 @@ def _reason(why: str) -> str:
 
 
 class Said(NamedTuple):
-    """Something that the client says of a connection: which, to which address, and why."""
+    """A report of the client on a connection: which, to which address, and why."""
 
     kind: str
     """dial, failed, connecting, ended, drop, connected, expired or closed."""
@@ -45,17 +45,17 @@ class Said(NamedTuple):
 
     @property
     def is_of_server(self) -> bool:
-        """Whether it is the server, and not the client, that has ended the session or the connection, or given cause to end it."""
+        """Whether the server, and not the client, has ended the session or the connection, or caused its end."""
         return self.kind in ("closed", "drop") or self.kind == "ended" and self.reason != _OWN
 
 
 class Connections(logging.Handler):
-    """Hears what the client's logger says, which names each connection and each session, and hands it on."""
+    """Handles the records of the client's logger, which names each connection and each session, and passes them on."""
 
     def __init__(self, hosts: str, tell: Callable[[Said], object]) -> None:
         super().__init__()
         self._words, self._named = dict[str, str](), dict[str, list[str]]()
-        """A server as the words name it: by how the client names it, and all that have a name."""
+        """The word of the command line for a server, by the client's name of it, and all words that have a name."""
         for word in hosts.partition("/")[0].split(","):
             name, port = hosts_of(word).servers[0]
             self._words[str(Place(name, name, port))] = word
@@ -88,24 +88,24 @@ class Connections(logging.Handler):
             self._tell(read(*arguments))
 
     def _address(self, place: str) -> str:
-        """The server as the words name it: of a name that was looked up, without the address."""
+        """The word of the command line for a server: if a name was looked up, without the address."""
         address = re.sub(r" \(.*\)$", "", place)
         return self._words.get(address, address)
 
     def failed(self, trouble: str) -> Optional[Dialled]:
-        """Which address it is whose last attempt has failed, and why."""
+        """The address whose last attempt has failed, and why."""
         address, colon, why = trouble.partition(": ")
         if not colon:
             return None
         unknown = self._named.get(address)
         if unknown is not None:
-            unknown.append(unknown.pop(0))  # which of them it was is not said: they take turns
+            unknown.append(unknown.pop(0))  # the logger does not say which of them it was: they take turns
             return Dialled(unknown[-1], _NOT_FOUND)
         return Dialled(self._address(address), _reason(why))
 
     def _failed(self, trouble: str) -> Said:
         dialled = self.failed(str(trouble))
-        if dialled is not None and dialled.reason == _NOT_FOUND:  # it was looked up to be dialled, and the logger names no dial then
+        if dialled is not None and dialled.reason == _NOT_FOUND:  # it was looked up for a dial, and the logger names no dial then
             self._tell(Said("dial", dialled.address))
         return Said("failed", *dialled) if dialled is not None else Said("failed", "", str(trouble))
 
@@ -120,7 +120,7 @@ class Connections(logging.Handler):
 
 
 class Attempts:
-    """What came of each address that was dialled, in the order in which they were dialled first."""
+    """How the last attempt at each address went, in the order in which they were first dialled."""
 
     def __init__(self) -> None:
         self._last: dict[str, str] = {}

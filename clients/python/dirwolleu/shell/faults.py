@@ -1,4 +1,4 @@
-"""How commands end, and what they say of it: the statuses and sentences of `zk_shell`."""
+"""The ends of commands: the statuses and sentences of `zk_shell`."""
 
 from __future__ import annotations
 
@@ -56,7 +56,7 @@ _REASONS = {
 _NUMBERED = ("C2", "C3", "D2", "D3")
 """The faults of a connection whose values are the numbers of their words, in their order."""
 _UNREAD = {"is cut off": "J1", "is below -1": "J2", "is neither 0 nor 1": "J3", "is not UTF-8": "J4"}
-"""Why a message does not read, by the end of its words."""
+"""Why a message does not parse, by the end of its words."""
 _UNANSWERED = (ConnectionLoss, SessionMovedError, ConnectionClosedError)
 _CLIENTS_OWN = {
     TooManyWatchesError: "65,536 paths of the side are watched, pending reads counted",
@@ -65,7 +65,7 @@ _CLIENTS_OWN = {
 
 
 class Ending(Exception):
-    """How a command ends: its status, and what it says."""
+    """The end of a command: its status, and its message."""
 
     def __init__(self, status: int, told: str = "") -> None:
         super().__init__(told)
@@ -94,7 +94,7 @@ def unread(name: str, error: OSError) -> Ending:
 
 
 def unwritten(error: Exception) -> Ending:
-    """Standard output failed. Whoever has closed it wants to hear nothing."""
+    """Standard output failed. Whoever has closed it gets no message."""
     if isinstance(error, BrokenPipeError):
         return Ending(STREAM)
     number = error.errno if isinstance(error, OSError) else None
@@ -109,7 +109,7 @@ def late(path: str, is_read: bool, was_sent: bool) -> Ending:
 
 
 def of_call(error: ZookeeperError, path: str, is_read: bool) -> Ending:
-    """How a command ends whose call has met this."""
+    """How a command ends after this error of its call."""
     if isinstance(error, NoNodeError):
         return Ending(NO_NODE, f"no node: {path}")
     if isinstance(error, (CallTimeoutError, NotConnectedError)):
@@ -130,7 +130,7 @@ def of_call(error: ZookeeperError, path: str, is_read: bool) -> Ending:
 
 
 def values_of(fault: str, words: str) -> list[str]:
-    """The values that a fault of a connection has after its code, by its words."""
+    """The values of a connection's fault after its code, by its words."""
     if fault in _NUMBERED:
         return re.findall(r"-?\d+", words)
     unread = re.fullmatch(r".* at byte (\d+) (.*)", words) if fault in ("C4", "C5") else None
@@ -138,7 +138,7 @@ def values_of(fault: str, words: str) -> list[str]:
 
 
 class Dialled(NamedTuple):
-    """What came of an address when it was dialled last."""
+    """How the last attempt at an address went."""
 
     address: str
     reason: str

@@ -10,10 +10,10 @@ from typing import Any, Optional, Union
 from dirwolleu.types import DataStat, Stat
 
 HEX_MARK = "hex:"
-"""What stands before hex that is printed instead of a text."""
+"""The mark before hex that is printed instead of a text."""
 
 _DIRECTIONS = "\u061c\u200e\u200f\u2028-\u202e\u2066-\u2069"
-"""The characters that turn the direction of what follows, or end a line."""
+"""The characters that change the direction of the text after them, or end a line."""
 _CONTROL = re.compile(f"[\0-\x1f\x7f-\x9f{_DIRECTIONS}]")
 _HIDDEN = re.compile(f"[\0-\x08\x0b-\x1f\x7f-\x9f{_DIRECTIONS}]")
 """The same without a tab and a line's end, which data may have."""
@@ -38,7 +38,7 @@ def escaped(spelled: bytes) -> str:
 
 
 def _shown(character: str) -> str:
-    """A character of a word that is quoted: one that is not seen, or joins the one before it, by its number."""
+    """A character of a quoted word. One that can't be seen, or joins the one before it, is shown by its number."""
     if character in _ESCAPES:
         return _ESCAPES[character]
     return character if character.isprintable() and not unicodedata.combining(character) else f"\\u{{{ord(character):x}}}"
@@ -59,7 +59,7 @@ def hex_word(data: Optional[bytes]) -> str:
 
 
 def _text_of(data: bytes) -> Optional[str]:
-    """Data as a text, or None if they are none, or drive a terminal."""
+    """Data as a text, or None if they are none, or would control a terminal."""
     try:
         text = data.decode()
     except UnicodeDecodeError:
@@ -102,5 +102,5 @@ def letters_of(perms: int) -> str:
 
 
 def perms_of(letters: str) -> int:
-    """Raises `KeyError` for a letter that is none."""
+    """The permissions of these letters. Raises `KeyError` for a letter that is none."""
     return sum({_LETTERS[letter] for letter in letters})

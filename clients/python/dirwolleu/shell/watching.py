@@ -1,4 +1,4 @@
-"""`watch`: a line whenever what is kept of a node, or known of a connection, is another than what was printed last."""
+"""`watch`: a line whenever the kept answer for a node, or the state of a connection, differs from the last line about it."""
 
 from __future__ import annotations
 
@@ -39,7 +39,7 @@ _SIDES = {"data": library.DATA_SIDE, "names": library.CHILDREN_SIDE}
 
 
 class Line(NamedTuple):
-    """A line in both forms: its words, and what JSON has of it."""
+    """A line in both forms: its words, and its fields in JSON."""
 
     words: str
     kind: str
@@ -47,7 +47,7 @@ class Line(NamedTuple):
 
 
 class Side(NamedTuple):
-    """What is watched of a node: its data, or the names below it. The path is below the one after the hosts, which is printed too."""
+    """A watched side of a node: its data, or the names below it. The path is below the one after the hosts, which is printed too."""
 
     path: str
     side: str
@@ -61,7 +61,7 @@ class Side(NamedTuple):
         return Line(f"{word(path)} {words} last {last}", kind, {"path": path, "side": self.side, **fields, "last": last})
 
     def look(self, client: aio.Client, is_text: bool) -> Line:
-        """What is kept of it now."""
+        """The kept answer for it now."""
         node, last = client.kept(self.path), client.last_zxid
         if node is not None and not node.exists and node.mark is Mark.GOOD:
             return self.line("absent", "does not exist", last, mark="good")
@@ -89,7 +89,7 @@ class Side(NamedTuple):
         return self.line("names", words, last, names=list(kept.names), pzxid=kept.pzxid, mark=mark)
 
     def refused(self, error: BaseException) -> Line:
-        """That a read is refused: by a server, or by the client itself."""
+        """The line that a read is refused: by a server, or by the client itself."""
         code, path = getattr(error, "code", None), self.whole()
         fault, why = _OWN.get(type(error), ("", _CODES.get(code or 0, "the server refuses it")))
         cause: Fields = {"fault": fault} if fault else {"code": code}
@@ -106,7 +106,7 @@ def _state_line(state: str, said: Said) -> Line:
 
 
 def _connection_lines(said: Said) -> Iterator[Line]:
-    """The lines of what the client says of a connection."""
+    """The lines of a report of the client on a connection."""
     if said.kind in _STATES:
         yield _state_line(_STATES[said.kind], said)
         if said.kind == "expired":
@@ -130,9 +130,9 @@ class Watch:
         self.is_connected_once = self.is_ending = self._is_closed = False
         self._said = ""
         self._shown: dict[Side, Fields] = {}
-        """What is watched, and what was printed last of it."""
+        """The watched sides, and what was last printed of each."""
         self._refused: dict[Side, Line] = {}
-        """Which refusal was printed last of a side that is not good since."""
+        """The refusal that was last printed of a side that was not good since."""
         self._asked = [*(self.side(path, "data") for path in chosen.data), *(self.side(path, "names") for path in chosen.children)]
         self._bounded = 0
 
@@ -145,7 +145,7 @@ class Watch:
         self.lines.put_nowait(object_line if self._chosen.json else f"{ms // 1000}.{ms % 1000:03} {line.words}")
 
     def hear(self, said: Said) -> None:
-        """The client has said something of a connection."""
+        """The client has reported on a connection."""
         before, self._said = self._said, said.kind
         if self.is_ending and (self._is_closed or not said.is_of_server) or before == "expired" and said.kind == "ended":
             return
@@ -157,9 +157,9 @@ class Watch:
             self.tell(line)
 
     def look(self, *sides: Side) -> None:
-        """Prints what is kept of each of these that is watched, unless all but the last seen zxid is as before."""
+        """Prints the kept answers of those of these sides that are watched, unless all but the last seen zxid is as before."""
         if self.is_ending and not self._is_closed and not self._engine.is_running:
-            return  # the client has let go of what it kept, and no server has ended the session
+            return  # the client has dropped its kept answers, and no server has ended the session
         for side in sides:
             line = side.look(self._client, self._chosen.text)
             kept = {**line.fields, "kind": line.kind, "last": 0}
@@ -171,7 +171,7 @@ class Watch:
         self.look(*(self.side(path, side) for side in _SIDES))
 
     def look_at_all(self) -> None:
-        """The state is another one."""
+        """The state has changed."""
         self.look(*self._shown)
         if not self._engine.is_running and not self.is_ending:
             error = self._engine.why_over("the client has stopped")
@@ -182,18 +182,18 @@ class Watch:
         self._shown.setdefault(side, {"path": side.whole(), "side": side.side, "kind": "none", "last": 0})
 
     def let_go(self, side: Side) -> None:
-        """It is printed once more, and then watched no more, unless the words ask for it."""
+        """Prints the side once more, and then watches it no longer, unless the command line asks for it."""
         self.look(side)
         if side not in self._asked:
             self._shown.pop(side, None)
 
     def show(self, side: Side) -> None:
-        """What is kept of a side is good."""
+        """The kept answer of a side is good."""
         self._refused.pop(side, None)
         self.look(side)
 
     def refuse(self, side: Side, error: BaseException) -> None:
-        """A read is refused, and made again. Each reason is printed once, but that the watch itself ends the session."""
+        """A read is refused, and made again. Each reason is printed once, except that the watch itself ends the session."""
         if isinstance(error, ConnectionClosedError):
             return
         line = side.refused(error)
@@ -202,7 +202,7 @@ class Watch:
             self.tell(line)
 
     def bound(self, is_bounded: bool) -> None:
-        """A tree has more nodes than its bound, or has them no more."""
+        """A tree has come to have more nodes than its bound, or no longer has."""
         if is_bounded and not self._bounded:
             words = f"bound {self._chosen.most} a tree has more nodes: no more of it are watched"
             self.tell(Line(words, "bound", {"nodes": self._chosen.most}))
@@ -222,7 +222,7 @@ class Watch:
 
     @contextlib.contextmanager
     def following(self) -> Iterator[None]:
-        """Within it, all that the words ask for is watched."""
+        """Watches all that the command line asks for, until the context ends."""
         with contextlib.ExitStack() as held:
             for side in self._asked:
                 self._follow(side, held)
@@ -232,7 +232,7 @@ class Watch:
             yield
 
     async def run(self) -> None:
-        """Connects, for as long as that takes. What ends that is handed on."""
+        """Connects, for as long as that takes, and passes on the error that ends it."""
         try:
             await self._client.start(None)
         except Exception as error:
@@ -240,7 +240,7 @@ class Watch:
 
 
 class WatchedTree(TreeView):
-    """A tree of a watch: what the session takes on of it, and lets go, is watched node by node."""
+    """A tree of a watch: it watches, node by node, what the session adds to the tree and removes from it."""
 
     def __init__(self, watch: Watch, host: Host, root: str, most: int) -> None:
         super().__init__(host, root, most, lambda: None)
@@ -293,7 +293,7 @@ def _print_rest(watch: Watch, write: Write) -> None:
 
 
 async def run(client: aio.Client, chosen: argparse.Namespace, write: Write) -> None:
-    """Watches until the time of the words is over. Raises `Ending` if no server has ever accepted the session by then, or
+    """Watches until the time of the command line is over. Raises `Ending` if no server has ever accepted the session by then, or
     credentials are refused.
     """
     watch = Watch(client, chosen)

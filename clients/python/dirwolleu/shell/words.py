@@ -1,4 +1,4 @@
-"""The words of the command line: which commands there are, what each takes, and what its help says."""
+"""The words of the command line: the commands, their options, and their help."""
 
 from __future__ import annotations
 
@@ -112,7 +112,7 @@ _SERVER = re.compile(rf"(?:\[([:{_NAMES}]+)\]|([{_NAMES}]+))(?::([1-9][0-9]{{0,4
 
 
 class Option(NamedTuple):
-    """An option: what its value is called, if it takes one, what help says of it, and how it is taken."""
+    """An option: the name of its value, if it takes one, its help, and how argparse takes it."""
 
     value: Optional[str]
     about: str
@@ -210,7 +210,7 @@ def _options_of(name: str) -> dict[str, Option]:
 
 
 def help_of(name: str) -> str:
-    """What help says of a command."""
+    """The help of a command."""
     command = COMMANDS[name]
     layout = argparse.ArgumentParser(
         f"{PROGRAM} {name}",
@@ -228,7 +228,7 @@ def help_of(name: str) -> str:
 
 
 def general_help() -> str:
-    """What help says without a command."""
+    """The help without a command."""
     width = max(map(len, COMMANDS)) + 2
     rows = [f"  {name:<{width}}{command.about.splitlines()[0].rstrip(',')}" for name, command in COMMANDS.items()]
     return "\n".join([
@@ -238,7 +238,7 @@ def general_help() -> str:
 
 
 class _Words:
-    """The words of a command, taken one after the other: the first that has a fault is told, as `zk_shell` does."""
+    """The words of a command, taken one after the other. Like `zk_shell`, it reports the first that has a fault."""
 
     def __init__(self, name: str, words: Sequence[str]) -> None:
         self._options = _options_of(name)
@@ -246,7 +246,7 @@ class _Words:
         if "[SERVERS]" in self._kinds and self._names_no_servers(words):
             self._kinds.remove("[SERVERS]")
         self.found = dict[str, str]()
-        """The words that are no options, by what they are."""
+        """The words that are no options, by their kinds."""
         self.chosen = argparse.Namespace()
         for option, (value, _, how) in self._options.items():
             setattr(self.chosen, how.get("dest", option), False if value is None else copy.copy(how.get("default")))
@@ -375,7 +375,7 @@ def _read_seed(chosen: argparse.Namespace) -> None:
 
 
 def _hosts_of_environment() -> str:
-    """The servers of a command whose words name none. Bytes that are no text are no server."""
+    """The servers of a command that names none. Bytes that are no text are no server."""
     hosts = os.environ.get("DIRWOLLEU_HOSTS") or "127.0.0.1:2181"
     return "DIRWOLLEU_HOSTS: not UTF-8" if re.search("[\ud800-\udfff]", hosts) else hosts
 
@@ -405,7 +405,7 @@ def _read_servers(chosen: argparse.Namespace, given: Optional[str]) -> None:
 
 
 def _check_path(path: str, chroot: str) -> None:
-    """Raises `Ending` if this is no path, or is none below the servers' one."""
+    """Raises `Ending` if this is no path, or makes none below the servers' one."""
     fault = path_fault(path) or path_fault(chroot + path if path != "/" else chroot or "/")
     if fault is not None:
         raise fault
@@ -435,7 +435,7 @@ def _bytes_of(word: str) -> Optional[bytes]:
 
 
 def read_file(chosen: argparse.Namespace) -> None:
-    """Reads the file that the words name, before a server is asked. Raises `Ending`."""
+    """Reads the file that the command line names, before a server is asked. Raises `Ending`."""
     if getattr(chosen, "file", None) is None:
         return
     try:
@@ -448,7 +448,7 @@ def read_file(chosen: argparse.Namespace) -> None:
 
 
 def read(name: str, words: Sequence[str]) -> Optional[argparse.Namespace]:
-    """What the words after a command's name say, or None if they ask for help. Raises `Ending`."""
+    """The options and arguments in the words after a command's name, or None if they ask for help. Raises `Ending`."""
     taken = _Words(name, words)
     if taken.asks_help:
         return None

@@ -1,7 +1,7 @@
 """ZooKeeper servers in memory at a socket: a loop of asyncio that moves bytes from and to the proved server.
 
-What is answered to a request, and which notices go before it, the proved server says; requests that it does not know are in `_raw`. What is
-here is tested and not proved: whose session a connection takes up, when servers learn from one another, and when a session ends.
+The proved server decides the answer to a request, and which notices go before it; `_raw` has the requests that it does not know. This
+module is tested and not proved: whose session a connection takes up, when servers learn from one another, and when a session ends.
 """
 
 from __future__ import annotations
@@ -30,8 +30,8 @@ def now_ms() -> int:
 def hold(port: int) -> socket.socket:
     """A socket that has a port of 127.0.0.1, or for 0 a free one, and does not listen.
 
-    So the system gives the port to nobody else while a server is down: neither to another server, which clients of this one would reach, nor
-    to a connection, which this one could not listen beside. Raises `OSError`, which names the address.
+    So the system gives the port to nobody else while a server is down: neither to another server, which clients of this one would reach,
+    nor to a connection, beside which this one could not listen. Raises an `OSError` that names the address.
     """
     held = socket.socket()
     held.setsockopt(socket.SOL_SOCKET, socket.SO_REUSEADDR, 1)
@@ -46,8 +46,8 @@ def hold(port: int) -> socket.socket:
 
 
 class Session:
-    """A session: its server in memory, which has the history that all have, the password that its client was told, its connection, and
-    the paths of its ephemeral nodes.
+    """A session: its server in memory, which has the history that all have, the password that its client got, its connection, and the paths
+    of its ephemeral nodes.
 
     It lasts until it is closed or `expire` comes, however long its client is silent.
     """
@@ -59,12 +59,12 @@ class Session:
         self.connection: Optional[Connection] = None
         self.ephemerals: set[str] = set()
         self.users: list[str] = []
-        """Whom its client has named as itself on this connection."""
+        """The users as whom its client has identified itself on this connection."""
         self.is_lagging = False
         """Whether its server learns nothing until it is asked for a change, or to catch up."""
 
     def learn(self, other: Bench) -> None:
-        """Takes over what another server has more, and tells what was watched."""
+        """Learns what another server has more, and sends the notices of watched nodes."""
         while self.bench.learn(other):
             self.bench.take(1)
 
@@ -74,14 +74,14 @@ class Session:
             self.connection.abort()
 
     def answer(self, frame: bytes) -> list[bytes]:
-        """Hands in a request, and gives the frames that the server sends."""
+        """Hands in a request, and returns the frames that the server sends."""
         self.bench.hear(frame)
         self.bench.process(now_ms())
         return list(frames.split(self.bench.say()))
 
 
 class Ensemble:
-    """The servers: the sessions, their connections, and what all have in common, the history of `log`."""
+    """The servers: the sessions, their connections, and the history that they share, `log`."""
 
     def __init__(self) -> None:
         self.log = Bench(0)
@@ -125,7 +125,7 @@ class Ensemble:
         return session
 
     def spread(self, source: Bench) -> None:
-        """All sessions learn what this server has more than they have, and their clients are told what they watch."""
+        """All sessions learn what this server has more than they have, and their clients get the notices of what they watch."""
         if source.zxid() == self.log.zxid() and source is not self.log:
             return
         while source is not self.log and self.log.learn(source):
@@ -135,7 +135,7 @@ class Ensemble:
                 self.catch_up(session)
 
     def catch_up(self, session: Session) -> None:
-        """The server of a session learns all that there is, and its client is told what it watches."""
+        """The server of a session learns all that there is, and its client gets the notices of what it watches."""
         session.learn(self.log)
         if session.connection is not None:
             session.connection.send(session.bench.say())
@@ -148,7 +148,7 @@ class Ensemble:
                 self.catch_up(session)
 
     def change(self, kind: int, path: str, data: bytes = b"") -> int:
-        """Changes a node, as a session would that is none of these. Answers 0, or why it is not admitted."""
+        """Changes a node, as another session would. Returns 0, or the code for which the change is not admitted."""
         code = self.log.change(now_ms(), kind, path, data)
         if code == 0:
             if kind == DELETED:
@@ -163,7 +163,7 @@ class Ensemble:
             session.ephemerals.discard(path)
 
     def note(self, session: Session, kind: int, body: bytes, reply: Reply) -> None:
-        """Notes which ephemeral nodes and which ACLs there are, by a request that was answered with no error. A trial leaves nothing."""
+        """Notes the ephemeral nodes and the ACLs that a request has made, which was answered with no error. A trial leaves nothing."""
         record = Record(body)
         if self.sessions.get(session.number) is not session:
             return
@@ -177,7 +177,7 @@ class Ensemble:
                 session.ephemerals.add(path)
 
     def trial_of(self, session: Session) -> Session:
-        """A session that knows what this one knows, of which nobody learns, to try changes on."""
+        """A session that knows all that this one knows, and from which nobody learns, to try changes on."""
         trial = self.new_session(session.number)
         trial.bench.connect(1)
         trial.answer(frames.framed(struct.pack(">iqiqi", 0, 0, 10_000, 0, 16) + bytes(16) + b"\0"))
@@ -205,7 +205,7 @@ class Ensemble:
         self.end(session)
 
     async def obey(self, line: str) -> str:
-        """Does a command. Answers `done`, `refused: CODE`, a number, or `unknown: ` and the line."""
+        """Does a command. Returns `done`, `refused: CODE`, a number, or `unknown: ` and the line."""
         word, _, rest = line.rstrip("\r\n").partition(" ")
         path, _, text = rest.partition(" ")
         if word in COMMANDS:
@@ -214,7 +214,7 @@ class Ensemble:
         return await self.obey_word(line.split()) or f"unknown: {line.strip()}"
 
     async def obey_word(self, words: list[str]) -> Optional[str]:
-        """Does another command. Answers none if it is unknown."""
+        """Does another command. Returns None if it is unknown."""
         if words == ["connections"]:
             return str(self.came)
         if words == ["drop"]:
@@ -248,7 +248,7 @@ class Connection(asyncio.Protocol):
         self.transport = transport
         self.server.connections[self] = None
         self.server.came += 1
-        if not self.server.is_up():  # it was taken before, and is made a turn or two of the loop later
+        if not self.server.is_up():  # the loop had taken it before, and makes it a turn or two later
             self.abort()
 
     def connection_lost(self, _: Optional[Exception]) -> None:
@@ -264,7 +264,7 @@ class Connection(asyncio.Protocol):
         self.transport.abort()
 
     def close(self) -> None:
-        """Ends the connection after what was sent."""
+        """Ends the connection after the bytes that were sent."""
         self.forget()
         self.transport.close()
 

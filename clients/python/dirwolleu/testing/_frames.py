@@ -1,4 +1,4 @@
-"""Frames of the client protocol, as zookeeper.jute spells them: what the socket loop has to see of them."""
+"""Frames of the client protocol, as zookeeper.jute spells them: the parts that the socket loop has to see."""
 
 from __future__ import annotations
 
@@ -23,7 +23,7 @@ EPHEMERAL, SEQUENTIAL, CONTAINER, TTL = 1, 2, 4, 5
 """The flags of a create, and the numbers of other kinds of nodes: one more is a sequential node with a TTL."""
 
 LONGEST = 4_194_304
-"""The greatest length of a frame that is taken: more than real servers take by default, which is 1,048,575."""
+"""The greatest length of a frame that is accepted: more than real servers accept by default, which is 1,048,575."""
 
 
 class Record(Reader):
@@ -36,7 +36,7 @@ class Record(Reader):
         return int(struct.unpack(">q", self._take(8))[0])
 
     def text(self) -> str:
-        """A text. One that is null is empty."""
+        """A text. A null one is empty."""
         try:
             return (self.buffer() or b"").decode()
         except UnicodeDecodeError:
@@ -51,7 +51,7 @@ class Record(Reader):
 
 
 class Reply(NamedTuple):
-    """What a server sent: a reply, or a notice, whose xid is -1."""
+    """A message of a server: a reply, or a notice, whose xid is -1."""
 
     xid: int
     zxid: int
@@ -68,7 +68,7 @@ def put_reply(xid: int, zxid: int, code: int, body: bytes = b"") -> bytes:
 
 
 def split(output: bytes) -> Iterator[bytes]:
-    """The frames of what a server sent, each with its length."""
+    """The frames in a server's output, each with its length."""
     while output:
         end = 4 + int.from_bytes(output[:4], "big")
         yield output[:end]

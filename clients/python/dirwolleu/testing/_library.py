@@ -52,11 +52,13 @@ _HERE = pathlib.Path(__file__).resolve().parent
 
 
 class BenchError(Exception):
-    """The library answers what it is not to answer to this program."""
+    """The library returns a code that it must not return to this program."""
 
 
 def _find() -> str:
-    """The file of the library: what the environment names, else what lies in the package, else what a checkout has built or brings along."""
+    """The file of the library: the one that the environment names, else the one in the package, else the one that a checkout has built or
+    brings along.
+    """
     named = os.environ.get("DIRWOLLEU_BENCH")
     if named:
         return named
@@ -90,20 +92,20 @@ class Bench:
         self._handle = _Handle()
         self._room = create_string_buffer(ROOM)
         self.is_open = False
-        """Whether a server had the connection when it was last asked what it says."""
+        """Whether a server had the connection when its output was last asked for."""
         _done(_LIBRARY.dw_bench_open(byref(self._handle), session))
 
     def __del__(self) -> None:
         _LIBRARY.dw_bench_close(byref(self._handle))
 
     def change(self, now_ms: int, kind: int, path: str, data: bytes = b"", owner: int = 0) -> int:
-        """Another session changes a node. Answers 0, or why the tree does not admit it."""
+        """Another session changes a node. Returns 0, or the code for which the tree does not admit it."""
         text = path.encode()
         result = _LIBRARY.dw_bench_change(byref(self._handle), now_ms, kind, owner, text, len(text), data, len(data))
         return _done(result, NOT_PATH, BAD_ARGUMENTS, NO_NODE, NO_CHILDREN_FOR_EPHEMERALS, NODE_EXISTS, NOT_EMPTY)
 
     def learn(self, other: Bench) -> bool:
-        """Takes over the next transaction that the other one has and this one has not. Whether there is one."""
+        """Learns the next transaction that the other one has and this one has not. Returns whether there is one."""
         return _done(_LIBRARY.dw_bench_learn(byref(self._handle), byref(other._handle)), NONE) == OK
 
     def zxid(self) -> int:
@@ -118,11 +120,11 @@ class Bench:
         self.is_open = False
 
     def hear(self, data: bytes) -> None:
-        """Hands in what the client sent."""
+        """Hands in the bytes that the client sent."""
         _done(_LIBRARY.dw_bench_hear(byref(self._handle), data, len(data)))
 
     def process(self, now_ms: int) -> bool:
-        """Processes the next whole request. Whether there is one."""
+        """Processes the next whole request. Returns whether there is one."""
         return _done(_LIBRARY.dw_bench_process(byref(self._handle), now_ms), NONE) == OK
 
     def take(self, server: int) -> None:
@@ -138,5 +140,5 @@ class Bench:
         return said
 
     def expire(self, is_expired: bool) -> None:
-        """Clients are told that the session has expired, or are admitted again."""
+        """From now on clients hear that the session has expired, or are admitted again."""
         _done(_LIBRARY.dw_bench_expire(byref(self._handle), is_expired))

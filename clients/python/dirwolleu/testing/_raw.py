@@ -1,10 +1,10 @@
-"""Requests that the model of a server has not, and that the proved server would end the connection at: those that clients ask for by
+"""Requests that the model of a server does not have, and at which the proved server would end the connection: those that clients ask for by
 `dw_session_raw`, and credentials. No other request is answered here.
 
-What the model has of them the proved server is asked: each change, whether a node is there, its data, names and Stat. What is not proved: a
-transaction is tried on another server that has learned all, and then made by one change after the other, so each has a zxid of its own, and a
-check compares the version of a Stat; ACLs are kept beside and admit everybody; the scheme `digest` takes any credentials; sync answers at once;
-and a container and a node with a TTL stay until somebody deletes them.
+The proved server is asked for the parts that the model has: each change, whether a node is there, its data, names and Stat. The rest is not
+proved: a transaction is tried on another server that has learned all, and then made by one change after the other, so each has a zxid of
+its own, and a check compares the version of a Stat; ACLs are kept beside and admit everybody; the scheme `digest` takes any credentials;
+sync answers at once; and a container and a node with a TTL stay until somebody deletes them.
 """
 
 from __future__ import annotations
@@ -40,11 +40,11 @@ RUNTIME_INCONSISTENCY, BAD_VERSION, AUTH_FAILED = -2, -103, -115
 ANY_VERSION = -1
 OPEN_ACL = struct.pack(">ii", 1, 31) + jute.text("world") + jute.text("anyone")
 ACL_VERSION = slice(40, 44)
-"""Where a Stat has the version of the ACL."""
+"""The place of the ACL's version in a Stat."""
 
 
 class Refused(Exception):
-    """A request that is answered with an error code."""
+    """A request whose answer is an error code."""
 
     def __init__(self, code: int) -> None:
         super().__init__(code)
@@ -59,7 +59,7 @@ class Acl(NamedTuple):
 
 
 def ask(session: Session, kind: int, body: bytes, notices: list[bytes]) -> Reply:
-    """Asks the server in memory. What else it sends goes to the notices."""
+    """Asks the server in memory. Its other frames go to the notices."""
     output = session.answer(frames.framed(struct.pack(">ii", 1, kind) + body))
     if not output:
         raise Malformed
@@ -68,7 +68,7 @@ def ask(session: Session, kind: int, body: bytes, notices: list[bytes]) -> Reply
 
 
 def stat_of(session: Session, path: str, notices: list[bytes]) -> bytes:
-    """The Stat of a node that is there."""
+    """The Stat of a node. Raises `Refused` if there is none."""
     reply = ask(session, EXISTS, jute.text(path) + b"\0", notices)
     if reply.code != OK:
         raise Refused(reply.code)
@@ -84,7 +84,7 @@ def sync(_server: Ensemble, _session: Session, record: Record, _notices: list[by
 
 
 def number_below(server: Ensemble, session: Session, folder: str) -> str:
-    """The digits of the next sequential node below a path that ends with a slash, which another server finds by making one."""
+    """The digits of the next sequential node below a path that ends with a slash. Another server finds them by making one."""
     trial = server.trial_of(session)
     trial.learn(session.bench)
     reply = ask(trial, CREATE, jute.text(f"{folder}n") + jute.text("") + OPEN_ACL + struct.pack(">i", SEQUENTIAL), [])
@@ -159,7 +159,7 @@ def take_parts(record: Record) -> list[tuple[int, bytes]]:
 
 
 def operate(server: Ensemble, session: Session, kind: int, part: bytes, notices: list[bytes]) -> bytes:
-    """Does an operation of a transaction, and gives its result."""
+    """Does an operation of a transaction, and returns its result."""
     if kind == CREATE2:
         return create2(server, session, Record(part), notices)
     if kind == CHECK:
@@ -184,7 +184,9 @@ END = put_header(ERROR, -1, True)
 
 
 def refused_part(server: Ensemble, session: Session, parts: list[tuple[int, bytes]]) -> tuple[int, int]:
-    """The place of the first operation that is not admitted after those before it, with its code, or the number of all with 0."""
+    """The place of the first operation that is not admitted after those before it, with its code; the number of all operations and 0 if
+    there is none.
+    """
     trial = server.trial_of(session)
     for place, (kind, part) in enumerate(parts):
         try:
@@ -209,7 +211,7 @@ def put_texts(texts: list[str]) -> bytes:
 
 
 def read_one(session: Session, kind: int, path: str, notices: list[bytes]) -> bytes:
-    """What a read of several brings."""
+    """The result of one read among several."""
     reply = ask(session, kind, jute.text(path) + b"\0", notices)
     if reply.code != OK:
         return put_header(ERROR, reply.code) + struct.pack(">i", reply.code)
@@ -255,7 +257,7 @@ def who_am_i(_server: Ensemble, session: Session, _record: Record, _notices: lis
 
 
 def introduce(_server: Ensemble, session: Session, record: Record, _notices: list[bytes]) -> bytes:
-    """Takes credentials."""
+    """Takes a credential."""
     record.integer()
     if record.text() != "digest":
         raise Refused(AUTH_FAILED)
@@ -277,11 +279,11 @@ ANSWERS: dict[int, Callable[[Ensemble, Session, Record, list[bytes]], bytes]] = 
     frames.MULTI: transact,
     frames.AUTH: introduce,
 }
-"""The body of the reply to each of these requests. All others are the proved server's."""
+"""The body of the reply to each of these requests. The proved server answers all others."""
 
 
 def answer(server: Ensemble, session: Session, xid: int, kind: int, record: Record) -> tuple[list[bytes], bool]:
-    """The frames that are sent for a request, and whether the connection ends after them: so it does where credentials are refused."""
+    """The frames to send for a request, and whether the connection ends after them: it does if credentials are refused."""
     notices = list[bytes]()
     try:
         body, code = ANSWERS[kind](server, session, record, notices), OK

@@ -1,4 +1,4 @@
-"""The server in memory in a thread of its own, as a test has it."""
+"""The server in memory in a thread of its own, as tests use it."""
 
 from __future__ import annotations
 
@@ -21,25 +21,25 @@ Result = TypeVar("Result")
 
 
 class _Running(NamedTuple):
-    """What a server has while it runs."""
+    """The parts of a server while it runs."""
 
     ensemble: Ensemble
     loop: asyncio.AbstractEventLoop
     thread: threading.Thread
     held: socket.socket
-    """Has the port, also while nobody listens there."""
+    """It has the port, also while nobody listens there."""
 
 
 class Server:
     """A ZooKeeper server in memory, at a port of 127.0.0.1.
 
     Use it by `with` or `async with`, or call `start` and `close`. It runs in a thread of its own, and any thread may call it, an event loop
-    too: no function waits for a client. When a function returns, what it does is done, and clients have been sent what they are told of it.
+    too: no function waits for a client. When a function returns, its work is done, and the notices of it have been sent to clients.
 
-    Each session has a server of its own, and all servers learn each change at once, unless they `lag`. A session ends when its client closes
-    it and by `expire`, never by silence. The clock of its nodes is that of the system.
+    Each session has a server of its own, and all servers learn each change at once, unless they `lag`. A session ends when its client
+    closes it and by `expire`, never by silence. The clock of its nodes is that of the system.
 
-    A function that takes a `session` takes its number, a client's `session_id`, and without one it is of all sessions. It raises
+    A function that takes a `session` takes its number, a client's `session_id`; without one it acts on all sessions. It raises
     `LookupError` if there is no such session, and each raises `RuntimeError` if the server is not running.
     """
 
@@ -68,7 +68,7 @@ class Server:
         running, self._running = self._running, None
         if running is None:
             return
-        if running.thread.is_alive():  # it is not in a child that was forked
+        if running.thread.is_alive():  # not in a child that was forked
             asyncio.run_coroutine_threadsafe(_end(running.ensemble), running.loop).result()
             running.loop.call_soon_threadsafe(running.loop.stop)
             running.thread.join()
@@ -98,7 +98,7 @@ class Server:
 
     @property
     def hosts(self) -> str:
-        """What a client takes as its hosts: `127.0.0.1:PORT`."""
+        """The hosts for a client: `127.0.0.1:PORT`."""
         return f"127.0.0.1:{self.port}"
 
     @property
@@ -117,7 +117,7 @@ class Server:
         return self._do(lambda ensemble: ensemble.came)
 
     def create(self, path: str, value: bytes = b"", *, makepath: bool = False) -> int:
-        """Makes a node, as another client does, and gives the zxid of that. With `makepath` it makes the nodes above it too.
+        """Makes a node, as another client does, and returns the zxid of that. With `makepath` it makes the nodes above it too.
 
         Raises `NodeExistsError`, of the parent `NoNodeError` and `NoChildrenForEphemeralsError`, and `ValueError` if the path is none.
         """
@@ -127,11 +127,11 @@ class Server:
         return self._change(MADE, path, value)
 
     def set(self, path: str, value: bytes) -> int:
-        """Writes a node's data, as another client does, and gives the zxid of that. Raises `NoNodeError`."""
+        """Writes a node's data, as another client does, and returns the zxid of that. Raises `NoNodeError`."""
         return self._change(WRITTEN, path, value)
 
     def delete(self, path: str) -> int:
-        """Deletes a node, as another client does, and gives the zxid of that. Raises `NoNodeError` and `NotEmptyError`."""
+        """Deletes a node, as another client does, and returns the zxid of that. Raises `NoNodeError` and `NotEmptyError`."""
         return self._change(DELETED, path, b"")
 
     def drop(self, session: Optional[int] = None) -> None:
@@ -139,7 +139,7 @@ class Server:
         self._do(lambda ensemble: ensemble.drop() if session is None else _named(ensemble, session)[0].drop())
 
     def expire(self, session: Optional[int] = None) -> None:
-        """Ends a session, or all: its ephemeral nodes are deleted and its connection is closed, and its client learns of it when it connects."""
+        """Ends a session, or all: deletes its ephemeral nodes and closes its connection; its client learns of it when it connects."""
 
         def end(ensemble: Ensemble) -> None:
             for one in _named(ensemble, session):
@@ -149,10 +149,10 @@ class Server:
 
     @contextlib.contextmanager
     def lag(self, session: Optional[int] = None) -> Iterator[None]:
-        """A context in which the server of a session, or of each session that there is, learns nothing of what others change.
+        """A context in which the server of a session, or of each session that there is, learns nothing of the changes by others.
 
-        It answers reads by what it knows. If its client asks for a change or for `sync` it learns all first, as any server of ZooKeeper does,
-        and its client is told before it has the answer. At the end of the context it learns all.
+        It answers reads by what it knows. If its client asks for a change or for `sync` it learns all first, as any server of ZooKeeper
+        does, and its client gets the notices before the answer. At the end of the context it learns all.
         """
         behind = self._do(lambda ensemble: _named(ensemble, session))
         self._do(lambda ensemble: ensemble.lag(behind, True))
@@ -162,7 +162,7 @@ class Server:
             self._do(lambda ensemble: ensemble.lag(behind, False))
 
     def stop(self) -> None:
-        """Closes each connection and listens no more, as a server that is killed. Sessions, nodes and the port stay for `restart`."""
+        """Closes each connection and stops listening, as a server that is killed. Sessions, nodes and the port stay for `restart`."""
         self._do(Ensemble.go_down)
 
     def restart(self) -> None:
@@ -180,7 +180,7 @@ class Server:
         return self._running
 
     def _do(self, function: Callable[[Ensemble], Result]) -> Result:
-        """Calls a function in the thread of the server, and gives what it returns or raises what it raises."""
+        """Calls a function in the thread of the server, and returns what it returns or raises what it raises."""
         running, done = self._alive(), Future[Result]()
 
         def run() -> None:
