@@ -1,5 +1,5 @@
 #!/usr/bin/env python3
-"""The server in memory at a socket with moves that are hostile: they say when bytes go, cut them short, or answer nonsense.
+"""The server in memory at a socket with hostile moves: they decide when bytes go, cut them short, or answer nonsense.
 
 Without a word and a command of its own it does what server.py does. README.md beside this file names them.
 """
@@ -18,12 +18,14 @@ from dirwolleu.testing import _ensemble
 
 
 class Cut:
-    """Where connections are to end: after this many bytes more, of all connections together. None where no cut is to come."""
+    """The byte after which connections end: after this many bytes more, of all connections together. None if no cut is to
+    come.
+    """
 
     left: Optional[int] = None
 
     def leave(self, data: bytes) -> tuple[bytes, bool]:
-        """What passes of these bytes, and whether the connection ends after that."""
+        """The part of these bytes that passes, and whether the connection ends after that."""
         if self.left is None or len(data) <= self.left:
             self.left = None if self.left is None else self.left - len(data)
             return data, False
@@ -52,7 +54,7 @@ class Ensemble(_ensemble.Ensemble):
             connection.go_on()
 
     def spare(self) -> str:
-        """Forgets the cut that is to come. Answers `done`, or `spared` where there was one."""
+        """Forgets the cut that is to come. Returns `done`, or `spared` if there was one."""
         is_spared = any(cut.left is not None for cut in self.cuts.values())
         for cut in self.cuts.values():
             cut.left = None
@@ -76,7 +78,7 @@ class Ensemble(_ensemble.Ensemble):
 
 
 class Connection(_ensemble.Connection):
-    """A connection of a client. While the server is mute, what comes and what is to be sent is put by."""
+    """A connection of a client. While the server is mute, it puts by the bytes that come and those to send."""
 
     server: Ensemble
 
@@ -128,7 +130,7 @@ class Connection(_ensemble.Connection):
                 self._pass_on(data[place : place + piece])
 
     def _cut(self) -> None:
-        """Ends the connection after what was written: so the client has just that."""
+        """Ends the connection after the bytes that were written, so that the client has just those."""
         self.forget()
         self._paced.clear()
         if not (self._is_cut or self.transport.is_closing()):

@@ -24,14 +24,14 @@ import hostile  # noqa: E402
 
 
 LAST = 512
-"""A number of a file above those that a server opens: so it is closed last, and who reads from it is told of the end of all."""
+"""A number of a file above those that a server opens: so it is closed last, and its reader sees the end of all."""
 
 
 def be_server(words: list[str], file: int) -> NoReturn:
-    """Is a server with these words, whose standard input and output are a file, and ends this process.
+    """Becomes a server with these words, whose standard input and output are a file, and ends this process.
 
-    It ends at once: an interpreter that ends by itself writes to all memory that it shares with whoever has forked it, which takes longer than
-    all that a server does.
+    It ends at once: an interpreter that ends by itself writes to all memory that it shares with the process that has forked it, which takes
+    longer than all that a server does.
     """
     status = 1
     try:
@@ -50,13 +50,13 @@ def be_server(words: list[str], file: int) -> NoReturn:
 
 
 def prepare_forks() -> None:
-    """Nobody waits for the processes that are forked from now on, and what is there stays shared with them as long as it can."""
+    """Nobody waits for the processes that are forked from now on, and the memory that is there stays shared with them as long as it can."""
     signal.signal(signal.SIGCHLD, signal.SIG_IGN)
     gc.freeze()
 
 
 def read_line(connection: socket.socket) -> bytes:
-    """A line, or what comes before the end."""
+    """A line, or the bytes before the end."""
     line = b""
     while not line.endswith(b"\n") and (byte := connection.recv(1)):
         line += byte
@@ -69,14 +69,14 @@ def make(listener: socket.socket) -> None:
         if os.fork() == 0:
             listener.close()
             line = read_line(connection)
-            if not line:  # nobody wants one
+            if not line:  # nobody asks for one
                 os._exit(0)
             be_server(json.loads(line), connection.detach())
 
 
 def main() -> None:
-    """It is a group of processes of its own, which no interrupt of a terminal reaches. In a session of its own the servers would get less of a busy
-    processor than the tests that wait for them: the system's scheduler shares by sessions.
+    """Runs in a group of processes of its own, which no interrupt of a terminal reaches. In a session of its own the servers would get less
+    of a busy processor than the tests that wait for them: the system's scheduler shares by sessions.
     """
     os.setpgid(0, 0)
     prepare_forks()

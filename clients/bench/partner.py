@@ -1,4 +1,4 @@
-"""What the tests of clients meet: the server in memory, in a process of its own, and servers that a test writes itself."""
+"""The servers for tests of clients: the server in memory, in a process of its own, and servers that a test writes itself."""
 
 from __future__ import annotations
 
@@ -26,7 +26,7 @@ WAIT = 60.0
 
 @functools.cache
 def begin_making() -> tuple[subprocess.Popen[str], int]:
-    """What makes partners, and its port. It ends with the last process that was forked from this one after the first call."""
+    """The process that makes partners, and its port. It ends with the last process that was forked from this one after the first call."""
     command = [sys.executable, "-B", str(pathlib.Path(__file__).with_name("maker.py"))]
     maker = subprocess.Popen(command, stdin=subprocess.PIPE, stdout=subprocess.PIPE, text=True)
     assert maker.stdout is not None
@@ -60,7 +60,7 @@ class Partner:
         self.host = f"127.0.0.1:{self.port}"
 
     def ask(self, command: str) -> str:
-        """Hands in a command, and gives the answer."""
+        """Hands in a command, and returns the answer."""
         self._commands.sendall(f"{command}\n".encode())
         return self._answers.readline().strip()
 
@@ -72,7 +72,7 @@ class Partner:
                 raise AssertionError(f"{command}: {answer}")
 
     def stop(self) -> None:
-        """Ends the process, unless it has ended. What it held is lost."""
+        """Ends the process, unless it has ended. Its data are lost."""
         if self._answers.closed:
             return
         with self._commands, self._answers:
@@ -89,7 +89,7 @@ class Asked(NamedTuple):
 
 
 class Connected(NamedTuple):
-    """What a ConnectRequest says."""
+    """The fields of a ConnectRequest."""
 
     last_zxid: int
     timeout_ms: int
@@ -102,7 +102,7 @@ STAT = struct.pack(">qqqqiiiqiiq", 5, 5, 0, 0, 0, 0, 0, 0, 3, 0, 5)
 
 
 class Peer:
-    """A connection, as a server that a test writes has it. Each of its functions raises `OSError` where it is over."""
+    """A connection, as a server that a test writes has it. Each of its functions raises `OSError` if it is over."""
 
     def __init__(self, connection: socket.socket) -> None:
         self.connection = connection
@@ -120,13 +120,13 @@ class Peer:
         return Connected(last_zxid, timeout_ms, session)
 
     def admit(self, timeout_ms: Optional[int] = None) -> Connected:
-        """Accepts the session, with the timeout that is asked for or another one."""
+        """Accepts the session, with the requested timeout or another one."""
         asked = self.take_connect()
         self.send(struct.pack(">iiq", 0, timeout_ms or asked.timeout_ms, asked.session or 7) + PASSWORD + b"\0")
         return asked
 
     def requests(self, timeout_ms: Optional[int] = None) -> Iterator[Asked]:
-        """Accepts the session, and gives each request as it comes."""
+        """Accepts the session, and yields each request as it comes."""
         self.admit(timeout_ms)
         while True:
             yield self.take()
@@ -142,7 +142,8 @@ class Peer:
         self.connection.sendall(data)
 
     def finish(self) -> None:
-        """Sends no more, and takes what comes until the connection is over: so what was sent arrives, also where more came than was read.
+        """Sends no more, and takes what comes until the connection is over: so the bytes that were sent arrive, also if more came than
+        was read.
         """
         self.connection.shutdown(socket.SHUT_WR)
         while True:
@@ -182,7 +183,7 @@ def data_reply(asked: Asked, data: bytes, zxid: int = 5) -> bytes:
 
 
 class Listener:
-    """What takes connections at a port of its own, in a thread of its own, until it is stopped."""
+    """Takes connections at a port of its own, in a thread of its own, until it is stopped."""
 
     def __init__(self) -> None:
         self._listener = socket.create_server(("127.0.0.1", 0))
@@ -206,7 +207,7 @@ class Listener:
 
 
 class RawServer(Listener):
-    """A server of which a test writes what it does: each connection is served by a function, in a thread of its own."""
+    """A server whose behaviour a test writes: a function serves each connection, in a thread of its own."""
 
     def __init__(self, serve: Callable[[Any], object], peer: type[Peer] = Peer) -> None:
         self._serve, self._peer = serve, peer

@@ -2,7 +2,7 @@
 """A ZooKeeper server in memory at a socket, for tests of clients: that of `dirwolleu.testing`, by lines of commands.
 
 It listens on 127.0.0.1, and the first line that it prints is `listening PORT`. Lines on its standard input are
-commands, each answered by one line; it ends where its standard input ends. README.md beside this file names the
+commands, each answered by one line; it ends when its standard input ends. README.md beside this file names the
 commands.
 """
 

@@ -25,7 +25,7 @@ class Caller(Peer):
         super().__init__(socket.create_connection(("127.0.0.1", port), timeout=WAIT))
 
     def heard(self) -> Optional[bytes]:
-        """The next payload, or None where the connection is over."""
+        """The next payload, or None if the connection is over."""
         try:
             return self.take_payload()
         except ConnectionError:

@@ -43,7 +43,9 @@ def read_commands(loop: asyncio.AbstractEventLoop, commands: asyncio.Queue[str])
 
 
 async def write_through_fence(client: aio.Client, path: str, held: aio.Held) -> None:
-    """Says by which token it holds and at which zxid, and writes the token through the fence, which takes none below the one that it has."""
+    """Prints by which token it holds and at which zxid, and writes the token through the fence, which accepts none below the one that it
+    has.
+    """
     zxid = client.last_zxid
     if held.is_held:
         say(f"holds {held.token} {zxid}")

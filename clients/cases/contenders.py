@@ -30,21 +30,21 @@ NAMES = {
     "kazoo": ("kazoo",),
     "curator": ("curator",),
 }
-"""Which names the contenders of a library can have."""
+"""The names that the contenders of a library can have."""
 OURS = ("python", "c", "rust")
-"""The libraries whose contenders heed those with other names."""
+"""The libraries whose contenders notice those with other names."""
 KINDS = ("lock", "read", "write", "election")
 PAIRS = (("lock", "lock"), ("write", "write"), ("write", "read"), ("read", "write"), ("read", "read"), ("election", "election"))
-"""Which kinds contend with each other in all libraries: the first holds, the second comes after it."""
+"""The kinds that contend with each other in all libraries: the first holds, the second comes after it."""
 CALM = 1.0
-"""How long a second contender is seen to wait, in seconds."""
+"""How long a second contender is watched while it waits, in seconds."""
 WAIT = 120.0
-"""The longest that is waited for one thing, in seconds: a busy machine takes less."""
+"""The longest wait for one thing, in seconds: a busy machine takes less."""
 AT_ONCE = 6
 
 
 class Fault(Exception):
-    """Something is not as it is to be."""
+    """Something is not as it should be."""
 
 
 class Side(NamedTuple):
@@ -180,7 +180,7 @@ class GivingUp(Try):
 
 
 class Matrix:
-    """All that is tried."""
+    """All that this script tries."""
 
     def __init__(self, hosts: str, commands: dict[str, list[str]]) -> None:
         self.hosts, self.commands = hosts, commands
@@ -215,7 +215,7 @@ class Matrix:
 
 
 def outcome(one: Try) -> str:
-    """What is wrong, or nothing."""
+    """The fault of a try, or an empty text."""
     try:
         one.run()
     except Fault as fault:

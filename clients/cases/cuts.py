@@ -31,7 +31,7 @@ CHANGES = {"create": bench.MADE, "set": bench.WRITTEN, "delete": bench.DELETED}
 
 
 class Fault(Exception):
-    """Something is not as it is to be."""
+    """Something is not as it should be."""
 
 
 class Counts(NamedTuple):
@@ -52,7 +52,7 @@ class Case(NamedTuple):
     begin: list[Row]
     counts: list[Counts]
     rows: list[Row]
-    """Those of which connections are cut."""
+    """The rows whose connections are cut."""
 
 
 class Cut(NamedTuple):
@@ -79,18 +79,18 @@ def cases_in(text: str) -> dict[str, Case]:
 
 
 class Link:
-    """The connection, the servers, and what the bytes say."""
+    """The connection, the servers, and the contents of the bytes."""
 
     def __init__(self, subjects: list[list[str]]) -> None:
         self.bench = bench.Bench(NUMBER)
         self.taken = {1: 0, 2: 0}
         self.server = 1
-        """The one that the session is connected to, or was last."""
+        """The server that the session is connected to, or was last."""
         self.dialled: Optional[int] = None
         self.is_there = self.is_leaving = self.is_new = False
-        """Whether there is a connection, whether what was sent comes on it and nothing else, and whether nothing was sent to the server yet."""
+        """Whether there is a connection, whether it brings only what was sent already, and whether nothing was sent to the server yet."""
         self.coming = self.frames = b""
-        """What the server has sent and has not come, and what has come of a frame."""
+        """The bytes that the server has sent and that have not come, and the part of a frame that has come."""
         self.asked: dict[int, tuple[int, str]] = {}
         """The reads that are under way: each by its xid, with its type and path."""
         self.seen = 0
@@ -122,7 +122,7 @@ class Link:
         self.connections += 1
 
     def leave(self) -> None:
-        """Nothing more comes, and the connection is to be found over."""
+        """Nothing more comes, and the session has yet to find that the connection is over."""
         self.bench.cut()
         self.coming, self.is_leaving = b"", True
 
@@ -131,14 +131,14 @@ class Link:
         self.dialled, self.is_there = None, False
 
     def admit(self) -> None:
-        """The server admits the session: it is not behind. It takes what it lacks."""
+        """The server admits the session: it is not behind. It learns the transactions that it does not have."""
         self.server = self.server_asked
         if self.taken[self.server] < self.seen:
             raise Fault(f"a server at {self.taken[self.server]} admits a session that has seen {self.seen}")
         self.take_all(self.server)
 
     def _pass(self, way: str, count: int) -> tuple[int, bool]:
-        """How many of these bytes pass, and whether the last one that is to pass is among them."""
+        """How many of these bytes pass, and whether the last one that may pass is among them."""
         end = self.ends[way]
         if end is not None:
             count = min(count, end - self.passed[way])
@@ -173,7 +173,7 @@ class Link:
             self.bench.expire(False)
 
     def _note(self, frame: bytes) -> None:
-        """A request. A path has no more reads under way than subjects, and but one of its data and one of its names."""
+        """A request. A path has no more reads under way than subjects, and at most one of its data and one of its names."""
         xid, kind = struct.unpack_from(">ii", frame, 4)
         if kind == SET_WATCHES:
             return
@@ -201,7 +201,8 @@ class Link:
         return bytes(data)
 
     def _hear(self, data: bytes) -> None:
-        """What is answered is under way no more. The answer to a ConnectRequest has no xid, and comes while nothing is asked."""
+        """A read whose answer has come is no longer under way. The answer to a ConnectRequest has no xid, and comes while nothing is asked.
+        """
         self.frames += data
         while len(self.frames) >= 4:
             end = 4 + int(struct.unpack_from(">i", self.frames)[0])
@@ -215,7 +216,7 @@ class Link:
 
 
 def text_of(path: str, data: Optional[bytes], stat: DataStat) -> str:
-    """The line of a node. What follows from it is as the servers have it."""
+    """The line of a node. The fields that follow from it are as the servers have them."""
     follows = 1000 * stat.czxid, 1000 * stat.mzxid, len(data or b""), 0
     if (stat.ctime, stat.mtime, stat.data_length, stat.ephemeral_owner) != follows:
         raise Fault(f"{path} has {stat}")
@@ -223,12 +224,12 @@ def text_of(path: str, data: Optional[bytes], stat: DataStat) -> str:
 
 
 class Play:
-    """A session that follows subjects: each has its place as its ticket."""
+    """A session that follows subjects: the ticket of each is its place."""
 
     def __init__(self, cut: Cut) -> None:
         self.subjects: list[list[str]] = []
         self.shown: dict[int, list[str]] = {}
-        """The lines of each subject when it was told last that it is good, or that a tree is whole."""
+        """The lines of each subject at the last report that it is good, or that a tree is whole."""
         self.link, self.now, self.piece = Link(self.subjects), 0, PIECES[-1]
         self.session = Session(TIMEOUT_MS, SEED, addresses=ADDRESSES)
         self._cut = cut
@@ -278,7 +279,7 @@ class Play:
             raise Fault(f"{action} is told")
 
     def _go_on(self) -> bool:
-        """What is under way goes on by a step. Whether there was something."""
+        """Makes the next step of what is under way. Returns whether there was one."""
         link, session = self.link, self.session
         if data := link.take(self.piece):
             self._perform(session.received(self.now, data))
@@ -296,7 +297,7 @@ class Play:
         return True
 
     def _is_due(self) -> bool:
-        """Whether a step is due at this moment: a tree is to be tended."""
+        """Whether a step is due at this moment: a tree needs it."""
         due = self.session.deadline()
         return due is not None and due <= self.now
 
@@ -370,7 +371,7 @@ def play(case: Case, cut: Cut) -> Link:
 
 
 def cuts_of(counts: Counts, size: int, every: int) -> Iterator[Cut]:
-    """After each byte, of those whose number and that of the size make a multiple."""
+    """Cuts after each byte whose number, with that of the size added, is a multiple of `every`."""
     first = -size % every or every
     for sent in range(first, 1 + counts.sent, every):
         yield Cut(sent, None, PIECES[size])
@@ -379,7 +380,8 @@ def cuts_of(counts: Counts, size: int, every: int) -> Iterator[Cut]:
 
 
 def try_case(case: Case, every: int) -> None:
-    """Plays it in pieces of each size: without a cut, where as many bytes pass as the row says, or fewer in small pieces, and with each cut."""
+    """Plays it in pieces of each size: without a cut, when as many bytes pass as the row says, or fewer in small pieces, and with each cut.
+    """
     wanted, cuts = case.counts[0], 0
     for size, piece in enumerate(PIECES):
         link = play(case, Cut(None, None, piece))

@@ -1,4 +1,5 @@
-"""A contender by kazoo: kazoo_contender.py HOST:PORT PATH KIND NAMES. README.md says what it prints and reads. Names are kazoo's alone."""
+"""A contender by kazoo: kazoo_contender.py HOST:PORT PATH KIND NAMES. README.md says what it prints and reads. NAMES is kazoo's alone.
+"""
 
 from __future__ import annotations
 
@@ -22,7 +23,7 @@ def tell_lost(state: str) -> None:
 
 
 class Contender:
-    """What contends, in a thread of its own."""
+    """A contender, in a thread of its own."""
 
     def __init__(self, client: Any, path: str, kind: str) -> None:
         makes = {"lock": client.Lock, "read": client.ReadLock, "write": client.WriteLock, "election": client.Election}

@@ -1,8 +1,8 @@
 #!/usr/bin/env python3
-"""Tries the records of sessions in each language, with programs that do what they are told: recording.py LANGUAGE:COMMAND.., as `run` has them.
+"""Tries the records of sessions in each language, with programs that obey commands: recording.py LANGUAGE:COMMAND.., as `run` has them.
 
-The server is this test, and what its records are to be was written by hand, by zookeeper.jute and the lines of `zk_shell replay`. It is the same in
-each language, except moments, and where what comes is cut.
+The server is this test, and its expected records were written by hand, by zookeeper.jute and the lines of `zk_shell replay`. They are the
+same in each language, except moments, and the places at which the bytes that come are cut.
 """
 
 from __future__ import annotations
@@ -91,7 +91,7 @@ REPLAYED = [
     "data full 656e64 5 5 0 0 0 0 3 good",
     "answer 6 5 done",
 ]
-"""What a replay prints of it besides what is sent and the states, with a look-up before the close."""
+"""The lines that a replay prints besides the frames that are sent and the states, with a look-up before the close."""
 
 SHOWN = [
     "> 0 length 45 connect protocolVersion 0 lastZxidSeen 0 timeOut 10000 sessionId 0 readOnly 0",
@@ -108,7 +108,7 @@ def same(what: str, found: object, wanted: object) -> None:
 
 
 class Server:
-    """What the session meets: two connections, of which the first is ended after the second read."""
+    """The server of the session: two connections, of which the first ends after the second read."""
 
     def __init__(self) -> None:
         self.changed, self.cut = threading.Event(), threading.Event()
@@ -120,7 +120,7 @@ class Server:
         (self.go_on_first if len(self.connects) == 1 else self.go_on_second)(peer)
 
     def take_credential(self, peer: Peer) -> bytes:
-        """The answer to it."""
+        """The answer to a credential."""
         same("the credential", peer.take().body, struct.pack(">i", 0) + framed(b"digest", SECRET))
         return struct.pack(">iqi", -4, 5, 0)
 
@@ -145,7 +145,7 @@ class Server:
 
 
 class Program:
-    """A program that is told lines, and answers by lines, and writes a record."""
+    """A program that gets commands by lines, answers by lines, and writes a record."""
 
     def __init__(self, command: list[str], hosts: str, record: str) -> None:
         words = [*command, hosts, "0", record]
@@ -159,12 +159,12 @@ class Program:
             same(command, self.process.stdout.readline().rstrip("\n"), wanted)
 
     def end(self) -> str:
-        """What it has said on standard error."""
+        """Its standard error."""
         return self.process.communicate(timeout=WAIT)[1]
 
 
 def shell(command: list[str], lines: list[str]) -> list[str]:
-    """What `zk_shell` prints of lines."""
+    """The output of `zk_shell` for lines."""
     told = subprocess.run([SHELL, *command], input="".join(f"{line}\n" for line in lines), capture_output=True, text=True, timeout=WAIT)
     same(f"{command} says", told.stderr, "")
     same(f"{command} ends with", told.returncode, 0)
@@ -172,7 +172,7 @@ def shell(command: list[str], lines: list[str]) -> list[str]:
 
 
 def without_moments(lines: list[str]) -> list[str]:
-    """The lines of a record except its moments. What came is joined, wherever it was cut."""
+    """The lines of a record except its moments. Bytes that came are joined, wherever they were cut."""
     kept: list[str] = []
     moments = [int(line.split()[1]) for line in lines if line.startswith("now ")]
     same("the moments", moments, sorted({0, *moments}))
@@ -185,7 +185,7 @@ def without_moments(lines: list[str]) -> list[str]:
 
 
 def begun(command: list[str], record: str) -> tuple[Server, Program]:
-    """A session that writes a record, and has written, told a credential, and shown what it follows."""
+    """A session that writes a record, and has written, sent a credential, and shown what it follows."""
     server = Server()
     program = Program(command, server.raw.host, record)
     program.do(f"create {PATH} one", PATH)
@@ -196,7 +196,7 @@ def begun(command: list[str], record: str) -> tuple[Server, Program]:
 
 
 def try_a_run(command: list[str], record: pathlib.Path) -> None:
-    """A session that writes, follows, is cut and is closed: its record by hand, no secret in it, and what it says when it is played again."""
+    """A session that writes, follows, is cut and is closed: its record by hand, no secret in it, and the output when it is replayed."""
     server, program = begun(command, str(record))
     server.changed.set()
     program.do("next", "data two")
@@ -217,7 +217,7 @@ def try_a_run(command: list[str], record: pathlib.Path) -> None:
 
 
 def try_shell(lines: list[str]) -> None:
-    """Plays a record again, which is of the run above, and shows its frames."""
+    """Replays a record of the run above, and shows its frames."""
     close = lines.index("call 6 close")
     replayed = shell(["replay"], [*lines[:close], f"peek data {WORD}", *lines[close:]])
     sent = [line.replace("> ", "send ") for line in lines if line.startswith("> ") and "fffffffc00000064" not in line]
@@ -229,7 +229,7 @@ def try_shell(lines: list[str]) -> None:
 
 
 def try_a_full_disk(command: list[str]) -> None:
-    """A record that cannot be written ends, is told once, and the session goes on."""
+    """A record that cannot be written ends, with one message, and the session goes on."""
     server, program = begun(command, "/dev/full")
     program.process.kill()
     told = program.end().splitlines()

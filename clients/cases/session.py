@@ -1,4 +1,4 @@
-"""A session by the client for Python that does what it is told, for the table of cases: session.py HOSTS TRIES [RECORD]."""
+"""A session by the client for Python that obeys commands, for the table of cases: session.py HOSTS TRIES [RECORD]."""
 
 from __future__ import annotations
 
@@ -82,14 +82,14 @@ class Told:
         self.snapshots = self.grown.snapshots()
 
     def subtree(self) -> str:
-        """What is told of the tree next, where it is another thing than before."""
+        """The next report of the tree, if it differs from the one before."""
         while True:
             try:
                 snapshot = next(self.snapshots)
                 said = " ".join(f"{path}={(node.data or b'').decode()}" for path, node in sorted(snapshot.items()))
             except dirwolleu.NoNodeError as error:
                 said, self.snapshots = str(error), self.grown.snapshots()
-                time.sleep(0.01)  # the tree tells a trouble again and again
+                time.sleep(0.01)  # the tree raises a trouble again and again
             if said != self.told:
                 self.told = said
                 return said

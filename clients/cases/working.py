@@ -4,7 +4,7 @@ expires soon after these.
 
 Two of each library of ours, and one of each other one, contend at a path of their names, each through a way of its own, and write through a
 fence while they hold. One after the other they are killed, stopped for 0.2 to 9 seconds, or cut at a request or at its answer. After each fault
-one of them is to write, within the timeout and two seconds of calm. What the server's logs say is judged at the end: whoever said that it
+one of them has to write, within the timeout and two seconds of calm. The server's logs are judged at the end: whoever said that it
 held by a token at a zxid was first in line there, no write of an earlier holder comes after one of a later, and each place is gone that its
 session has given up. Then fifty of each library of ours wait in line, and the requests of each hand-over are counted; ten of each other one.
 """
@@ -38,13 +38,13 @@ TIMEOUT = 4.0
 SOON = TIMEOUT + 2.0
 """How long nobody writes in the calm, at most."""
 LINGERS = 2 * TIMEOUT
-"""How long a place is there at most once its session has another one, or has ended."""
+"""How long a place may be there at most once its session has another one, or has ended."""
 MOST_REQUESTS = 12
 CROWD, OTHERS, MOST_FRAMES = 50, 10, 4
 STANDSTILL = 0.25
 """A thread that sleeps for a hundredth of a second is back by then, unless the whole machine stands still."""
 PING, CLOSE = -2, -11
-"""The xid of one, and the type of the request that closes a session."""
+"""The xid of a ping, and the type of the request that closes a session."""
 
 
 class Clock:
@@ -71,14 +71,14 @@ clock = Clock()
 
 
 class Way:
-    """What stands between a contender and the server: it counts requests, and cuts the connection at one of them, or at the answer to it."""
+    """A relay between a contender and the server: it counts requests, and cuts the connection at one of them, or at the answer to it."""
 
     def __init__(self, port: int) -> None:
         self._port, self._listener = port, socket.create_server(("127.0.0.1", 0))
         self.host = f"127.0.0.1:{self._listener.getsockname()[1]}"
         self.requests, self._left, self._cuts_answer = 0, 0, False
         self.cut_at = list[float]()
-        """When it has cut."""
+        """The moments at which it has cut."""
         self._cut_xid: Optional[int] = None
         threading.Thread(target=self._accept, daemon=True).start()
 
@@ -97,7 +97,7 @@ class Way:
     def _run(self, source: socket.socket, target: socket.socket, asks: bool) -> None:
         with contextlib.suppress(OSError, struct.error), source.makefile("rb") as frames:
             frame = frames.read(4)
-            frame += frames.read(*struct.unpack(">i", frame))  # the first one says who is there
+            frame += frames.read(*struct.unpack(">i", frame))  # the first one begins the session
             while True:
                 target.sendall(frame)
                 frame = frames.read(4)
@@ -133,7 +133,7 @@ class Claim(NamedTuple):
 
 
 class Worker:
-    """A contender that works, in a process that is begun again where it is killed."""
+    """A contender that works, in a process that starts again if it is killed."""
 
     def __init__(self, library: str, command: list[str], port: int, path: str, names: str) -> None:
         self.library, self.way, self.claims = library, Way(port), list[Claim]()
@@ -185,7 +185,7 @@ class Worker:
 
 
 class Busy:
-    """Those that work at a path, and what is done to them."""
+    """The workers at a path, and the faults that hit them."""
 
     def __init__(self, path: str, workers: list[Worker]) -> None:
         self.path, self.workers = path, workers
@@ -226,7 +226,7 @@ class Busy:
         return max(later - earlier for earlier, later in zip(moments, moments[1:]))
 
     def judge(self, lines: list[str]) -> Iterator[str]:
-        """What is wrong, of what was seen and by the lines of a history. It prints figures."""
+        """The faults in what was seen, and in the lines of a history. It prints figures."""
         calm, line = self.longest_calm(), Line()
         self.struck["cut"] = sum(len(worker.way.cut_at) for worker in self.workers)
         yield from (f"{worker.library}: {fault}" for worker in self.workers for fault in worker.faults)
@@ -240,11 +240,11 @@ class Busy:
             print(f"  {library}: {claims} claims, {writes} writes, {sum(worker.refused for worker in its)} refused")
 
 
-# What the server's logs say.
+# The server's logs.
 
 
 class Place(NamedTuple):
-    """A node that was made at a zxid and a moment, with its number, by a session, with data that say whose it is."""
+    """A node that was made at a zxid and a moment, with its number, by a session, with data that name its owner."""
 
     token: int
     made_at: float
@@ -284,7 +284,7 @@ class Line:
         self.hand_overs += self.first not in (0, before)
 
     def judge(self, path: str, lines: list[str], claims: list[Claim]) -> Iterator[str]:
-        """What is wrong by the lines of a history."""
+        """The faults that the lines of a history show."""
         written, asked = 0, collections.deque(sorted(claims, key=lambda claim: claim.zxid))
         for words in (text.split() for text in lines):
             if words[0] in ("torn", "gap", "unknown"):
@@ -319,7 +319,7 @@ def history(logs: str) -> list[str]:
 
 
 def hand_over(client: dirwolleu.Client, port: int, library: str, command: list[str]) -> float:
-    """Has many wait in line, and let go one after the other. The requests of each hand-over."""
+    """Makes many wait in line, and releases one after the other. Returns the requests of each hand-over."""
     path, names = f"/crowd-{library}", NAMES[library][0]
     ways = [Way(port) for _ in range(CROWD if library in OURS else OTHERS)]
     client.create(path)
@@ -339,7 +339,7 @@ def hand_over(client: dirwolleu.Client, port: int, library: str, command: list[s
 
 
 def those_at(names: str, port: int, commands: dict[str, list[str]]) -> Busy:
-    """Those that contend by these names, at a path of theirs."""
+    """The workers that contend by these names, at a path of theirs."""
     path = f"/busy-{names}"
     who = [library for library in commands if names in NAMES[library] for _ in range(2 if library in OURS else 1)]
     return Busy(path, [Worker(library, commands[library], port, path, names) for library in who])

@@ -1,4 +1,6 @@
-"""Ways to the server at a port: `ways.py NAME PORT COUNT OWN`. Each is at the port OWN, or at a free one if that is 0; start_ways of parts.sh says more."""
+"""Ways to the server at a port: `ways.py NAME PORT COUNT OWN`. Each is at the port OWN, or at a free one if that is 0; start_ways of
+parts.sh says more.
+"""
 
 import asyncio, os, sys
 

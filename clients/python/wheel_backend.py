@@ -26,11 +26,12 @@ from typing import Any, Mapping, NamedTuple, Optional
 HERE = pathlib.Path(__file__).resolve().parent
 TOP = HERE.parent.parent
 TAG = "py3-none-manylinux2014_x86_64"
-FIRST_DATE = 315532800  # 1 January 1980, the first that a zip file can tell
+FIRST_DATE = 315532800  # 1 January 1980, the first that a zip file can have
 
 
 class Library(NamedTuple):
-    """A shared library: its name in the package, what names another file of it, and the folder of the prebuilt one."""
+    """A shared library: its name in the package, the variable that names another file of it, and the folder of the prebuilt one.
+    """
 
     name: str
     variable: str
@@ -141,14 +142,14 @@ def _write_zip(path: pathlib.Path, files: Mapping[str, bytes]) -> None:
 
 
 def _check_machine() -> None:
-    """Fails in words where the libraries in the wheel can't run."""
+    """Raises an error that says why if the libraries in the wheel can't run."""
     machine, system = platform.machine(), platform.system()
     if (machine.lower(), system) not in (("x86_64", "Linux"), ("amd64", "Linux")):
         sys.exit(f"dirwolleu runs on Linux on x86-64 alone, and this is {system} on {machine}")
 
 
 def build_wheel(wheel_directory: str, config_settings: Settings = None, metadata_directory: Optional[str] = None) -> str:
-    """Writes the wheel into the folder, and answers its name (PEP 517)."""
+    """Writes the wheel into the folder, and returns its name (PEP 517)."""
     _check_machine()
     information = f"dirwolleu-{_version()}.dist-info"
     wheel = f"Wheel-Version: 1.0\nGenerator: wheel_backend of dirwolleu\nRoot-Is-Purelib: false\nTag: {TAG}\n"
@@ -167,7 +168,7 @@ def build_wheel(wheel_directory: str, config_settings: Settings = None, metadata
 
 
 def build_sdist(sdist_directory: str, config_settings: Settings = None) -> str:
-    """Writes the source distribution into the folder, and answers its name (PEP 517)."""
+    """Writes the source distribution into the folder, and returns its name (PEP 517)."""
     top = f"dirwolleu-{_version()}"
     files = {
         **_modules(),

@@ -3,7 +3,7 @@
 //   java -cp JARS CuratorContenders.java HOST:PORT/ROOT PATH JUDGE COUNT ROUNDS lock|readwrite [FILE]
 //
 // COUNT threads, each with a client of its own, take the lock at PATH for ROUNDS rounds. Each holder of an exclusive lock makes the node
-// JUDGE and deletes it again: it fails where the node is there. The exit status says whether none has failed. A holder of a lock, which is not one
+// JUDGE and deletes it again: it fails if the node is there. The exit status says whether none has failed. A holder of a lock, which is not one
 // of a pair, adds lines to FILE: `NAME holds CZXID`, with the czxid of its node, when it holds, and `NAME leaves` before it leaves.
 
 import java.nio.file.Files;

@@ -1,4 +1,4 @@
-"""What has tests of both clients use one text: the client for asyncio as if it waited for its answers, beside the one that does."""
+"""Lets tests of both clients use one text: the client for asyncio as if it waited for its answers, beside the one that does."""
 
 from __future__ import annotations
 
@@ -18,7 +18,7 @@ LONGEST = 6 * WAIT
 
 
 class Outcome(queue.Queue[Any]):
-    """What a call in a thread has returned or raised."""
+    """The result of a call in a thread, or its error."""
 
     def result(self, timeout: float = WAIT) -> Any:
         found = self.get(timeout=timeout)
@@ -28,7 +28,7 @@ class Outcome(queue.Queue[Any]):
 
 
 def run_in_thread(call: Callable[[], Any], take: Callable[[Any], None]) -> None:
-    """Makes a call in a thread of its own, in which what it returned or raised is taken."""
+    """Makes a call in a thread of its own, which takes its result or its error."""
 
     def run() -> None:
         try:
@@ -80,7 +80,7 @@ class Blocking:
         return Blocking(self._loop, found) if isinstance(found, aio.Held) else found
 
     def _items(self, generator: AsyncGenerator[Any, None]) -> Iterator[Any]:
-        """What an asynchronous generator yields, which is never None."""
+        """The items of an asynchronous generator, which are never None."""
         try:
             while (item := self._call(_next, generator)) is not None:
                 yield item

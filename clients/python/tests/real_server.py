@@ -1,7 +1,7 @@
-"""real_server.py HOST:PORT: what a real server answers to the client's calls, those that are raw and its locks.
+"""real_server.py HOST:PORT: the answers of a real server to the client's calls, those that are raw and its locks.
 
-`scripts/clients` runs it with a server. Where the package kazoo is there, and where DIRWOLLEU_CURATOR names the jars of Curator,
-their locks contend with those of the client.
+`scripts/clients` runs it with a server. If the package kazoo is there, and if DIRWOLLEU_CURATOR names the jars of Curator, their
+locks contend with those of the client.
 """
 
 from __future__ import annotations
@@ -70,7 +70,7 @@ KAZOO = kazoo_or_none()
 
 
 def in_threads(works: Sequence[Callable[[], object]]) -> list[Optional[BaseException]]:
-    """Has each work done by a thread of its own, and tells what each has raised, or that it has not ended."""
+    """Lets a thread of its own do each work, and returns what each has raised, or that it has not ended."""
     errors: list[Optional[BaseException]] = [AssertionError(f"{work} has not ended") for work in works]
 
     def run(number: int, work: Callable[[], object]) -> None:
@@ -165,7 +165,7 @@ class RealServerTest(unittest.TestCase):
             self.other.create("/c", acl=[security.ACL(31, security.Id("none", "x"))])
 
     def test_nodes_of_other_kinds(self) -> None:
-        """A TTL wants an option of the server: zookeeper.extendedTypesEnabled."""
+        """A TTL needs an option of the server: zookeeper.extendedTypesEnabled."""
         self.assertEqual(self.one.create("/box", b"x", container=True), "/box")
         self.assertEqual(self.one.create("/box/", b"x", sequence=True), "/box/0000000000")
         self.assertEqual(self.one.create2("/box/", None, sequence=True, ephemeral=True).path, "/box/0000000001")
@@ -226,7 +226,7 @@ class RealServerTest(unittest.TestCase):
         self.assertIsNone(self.other.exists("/workers/one"))
 
     def test_twenty_contenders_of_three_clients(self) -> None:
-        """Each holder makes one node and deletes it again, which fails where two hold at once.
+        """Each holder makes one node and deletes it again, which fails if two hold at once.
 
         All contenders of a path use one kind of names: so those of kazoo have Curator's here.
         """
@@ -251,7 +251,7 @@ class RealServerTest(unittest.TestCase):
         works += [functools.partial(self.contend_in_thread, one, path, names, shares) for one in clients]
         works += [functools.partial(self.contend_in_asyncio, path, names, shares)]
         if KAZOO is not None and not (shares and curators):
-            # kazoo's ReadLock waits for writers that came after it too, which wait for it: it is left out
+            # kazoo's ReadLock also waits for writers that came after it, which wait for it: it is left out
             works += [functools.partial(self.contend_as_kazoo, path, kazoos, named, False) for _ in range(6)]
         if curators and CURATOR:
             works.append(functools.partial(self.contend_as_curator, path, kind, curators))
@@ -379,7 +379,7 @@ class RealServerTest(unittest.TestCase):
         self.assertTrue(Barrier(self.one, "/closed").wait(WAIT))
 
     def test_what_is_good_is_fresh(self) -> None:
-        """After `fresh`, what another session has written before is known to the core."""
+        """After `fresh`, the core knows what another session has written before."""
         self.one.create("/a", b"0")
         for number in range(20):
             self.one.get("/a", watch=True)

@@ -1,4 +1,6 @@
-"""What the tests share: partners and servers that a test writes itself, which are those of ../../bench/partner.py, and waits that have a bound."""
+"""The parts that the tests share: partners and servers that a test writes itself, which are those of ../../bench/partner.py, and waits that
+have a bound.
+"""
 
 from __future__ import annotations
 
@@ -26,25 +28,26 @@ __all__ += partner.__all__
 
 partner.begin_making()  # before trials/test forks a process for each class: so all share it
 
-if signal.getsignal(signal.SIGINT) is signal.SIG_IGN:  # as in the background of a shell's script: programs that tests begin are interrupted
+if signal.getsignal(signal.SIGINT) is signal.SIG_IGN:  # as in the background of a shell script: tests interrupt programs
     signal.signal(signal.SIGINT, signal.default_int_handler)
 
 TIMEOUT = 60.0
-"""The timeout of a session, in seconds, where a test does not wait for its end: so no machine that holds its server up ends a call."""
+"""The timeout of a session, in seconds, if a test does not wait for its end: so no machine that holds its server up ends a call."""
 
 LIMIT = TIMEOUT / 2
-"""The limit of a call that is sent and has no answer, in seconds: longer than any machine takes to send it, and than a server may be silent."""
+"""The limit of a call that is sent and has no answer, in seconds: longer than any machine takes to send it, and than a server may be
+silent."""
 
 
 def let_pass(client: dirwolleu.Client, seconds: float) -> None:
-    """Tells the session of a client the moment that comes this number of seconds later, for which nobody waits."""
+    """Gives the session of a client the moment that comes this number of seconds later, for which nobody waits."""
     threads = client._threads()
     assert threads is not None
     threads.loop.soon(lambda: client._engine.tick(moment() + round(1000 * seconds)))
 
 
 def within(condition: Callable[[], Any], seconds: float = WAIT) -> Any:
-    """Waits until the condition has an answer that counts as true, and gives it."""
+    """Waits until the condition returns a value that counts as true, and returns it."""
     until = time.monotonic() + seconds
     while not (answer := condition()):
         if time.monotonic() > until:
@@ -54,7 +57,7 @@ def within(condition: Callable[[], Any], seconds: float = WAIT) -> Any:
 
 
 def passed_in_child(calls: list[Callable[[], object]]) -> int:
-    """How many of these calls of a forked child do not raise an error that tells of the fork."""
+    """How many of these calls of a forked child do not raise the error about the fork."""
     passed = 0
     for call in calls:
         try:
@@ -69,7 +72,7 @@ class PartnerCase(unittest.TestCase):
     """A test that has partners."""
 
     is_long = False
-    """Whether the tests of the class take long: then each of them has a process, where these are run side by side."""
+    """Whether the tests of the class take long: then each of them has a process, if these are run side by side."""
 
     _shared: Partner
 
@@ -79,7 +82,7 @@ class PartnerCase(unittest.TestCase):
         return partner
 
     def shared_partner(self) -> Partner:
-        """One partner of all tests of the class, which are to keep to a root of their own, `own_root`."""
+        """One partner of all tests of the class, each of which has to keep to a root of its own, `own_root`."""
         kind = type(self)
         if "_shared" not in vars(kind):
             kind._shared = Partner()
@@ -111,7 +114,7 @@ class PartnerCase(unittest.TestCase):
             self.addCleanup(patch.stop)
 
     def raises(self, kind: type[BaseException], code: Optional[int]) -> Any:
-        """Like assertRaises, and the class and the code have to be exactly these."""
+        """Like assertRaises, but the class and the code have to be exactly these."""
         test = self
 
         class Raises:

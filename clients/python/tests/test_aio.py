@@ -1,4 +1,6 @@
-"""Tests of what asyncio alone has: calls that are cancelled, coroutine functions as watches, and the end of the loop."""
+"""Tests of the parts that only asyncio has: calls that are cancelled, coroutine functions as watches, and the end of the
+loop.
+"""
 
 from __future__ import annotations
 
@@ -17,7 +19,7 @@ from dirwolleu.aio import Client, Lock
 
 
 async def within(condition: Callable[[], Any]) -> None:
-    """Waits until the condition has an answer that counts as true."""
+    """Waits until the condition returns a value that counts as true."""
 
     async def poll() -> None:
         while not condition():
@@ -109,7 +111,7 @@ class AioTest(unittest.IsolatedAsyncioTestCase, PartnerCase):
 
 
 class EndOfLoopTest(PartnerCase):
-    """What `asyncio.run` does at its end, after a Ctrl-C too: it cancels all tasks and waits for them."""
+    """The end of `asyncio.run`, after a Ctrl-C too: it cancels all tasks and waits for them."""
 
     def test_the_session_is_ended_though_all_tasks_are_cancelled(self) -> None:
         self.await_farewells()

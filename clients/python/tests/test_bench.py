@@ -18,7 +18,7 @@ from dirwolleu.testing import _library as library
 class BenchTest(PartnerCase):
     def setUp(self) -> None:
         self.changes = list[tuple[int, bytes]]()
-        """What happens to /a after each request: the number of the request, and the data."""
+        """The changes of /a after each request: the number of the request, and the data."""
 
     def serve(self, peer: Peer) -> None:
         """Serves a connection by a server in memory. After a request the change with its number comes, if there is one."""

@@ -1,4 +1,4 @@
-"""Tests of what is said of a callback that fails, in a program without logging set up."""
+"""Tests of the output about a callback that fails, in a program without logging set up."""
 
 from __future__ import annotations
 

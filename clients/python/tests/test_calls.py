@@ -1,4 +1,4 @@
-"""Tests of calls: their timeouts, their futures, what is asked again, what is counted, and the end of a program."""
+"""Tests of calls: their timeouts, their futures, which are asked again, which are counted, and the end of a program."""
 
 from __future__ import annotations
 
@@ -151,7 +151,7 @@ class FutureTest(ClientCase):
         self.assertIsNone(client.exists("/unsent"))
 
     def test_a_future_has_a_limit(self) -> None:
-        """Also where it is several requests, and so it is with asyncio."""
+        """Also if it is several requests, and so it is with asyncio."""
         partner = self.partner()
         client = self.client(partner.host, 60.0)
         partner.do("mute")
@@ -251,7 +251,7 @@ class RetryTest(ClientCase):
         self.assertEqual(writes.count(SET_DATA), 1)
 
     def test_what_was_not_sent_is_asked_again(self) -> None:
-        """The first call is as one that was asked for a minute before."""
+        """The first call is like one that was asked for a minute before."""
         partner = self.partner()
         client = self.client(partner.host, 15.0, retry=Retry(tries=None, deadline=6 * WAIT, pause=0.05))
         partner.do("down")
@@ -287,7 +287,7 @@ class RetryTest(ClientCase):
             client.close()
 
     def test_the_deadline_bounds_the_tries(self) -> None:
-        """Which nobody waits for here."""
+        """Nobody waits for it here."""
         attempts = Retry(tries=None, deadline=20 * WAIT, pause=15 * WAIT, chance=0.0, longest_pause=20 * WAIT).attempts()
         self.assertEqual(attempts.after(NotConnectedError("x")), 15 * WAIT)
         with self.assertRaises(NotConnectedError):
@@ -306,7 +306,7 @@ HOUR = 3600.0
 
 
 def serves_one(peer: Peer) -> None:
-    """Answers each read of data, and all else with nothing."""
+    """Answers each read of data, and everything else with nothing."""
     for asked in peer.requests():
         peer.send(data_reply(asked, b"one") if asked.kind == GET_DATA else reply(asked))
 
@@ -491,7 +491,7 @@ class ProgramTest(ClientCase):
     is_long = True
 
     def run_program(self, text: str, host: str) -> tuple[str, str]:
-        """What a program prints and says besides. It ends with status 0, in time."""
+        """The output of a program, and its standard error. It ends with status 0, in time."""
         command = [sys.executable, "-c", PROGRAM + text, host]
         done = subprocess.run(command, capture_output=True, text=True, timeout=3 * WAIT)
         self.assertEqual(done.returncode, 0, done.stderr)
@@ -529,7 +529,7 @@ class ProgramTest(ClientCase):
                 self.assertEqual(said, ("", ""))
 
     def test_a_thread_that_can_start_no_others_any_more_awaits_the_end(self) -> None:
-        """Python 3.12 and later say so before they call what was registered for the end, which may wait for the thread."""
+        """Python 3.12 and later say so before they call the functions that were registered for the end, which may wait for the thread."""
         text = f"""{ENDING}
 def refuse(_):
     there.set()
@@ -547,7 +547,7 @@ def run(**named):
                 self.assertIn("RuntimeError: can't create new thread", self.run_program(text + others, host)[1])
 
     def test_no_call_of_a_thread_returns_once_the_program_has_left_its_client(self) -> None:
-        """What is called in the thread in which the program ends does return."""
+        """A call in the thread in which the program ends does return."""
         self.assertEqual(self.run_program(ENDING + CALLS, self.partner().host), ("closed\nstopped\n", ""))
 
     def test_an_exception_in_a_callback_is_seen_without_any_set_up(self) -> None:

@@ -1,4 +1,4 @@
-"""Tests of what is no value for a call: it is told at once, in the thread that calls, and the client goes on."""
+"""Tests of values that no call accepts: the thread that calls gets the error at once, and the client goes on."""
 
 from __future__ import annotations
 
@@ -24,7 +24,7 @@ OF_A_PATH = (
 WITH_VERSIONS: tuple[tuple[str, tuple[Any, ...]], ...] = (
     ("set", (b"x",)), ("delete", ()), ("set_acls", ([],)), ("set_async", (b"x",)), ("delete_async", ()), ("set_acls_async", ([],)),
 )  # fmt: skip
-"""The functions of a client that take a version last, with what is before that."""
+"""The functions of a client that take a version last, with the arguments before that."""
 RECIPES = ("Lock", "ReadLock", "Semaphore", "Election", "Registration")
 
 
@@ -36,7 +36,7 @@ class CheckRules(BothCase):
         self.one = self.client(self.partner().host)
 
     def make(self, *words: Any, **named: Any) -> Callable[[], Any]:
-        """What makes a client."""
+        """The function that makes a client."""
         return lambda: self.made(lambda: self.module().Client(*words, **named))
 
     def refused(self, kind: type[BaseException], *rows: Row) -> None:
@@ -84,7 +84,7 @@ class CheckRules(BothCase):
             self.refused_version(TypeError, version, f"a version is an int, and not {type(version).__name__}")
 
     def test_a_version_fits_into_32_bits(self) -> None:
-        """Else it would be sent as another one: 2^32 as 0, which is that of the node, and 2^32 - 1 as any."""
+        """Else another number would be sent: for 2^32 0, which is the node's version, and for 2^32 - 1 any."""
         self.one.create("/v", b"one")
         for version in (2**31, 2**32, 2**32 - 1, 2**33 + 2, -(2**31) - 1):
             self.refused_version(ValueError, version, f"{version} does not fit into 32 bits")

@@ -298,7 +298,7 @@ class FollowRules(ClientCase):
         self.check(following, data)
 
     def check(self, following: Following, data: Optional[bytes]) -> None:
-        """The next answer that is told has these data, or says that there is no node."""
+        """The next answer that is reported has these data, or says that there is no node."""
         kept = following.next()
         assert kept is not None
         self.assertEqual((kept.mark, kept.data, kept.exists), (Mark.GOOD, data, data is not None))

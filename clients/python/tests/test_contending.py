@@ -1,4 +1,4 @@
-"""Tests of what an engine makes of contenders, with no server: the bytes of one, and the moments, are those of the tests."""
+"""Tests of how an engine handles contenders, with no server: the bytes of one, and the moments, are those of the tests."""
 
 from __future__ import annotations
 
@@ -48,7 +48,7 @@ class ContendingTest(unittest.TestCase):
     def lost(self, _: object) -> None: ...
 
     def answer(self, now: int, body: bytes) -> bytes:
-        """Answers the oldest call, at zxid 90, and gives the frames that come of it."""
+        """Answers the oldest call, at zxid 90, and returns the frames that follow from it."""
         self.xid += 1
         self.engine.take_commands()
         self.engine.received(now, answer_to(self.xid, 90, 0, body))
@@ -67,7 +67,7 @@ class ContendingTest(unittest.TestCase):
         self.assertEqual(self.answer(now, buffer(b"") + STAT_BYTES), b"")
 
     def delete(self, now: int, path: str) -> None:
-        """A watch tells that a node is gone."""
+        """A watch reports that a node is gone."""
         self.engine.received(now, answer_to(-1, -1, 0, struct.pack(">ii", NODE_DELETED, 3) + buffer(path.encode())))
 
     def proved_at(self) -> Any:
@@ -99,7 +99,7 @@ class ContendingTest(unittest.TestCase):
         self.assertEqual((self.engine.held_by(contender), self.proved_at()), (88, 500))
 
     def test_who_lacks_memory_to_join_again_joins_later(self) -> None:
-        """Its place may be there, and is to go with it."""
+        """Its place may be there, and has to go with it."""
         contender, name = self.join(200), self.enter(300)
         self.answer(400, names(name))
         with mock.patch.object(Session, "received", side_effect=Halted):

@@ -1,4 +1,4 @@
-"""Tests of `python3 -m dirwolleu demo`: what it tells is what its clients answer, whichever history the seed chooses."""
+"""Tests of `python3 -m dirwolleu demo`: it prints what its clients answer, whichever history the seed chooses."""
 
 from __future__ import annotations
 

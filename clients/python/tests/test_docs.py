@@ -39,7 +39,7 @@ def examples() -> Iterator[Example]:
 
 
 def blocks(docstring: str, margin: str) -> Iterator[str]:
-    """What is indented further in a docstring, after an empty line."""
+    """The blocks of a docstring that are indented further, after an empty line."""
     for paragraph in docstring.split("\n\n")[1:]:
         lines = [line for line in paragraph.splitlines() if line.strip()]
         if lines and all(line.startswith(margin) for line in lines):
@@ -48,7 +48,7 @@ def blocks(docstring: str, margin: str) -> Iterator[str]:
 
 class DocsTest(PartnerCase):
     def begin(self, number: int, example: Example) -> None:
-        """Makes a root of its own for an example, with what examples find there. One that takes other hosts has none."""
+        """Makes a root of its own for an example, with the nodes that examples read. An example with other hosts has none."""
         self.server: Partner = self.shared_partner()
         self.root = "" if "set_hosts" in example.lines else f"/example-{number}"
         if self.root:

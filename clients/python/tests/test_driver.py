@@ -66,7 +66,7 @@ def expires(peer: Peer) -> None:
 
 
 def unread(client: aio.Client) -> int:
-    """How many bytes the socket of a client has. What was sent comes later if the system is busy."""
+    """How many bytes the socket of a client has. Bytes that were sent come later if the system is busy."""
     driver: Any = client._driver
     connection = driver._link._transport.get_extra_info("socket")
     (count,) = struct.unpack("i", fcntl.ioctl(connection, termios.FIONREAD, bytes(4)))
@@ -74,7 +74,7 @@ def unread(client: aio.Client) -> int:
 
 
 def before_it_tells(client: aio.Client, function: Callable[[], None]) -> None:
-    """Has a function called once, in the turn of the loop in which its driver tells the moment, after that has read."""
+    """Calls a function once, in the turn of the loop in which its driver gives the moment, after that has read."""
     driver: Any = client._driver
 
     def late(*words: int) -> None:
@@ -152,7 +152,7 @@ class DialTest(PartnerCase):
             seen.append(peer.admit())
             peer.send(data_reply(peer.take(), b"one", zxid=9))
 
-        client = self.client(self.raw_server(serve).host, 60.0)  # so that no busy machine has an attempt given up
+        client = self.client(self.raw_server(serve).host, 60.0)  # so that no busy machine makes the client give an attempt up
         client.get("/a")
         within(lambda: len(seen) >= 3)
         self.assertEqual([(one.last_zxid, one.session) for one in seen[:3]], [(0, 0), (9, 7), (9, 0)])
@@ -200,12 +200,12 @@ class DialTest(PartnerCase):
 
         server = self.raw_server(serve)
         began = time.monotonic()
-        self.client(server.host, 9.0)  # of which notices that come six seconds late are too few: so a busy machine may be
+        self.client(server.host, 9.0)  # notices that come six seconds late are not enough for it: so a busy machine may be late
         within(lambda: len(server.dials) > 1)
         self.assertGreater(server.dials[1] - began, 8.999)
 
     def test_a_server_that_sends_no_connection_in_time_is_given_up(self) -> None:
-        """An attempt has a third of the timeout, and a second at least. One that is made too late is closed."""
+        """An attempt has a third of the timeout, and a second at least. One that succeeds too late is closed."""
         made: list[Link] = []
         with mock.patch.object(Link, "_connect", lambda link, _: made.append(link)):
             client = Client("127.0.0.1:1", 1.0)
@@ -230,7 +230,7 @@ class DialTest(PartnerCase):
         self.assertEqual(({ping.kind for ping in pings}, len(server.dials)), ({PING}, 1))
 
     def test_a_process_that_was_held_up_reads_what_its_socket_has(self) -> None:
-        """It is told of something while it is held up, and goes on after a server may be silent no more, 12 seconds of 18.
+        """A notice comes while it is held up, and it goes on when the server may no longer be silent, after 12 seconds of 18.
 
         What came may have come as it was stopped: so it may be held up for five seconds more.
         """
@@ -265,10 +265,10 @@ class DialTest(PartnerCase):
         self.assertEqual((len(server.dials), pings[0].kind), (1, PING))
 
     def test_a_loop_that_was_held_up_reads_all_that_its_socket_has(self) -> None:
-        """The answer comes after more notices than are read at once, and would be too late where it is read later.
+        """The answer comes after more notices than are read at once, and would be too late if it were read later.
 
-        The clock is the test's own: it goes on by 2.4 seconds, while the loop is held up for longer than its timer takes: at any time, or right
-        before it tells the moment.
+        The clock is the test's own: it goes on by 2.4 seconds, while the loop is held up for longer than its timer takes: at any time, or
+        right before it gives the moment.
         """
         for is_before_it_tells in (False, True):
             with self.subTest(is_before_it_tells=is_before_it_tells):
@@ -338,11 +338,11 @@ class DialTest(PartnerCase):
         asyncio.run(read())
 
     def test_how_a_connection_has_ended_is_told(self) -> None:
-        """Between two calls, or where the frame of a call meets its end."""
+        """Between two calls, or when the frame of a call meets its end."""
 
         def finishes(peer: Peer) -> None:
             answers_and_closes(peer)
-            peer.finish()  # where a ping is not read, a close resets the connection
+            peer.finish()  # if a ping is not read, a close resets the connection
 
         def resets(peer: Peer) -> None:
             answers_and_closes(peer)

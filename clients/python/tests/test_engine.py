@@ -1,4 +1,4 @@
-"""Tests of the engine for what the partner does not do: memory that runs out, and answers that end a session."""
+"""Tests of the engine for what the partner does not do: running out of memory, and answers that end a session."""
 
 from __future__ import annotations
 
@@ -74,7 +74,7 @@ RAW_CALLS: list[tuple[Callable[[], Request[Any]], bytes]] = [
 
 
 class Future(concurrent.futures.Future[Any]):
-    """What waits for an answer here."""
+    """A waiter for an answer here."""
 
     def begin(self) -> bool:
         return not self.done()
@@ -90,7 +90,7 @@ class EngineTest(support.PartnerCase):
         self.admit(100)
 
     def admit(self, now: int, granted_ms: int = 4000) -> None:
-        """A connection that was asked for is made, and a server accepts the session."""
+        """A connection that the session asked for is open, and a server accepts the session."""
         dial = self.engine.take_commands().dial
         assert dial is not None
         self.assertEqual(dial.place, 0)
@@ -203,7 +203,7 @@ class EngineTest(support.PartnerCase):
             self.engine.received(1600, REFUSAL + framed(support.notice("/a")) + REFUSAL)
         self.assertEqual([one.getMessage() for one in logged.records], ["the server refuses the credentials of the scheme x509"])
         self.assertEqual((self.engine.state, self.engine.is_running, self.engine.session_id()), (State.LOST, False, 0))
-        self.assertEqual(self.told, [(watch, (EventType.CHANGED, State.CONNECTED, "/a")), (listen, State.LOST)])  # what came with it is told first
+        self.assertEqual(self.told, [(watch, (EventType.CHANGED, State.CONNECTED, "/a")), (listen, State.LOST)])  # what came with it comes first
         self.assertIsNone(self.engine.kept("/a"))
         self.assertEqual(self.engine.take_commands(), (True, None, b""))
         for now in (2000, 10_000):
@@ -328,7 +328,7 @@ class EngineTest(support.PartnerCase):
             call.result(0)
 
     def test_raw_answers_that_are_cut_at_each_byte(self) -> None:
-        """They are read when they are whole. Where the connection ends before, what changes nothing is asked again."""
+        """They are read when they are whole. If the connection ends before, a call that changes nothing is asked again."""
         for asks, body in RAW_CALLS:
             whole = reply(1, 9, 0, body)
             wanted = self.answered(asks, whole)
@@ -338,7 +338,7 @@ class EngineTest(support.PartnerCase):
                     self.check_cut(asks, whole, end, wanted)
 
     def answered(self, asks: Callable[[], Request[Any]], *pieces: bytes) -> Any:
-        """What a call brings whose answer comes in these pieces."""
+        """The result of a call whose answer comes in these pieces."""
         self.doCleanups()
         self.setUp()
         call = self.ask(asks())
@@ -388,7 +388,7 @@ class EngineTest(support.PartnerCase):
             self.assertEqual(self.engine.take_commands().hangs_up, now == 3667)
 
     def test_an_answer_that_came_while_nobody_looked_is_in_time(self) -> None:
-        """A notice is before it in the stream, and it is looked at when it was due already."""
+        """A notice is before it in the stream, and the engine gets it when something was due already."""
         call = self.ask(requests.get("/a", None))
         self.engine.tick(1533)
         self.engine.received(1600, reply(-2, 9))
@@ -399,7 +399,7 @@ class EngineTest(support.PartnerCase):
         self.assertEqual((call.done(), self.engine.take_commands().hangs_up), (True, False))
 
     def test_why_a_connection_is_left_is_told(self) -> None:
-        """A read of the session's own that is answered by a server that has the session no more, and a call that is not answered."""
+        """A read of the session's own that a server answers which no longer has the session, and a call that is not answered."""
         with self.engine.following("/a", DATA_SIDE, lambda: None):
             self.engine.take_handed(200)
             with self.assertLogs("dirwolleu.connection", "WARNING") as told:
@@ -439,7 +439,7 @@ class EngineTest(support.PartnerCase):
         self.assertEqual(lived.result(0), (b"one", STAT))
 
     def test_what_is_asked_of_a_client_that_does_not_run_is_kept_nowhere(self) -> None:
-        """Also where it ends while it is asked: the request is in then, and it is left by its end or taken back."""
+        """Also if it ends while it is asked: then the request is in, and the end leaves it or it is taken back."""
         running = mock.PropertyMock(side_effect=[True, False])
         for ends_within in (False, True):
             self.engine.end()

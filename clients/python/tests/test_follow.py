@@ -17,12 +17,12 @@ from dirwolleu import Kept, Mark, NoAuthError
 
 GET_CHILDREN_2 = 12
 REFUSALS = {-4: 0.8, -127: 0.8, -112: 0.28, -118: 0.28, -1: 0.8, -99: 0.8, -101: 0.28}
-"""How many seconds there are for each read at least: there is one in a second, with a code that ends the connection one on each, and another
-one at once where there is no node and exists says that there is one."""
+"""How many seconds there are for each read at least: there is one in a second, with a code that ends the connection one on each, and
+another one at once if there is no node and exists says that there is one."""
 
 
 class Refusing:
-    """A server that refuses to tell a node's data, and says to `exists` that there is one."""
+    """A server that refuses to read a node's data, and says to `exists` that there is one."""
 
     def __init__(self, code: int) -> None:
         self.code = code
@@ -64,7 +64,7 @@ EPOCH = 1 << 32
 class Electing:
     """Servers that elect: at first they have `new`, and after an election what was there before it, with zxids of a later epoch.
 
-    They tell of no change: what they have now was written before the client had seen `new`.
+    They report no change: what they have now was written before the client had seen `new`.
     """
 
     def __init__(self) -> None:
@@ -156,7 +156,7 @@ class FollowRules(BothCase):
         self.assertEqual((servers.reads, [kept.data for kept in told]), (2, [b"new", b"old"]))
         servers.leave(3 * EPOCH + 1, None)
         within(lambda: len(told) == 3)
-        self.assertEqual((servers.reads, told[2].exists), (4, False))  # the data are asked for, and then whether there is a node
+        self.assertEqual((servers.reads, told[2].exists), (4, False))  # reads the data, and then whether there is a node
 
     def test_names_that_a_notice_overtakes_are_told(self) -> None:
         """With the zxid of their last change, at which the servers had them."""

@@ -1,4 +1,4 @@
-"""Tests of connection strings: what they say, which address is dialled, and the root that all paths go through."""
+"""Tests of connection strings: their parts, which address is dialled, and the root that all paths go through."""
 
 from __future__ import annotations
 
@@ -27,7 +27,7 @@ WRONG = (
 
 
 def found(*addresses: str) -> Any:
-    """What `getaddrinfo` answers for a name of these addresses."""
+    """The result of `getaddrinfo` for a name of these addresses."""
     return [(socket.AF_INET, socket.SOCK_STREAM, 6, "", (address, 2181)) for address in addresses]
 
 
@@ -45,7 +45,7 @@ class HostsTest(PartnerCase):
                 Client(wrong)
 
     def dialled(self, servers: Servers, count: int, order: Sequence[int] = (0,)) -> list[Place]:
-        """The addresses of this many dials, where the library goes through the list in this order."""
+        """The addresses of this many dials, if the library goes through the list in this order."""
 
         async def dial() -> list[Place]:
             return [await address_at(servers, order[number % len(order)]) for number in range(count)]

@@ -1,4 +1,4 @@
-"""Tests of what an import of the package loads."""
+"""Tests of the modules that an import of the package loads."""
 
 from __future__ import annotations
 
@@ -15,7 +15,7 @@ SLOW = (
     "asyncio", "ssl", "inspect", "dataclasses", "subprocess", "shutil", "hashlib", "pathlib", "platform", "ipaddress",
     "uuid", "urllib.parse",
 )  # fmt: skip
-"""Modules that take their time, and which few programs want before they start a client."""
+"""Modules that are slow to load, and that few programs want before they start a client."""
 
 
 class ImportTest(unittest.TestCase):

@@ -1,6 +1,6 @@
 """Tests of the blocking client under signals, forks and callbacks that do not end.
 
-`python3 test_interrupts.py --calls 100000` makes this many calls that may be interrupted; without it, as many are made as
+`python3 test_interrupts.py --calls 100000` makes this many calls that may be interrupted; without it, it makes as many as
 fit into 8 seconds.
 """
 
@@ -37,7 +37,7 @@ class InterruptedCase(ClientCase):
         try:
             yield
         finally:
-            signal.signal(signal.SIGALRM, signal.SIG_IGN)  # a handler that is still to run may set the timer again
+            signal.signal(signal.SIGALRM, signal.SIG_IGN)  # a handler that has yet to run may set the timer again
             signal.setitimer(signal.ITIMER_REAL, 0)
             signal.signal(signal.SIGALRM, before)
 

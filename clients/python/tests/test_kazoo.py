@@ -1,4 +1,4 @@
-"""Tests of dirwolleu.kazoo, against the partner. What is expected is what kazoo's documentation says, or what kazoo 2.8 does."""
+"""Tests of dirwolleu.kazoo, against the partner. The expected results are those of kazoo's documentation, or of kazoo 2.8."""
 
 from __future__ import annotations
 
@@ -530,7 +530,7 @@ class KeywordsTest(KazooCase):
 
 
 class HandlersTest(PartnerCase):
-    """What handlers share with programs."""
+    """The parts of handlers that programs use."""
 
     def test_more_descriptors_than_select_takes(self) -> None:
         handler = SequentialThreadingHandler()
@@ -569,7 +569,7 @@ class HandlersTest(PartnerCase):
 
 
 class InternalsTest(KazooCase):
-    """What patroni reaches for."""
+    """The internals that patroni uses."""
 
     is_long = True
 

@@ -1,4 +1,4 @@
-"""Tests of the recipes of dirwolleu.kazoo, against the partner. What is expected is what kazoo 2.8 does."""
+"""Tests of the recipes of dirwolleu.kazoo, against the partner. The expected results are those of kazoo 2.8."""
 
 from __future__ import annotations
 
@@ -26,7 +26,7 @@ class RecipesCase(KazooCase):
         self.one, self.other = self.client(), self.client()
 
     def in_thread(self, call: Callable[[], Any]) -> list[Any]:
-        """What a call in a thread has brought, once it has returned."""
+        """The result of a call in a thread, once it has returned."""
         outcome: list[Any] = []
         run_in_thread(call, outcome.append)
         return outcome
@@ -87,7 +87,7 @@ class RecipesTest(RecipesCase):
         self.assertEqual(nodes, [None])
 
     def test_a_release_is_not_cancelled(self) -> None:
-        """What is cancelled is the wait of another thread for the same lock, which has news of its own."""
+        """Only the wait of another thread for the same lock is cancelled, which has news of its own."""
         made = self.one.Lock("/lock", "one")
         made.acquire()
         made.cancel()
@@ -108,7 +108,8 @@ class RecipesTest(RecipesCase):
         self.assertFalse(lock.acquire(blocking=False))
 
     def test_what_a_lock_waits_for(self) -> None:
-        """All of kazoo's, as the core says. Beside Curator's it says so, and leaves no node: it can't be seen by them."""
+        """All of kazoo's, as the core says. Beside Curator's it raises an error, and leaves no node: they can't see it.
+        """
         for name in ("a__lock__", "a__rlock__"):
             self.one.create(f"/lock/{name}0000000000", makepath=True)
             self.assertFalse(self.other.Lock("/lock", "other").acquire(blocking=False))
@@ -257,7 +258,7 @@ class RecipesTest(RecipesCase):
         self.assertFalse(one.consume() or other.release())
         self.assertEqual((other.get(WAIT), one.get(WAIT), len(one)), (b"", b"second", 2))
         waits = self.in_thread(self.client().LockingQueue("/queue").get)
-        self.other.stop()  # what it has locked is another one's
+        self.other.stop()  # another one gets what it has locked
         within(lambda: waits == [b""])
         self.assertTrue(one.consume())
 
@@ -283,7 +284,7 @@ class RecipesTest(RecipesCase):
 
 
 class SharesTest(RecipesCase):
-    """What several have parts of, and what is kept of a tree."""
+    """Sets that several share, and a kept tree."""
 
     def test_a_semaphore(self) -> None:
         first, second = self.one.Semaphore("/some", "one", 2), self.other.Semaphore("/some", "other", max_leases=2)

@@ -1,4 +1,5 @@
-"""Tests of the watches of dirwolleu.kazoo, against the partner. What is expected is what kazoo's documentation says, or what kazoo 2.8 does."""
+"""Tests of the watches of dirwolleu.kazoo, against the partner. The expected results are those of kazoo's documentation, or of kazoo 2.8.
+"""
 
 from __future__ import annotations
 

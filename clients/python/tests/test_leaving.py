@@ -22,13 +22,13 @@ from dirwolleu import ConnectionLoss, LockTimeout, MixedNamesError, aio
 from dirwolleu._steps import left_of
 
 CREATE, DELETE, GET_DATA, GET_CHILDREN_2, NONE = 1, 2, 4, 12, -1
-"""Types of requests, and one of none."""
+"""Types of requests, and one that no request has."""
 OUTAGE = 0.5
-"""For how long there is no server after a cut, where there is none, in seconds."""
+"""For how long there is no server after a cut, if there is an outage, in seconds."""
 
 
 class Relay(Listener):
-    """What stands between a client and a server: it cuts the connection at a request or at its answer, or keeps a request back, once."""
+    """A relay between a client and a server: it cuts the connection at a request or at its answer, or keeps a request back, once."""
 
     def __init__(self, port: int) -> None:
         self._server = port
@@ -38,17 +38,17 @@ class Relay(Listener):
         self._xid: Optional[int] = None
         self._opens_at = 0.0
         self.hear: Callable[[bytes], object] = lambda _: None
-        """Is called with each request, before it passes."""
+        """A function that is called with each request, before it passes."""
         super().__init__()
 
     def cut(self, kind: int, at: str, outage: float) -> None:
-        """Cuts at the next request of this type, or at the answer to it; then there is no server for so long, or until `open`. With
+        """Cuts at the next request of this type, or at the answer to it; then there is no server for that long, or until `open`. With
         `nothing` that request has no answer, and the connection stays.
         """
         self.kind, self.at, self.outage, self.cuts, self.kinds = kind, at, outage, 0, []
 
     def open(self) -> None:
-        """Ends an outage. There is one until now."""
+        """Ends an outage, which lasts until now."""
         assert self._opens_at > time.monotonic()
         self._opens_at = 0.0
 
@@ -127,8 +127,8 @@ class LeavingRules(BothCase):
 
     @contextlib.contextmanager
     def times_out(self, kind: int) -> Iterator[None]:
-        """A wait for a lock that ends by its time: not before what is to be cut has come, or for a delete the create before it. A busy machine
-        sends it later than that.
+        """A wait for a lock that ends by its time: not before the request to be cut has come, or for a delete the create before it. A busy
+        machine sends it later than that.
         """
         relay = self.relay
 
@@ -200,7 +200,7 @@ class LeavingRules(BothCase):
                 self.relay.cut(kind, "nothing", 0.0)
                 held = self.lock(keeps_while_suspended=True).acquire(WAIT)
                 self.assertEqual(len(self.other.get_children("/locks")), 1)
-                with contextlib.suppress(ConnectionLoss):  # of a busy machine: it is deleted later
+                with contextlib.suppress(ConnectionLoss):  # on a busy machine: it is deleted later
                     held.release()
                 self.is_free()
                 self.assertEqual(self.relay.cuts, 1)

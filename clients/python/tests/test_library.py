@@ -1,5 +1,4 @@
-"""Tests of the session, by frames that are spelled here as zookeeper.jute has them, and of its layouts by the header.
-"""
+"""Tests of the session, by frames that are spelled here as zookeeper.jute has them, and of its layouts by the header."""
 
 from __future__ import annotations
 
@@ -66,13 +65,13 @@ def connected(root: Root = Root()) -> Session:
 
 
 def sent(actions: list[of_session.Action]) -> bytes:
-    """The one frame that is to be sent, and nothing else."""
+    """The one frame to send, and nothing else."""
     (action,) = actions
     assert isinstance(action, Send), action
     return action.frame
 
 
-# What is a union in the header, by one of its fields.
+# The unions of the header, by one of their fields.
 IN_C = {"detail": "outcome", "result": "reply"}
 
 
@@ -214,7 +213,7 @@ class MachineTest(unittest.TestCase):
         self.assertEqual(session.peek_children("/b"), ((0, (), 0), 9))
 
     def test_other_threads_have_turns_while_many_names_are_read(self) -> None:
-        """Though nothing has the one that reads let go of the interpreter."""
+        """Though nothing makes the one that reads release the interpreter."""
         spelled, turns, is_over = b"".join(buffer(b"%d" % number) for number in range(100_000)), [0], threading.Event()
 
         def turn() -> None:

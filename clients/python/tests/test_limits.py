@@ -56,7 +56,7 @@ class LimitRules(BothCase):
         return self.raw_server(lambda peer: (rest.pop(0) if len(rest) > 1 else rest[0])(peer))
 
     def test_an_answer_is_as_long_as_it_may_be(self) -> None:
-        """A longer one ends the connection, and the read is answered so. The next one is asked over the next connection."""
+        """A longer one ends the connection, and the read fails by that. The next one is asked over the next connection."""
         raised: Named = {"longest_answer": RAISED}
         rows: list[tuple[Named, int, int]] = [
             (raised, RAISED, RAISED), (raised, RAISED + 1, 100), ({}, 4_194_304, 4_194_304), ({}, 4_194_305, 100),
@@ -85,7 +85,7 @@ class LimitRules(BothCase):
             self.assertEqual(len(asked), 2)
 
     def test_limits_stand_in_a_session_that_begins_after_another(self) -> None:
-        """After an expiry, and where the client is started again."""
+        """After an expiry, and after the client is started again."""
         asked = list[Asked]()
         server = self.serve(self.ends, self.refuses, self.answers(RAISED, asked))
         client = self.client(server.host, longest_answer=RAISED, longest_request=RAISED)

@@ -1,4 +1,4 @@
-"""Tests of the line of what is handed over later."""
+"""Tests of the line of requests that are handed over later."""
 
 from __future__ import annotations
 

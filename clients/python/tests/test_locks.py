@@ -75,7 +75,7 @@ class ContendingRules(TwoCase):
         held.release()
 
     def test_what_is_lost_is_not_taken_again(self) -> None:
-        """Neither where its node is deleted nor where its data are set: another one takes the lock, before it is released."""
+        """Neither if its node is deleted nor if its data are set: another one takes the lock, before it is released."""
         for lose, words in ((self.other.delete, ()), (self.other.set, (b"set",))):
             held = self.recipe("Lock", self.one, "/locks", keeps_while_suspended=True).acquire(WAIT)
             lose(held.path, *words)
@@ -89,7 +89,7 @@ class ContendingRules(TwoCase):
             later.release()
 
     def test_a_loss_is_waited_for(self) -> None:
-        """That of the node, of the connection, and the release."""
+        """The loss of the node, of the connection, and the release."""
         for keeps, lose in ((True, self.delete), (False, self.drop), (True, self.let_go)):
             held = self.recipe("Lock", self.one, "/locks", keeps_while_suspended=keeps).acquire(WAIT)
             self.assertFalse(held.wait_lost(0))
@@ -234,7 +234,7 @@ class ContendingRules(TwoCase):
         self.one.delete("/locks", recursive=True)
 
     def test_a_meeting_is_told_though_nobody_is_met_any_more(self) -> None:
-        """The one that was met may be gone when the names are looked at, for the words of the error."""
+        """The one that was met may be gone when the names are read for the words of the error."""
         self.one.create("/locks/a-latch-0000000007", makepath=True)
         lock = self.recipe("Lock", self.one, "/locks")
 
@@ -365,7 +365,7 @@ class OutageTest(PartnerCase):
         is_over.set()
         self.assertEqual([end.get(timeout=6 * WAIT) for end in ends], 4 * [None])
         self.assertGreater(len(tokens), 4)
-        within(lambda: not clients[0].retry(clients[0].get_children, "/locks"))  # what a release has left on a busy machine goes later
+        within(lambda: not clients[0].retry(clients[0].get_children, "/locks"))  # on a busy machine a release leaves its node for later
 
 
 class NumberTest(BothCase):

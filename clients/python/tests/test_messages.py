@@ -1,4 +1,4 @@
-"""Tests of what errors say: the reason, the path as the program named it, and what to do."""
+"""Tests of the texts of errors: the reason, the path as the program named it, and what to do."""
 
 from __future__ import annotations
 
@@ -20,7 +20,7 @@ from dirwolleu.transaction import Transaction
 
 class MessageCase(PartnerCase):
     def said(self, call: Callable[[], object]) -> str:
-        """What the error of a call says."""
+        """The text of a call's error."""
         try:
             call()
         except Exception as error:
@@ -142,7 +142,7 @@ class RefusalTest(MessageCase):
                 self.assertEqual(self.said(lambda kind=kind, root=root: kind(f"127.0.0.1:1{root}")), wanted)  # type: ignore[misc]
 
     def start_says(self, client: Client, begin: str, end: str, is_whole: bool = True) -> None:
-        """A start says this with its own seconds between the two, as soon as that is known: on a busy machine it is given longer."""
+        """A start says this with its own seconds between the two, as soon as that is known: on a busy machine it gets longer."""
         for seconds in (1.5, 6.0, WAIT):
             message, wanted = self.said(functools.partial(client.start, seconds)), f"{begin}{seconds:g}{end}"
             if message == wanted or (message.startswith(wanted) and not is_whole):
@@ -150,7 +150,7 @@ class RefusalTest(MessageCase):
         self.assertEqual(message, wanted)
 
     def test_where_no_server_is_there_the_last_attempt_is_told(self) -> None:
-        host = "127.0.0.1:1"  # a port that no system gives away, so no other test listens there
+        host = "127.0.0.1:1"  # no system gives this port away, so no other test listens there
         client = Client(host, timeout=0.5)
         self.addCleanup(client.close)
         self.start_says(client, f"no server of {host} accepted the session in ", f" s; last: {host}: connection refused")

@@ -1,4 +1,4 @@
-"""Tests of what a client tells those who observe it, and of the page for Prometheus."""
+"""Tests of what a client reports to its observers, and of the page for Prometheus."""
 
 from __future__ import annotations
 
@@ -40,7 +40,7 @@ def samples(page: str) -> dict[str, float]:
 
 
 def observed(client: dirwolleu.Client, kind: type) -> list[Any]:
-    """What a client tells of this kind from now on."""
+    """The reports of a client of this kind from now on."""
     told: list[Any] = []
 
     def take(one: Observation) -> None:

@@ -14,7 +14,7 @@ from dirwolleu import CallTimeoutError, Client, ConnectionLoss, Mark, NotConnect
 
 HOUR = 3600.0
 WITHIN = 0.01
-"""Moments are milliseconds, and what is due is done by timers: so much later may it be, in seconds."""
+"""Moments are milliseconds, and timers do what is due: it may be this much later, in seconds."""
 
 
 def answers(asked: Asked) -> Optional[bytes]:
@@ -40,7 +40,7 @@ class PingTest(UntimedCase):
         self.assertGreaterEqual(len(came), 359)
 
     def test_an_idle_session_is_kept_up(self) -> None:
-        """That of the client for threads, whose loop is this one: nothing waits in it, and it is an hour later soon."""
+        """The session of the client for threads, whose loop is this one: nothing waits in it, and it is an hour later soon."""
         server, states = Server(self.loop, 1, answers), list[State]()
         client_moment = mock.patch("dirwolleu.client.moment", self.loop.moment)
         with client_moment, blocking_clients_in(self.loop):
@@ -103,7 +103,7 @@ class AwayTest(UntimedCase):
     """Servers that accept and never answer, and servers that stay away."""
 
     def check(self, found: float, wanted: float, pause: float = 0.0) -> None:
-        """It is this, or up to a half of the pause less, which is random."""
+        """It is this, or less by up to half of the pause, which is random."""
         self.assertGreaterEqual(found, wanted - pause / 2 - WITHIN)
         self.assertLessEqual(found, wanted + WITHIN)
 
@@ -136,7 +136,9 @@ class AwayTest(UntimedCase):
         self.run_in_loop(run())
 
     def test_one_that_has_begun_a_long_frame_was_heard_then(self) -> None:
-        """It sends no more, and the rest is waited for until two thirds after that: once where nothing was told meanwhile, and once beside a ping."""
+        """It sends no more, and the client waits for the rest until two thirds after that: once if the session got nothing meanwhile, and
+        once beside a ping.
+        """
         for moment in (0.5, 1.9):
             with self.subTest(moment=moment):
                 self.setUp()
@@ -217,7 +219,7 @@ class AwayTest(UntimedCase):
         self.run_in_loop(run())
 
     def test_a_read_that_is_lost_is_asked_again_within_its_limit(self) -> None:
-        """It is asked of the next server, in its place; and where that does not answer either, its limit ends it."""
+        """The next server is asked, in its place; and if that does not answer either, its limit ends it."""
         for says, limit in ((answers, None), (says_nothing, 5.0)):
             with self.subTest(limit=limit):
                 self.setUp()
@@ -303,14 +305,14 @@ class BehindTest(UntimedCase):
                 await self.until(lambda: client.connected and client.stats().connections == 2, 5.0)
                 self.assertEqual([port for _, port in self.loop.dials], [first.port, behind.port, caught_up.port])
                 self.assertEqual((client.session_id, behind.sessions), (session, {}))
-                await self.until(lambda: client.last_zxid == 9, 1.0)  # of the answer that the watch is set again
+                await self.until(lambda: client.last_zxid == 9, 1.0)  # by the answer that the watch is set again
                 kept = client.kept("/a")
                 self.assertEqual((kept.mark, kept.data, kept.last_zxid), (Mark.GOOD, b"two", 9))
 
         self.run_in_loop(run())
 
     def test_one_that_goes_on_serving_is_left_at_its_first_watched_answer(self) -> None:
-        """It accepts the session although it is behind. What it answers to a read that leaves a watch is kept by nobody."""
+        """It accepts the session although it is behind. Nobody keeps its answer to a read that leaves a watch."""
 
         async def run() -> None:
             def old(asked: Asked) -> bytes:

@@ -128,7 +128,7 @@ class LockTest(ClientCase):
         self.check_lost(lock, lost, lambda held: self.server.do("expire"), "session is over|not known to be there")
 
     def test_it_is_lost_with_the_first_step_that_can_know(self) -> None:
-        """After each step of the client: what it is told, and whether the lock is held still."""
+        """After each step of the client: its report, and whether the lock is still held."""
         for keeps, end, wanted in (
             (False, "drop", [(State.CONNECTED, True), (State.SUSPENDED, False)]),
             (True, "expire", [(State.CONNECTED, True), (State.SUSPENDED, True), (State.LOST, False)]),

@@ -1,4 +1,6 @@
-"""Records of clients: what clients/cases/recording.py does not try, as asyncio, an expiry, and a client that is closed and not stopped."""
+"""Records of clients: what clients/cases/recording.py does not try, such as asyncio, an expiry, and a client that is closed and not
+stopped.
+"""
 
 from __future__ import annotations
 
@@ -22,7 +24,7 @@ class RecordingTest(PartnerCase):
         return self.file.read_text(encoding="ascii").splitlines()
 
     def kinds(self) -> list[str]:
-        """The first words of the lines that say what happens, each once where several follow one another."""
+        """The first words of the lines that say what happens, each once if several follow one another."""
         kinds = [line.split()[0] for line in self.lines()]
         kinds = [kind for kind in kinds if kind not in ("#", "now")]
         return [kind for before, kind in zip([""] + kinds, kinds) if kind != before]

@@ -57,11 +57,11 @@ BODIES = {
     SYNC: text("/a"), GET_ACL: OPEN_ACL + STAT, MULTI_READ: header(4, code=0) + text("one") + STAT + END, GET_EPHEMERALS: NONE, COUNT: NONE,
     WHO_AM_I: NONE,
 }  # fmt: skip
-"""What each call that changes nothing is answered with."""
+"""The body of the answer to each call that changes nothing."""
 
 
 def raw(body: bytes) -> RawRequest[bytes]:
-    """A request with this body, whose answer brings its body."""
+    """A request with this body, whose result is the body of its answer."""
     return RawRequest(SYNC, None, lambda _: body, lambda reader, _: reader._payload, is_repeatable=True)
 
 
@@ -82,7 +82,7 @@ class RawCase(PartnerCase):
         return self.raw_server(serve).host
 
     def answering(self, body: bytes = b"", code: int = 0) -> tuple[str, list[Asked]]:
-        """A server that answers each request alike, and what it is asked."""
+        """A server that answers each request alike, and the requests that it gets."""
         asked: list[Asked] = []
 
         def answer(peer: Peer, one: Asked) -> None:
@@ -179,7 +179,7 @@ class SpellingTest(RawCase):
             client.create("/folder/")
 
     def test_several_reads_at_once(self) -> None:
-        """Each has what it brings, or its own error."""
+        """Each has its result, or its own error."""
         names = header(8, code=0) + struct.pack(">i", 2) + text("a") + text("b")
         refused = header(-1, code=-101) + struct.pack(">i", -101)
         body = header(4, code=0) + text("one") + STAT + names + refused + header(4, code=0) + struct.pack(">i", -1) + STAT + END
@@ -337,7 +337,7 @@ class OrderTest(RawCase):
         self.assertEqual(events.get(timeout=WAIT).path, "/a")
 
     def test_what_a_cut_has_lost_is_asked_again_if_it_changes_nothing(self) -> None:
-        """All else is told that it may have happened."""
+        """All other calls raise an error that says that it may have happened."""
         asked, may_end = queue.Queue[Asked](), threading.Event()
         self.addCleanup(may_end.set)
 
@@ -434,7 +434,7 @@ class OrderTest(RawCase):
             self.assertFalse(caught.exception.may_have_happened)
 
     def test_a_server_that_is_behind_what_a_raw_call_has_seen_takes_no_call(self) -> None:
-        """It ends the connection, as ZooKeeper does: so what it has, which is older, is not shown."""
+        """It ends the connection, as ZooKeeper does: so its older data are not shown."""
         seen: list[int] = []
 
         def serve(peer: Peer) -> None:
@@ -549,7 +549,7 @@ class AuthTest(RawCase):
 
 
 class RefusedTest(BothCase):
-    """A server that refuses what a client introduces itself by, from some moment on."""
+    """A server that refuses the credentials of a client, from some moment on."""
 
     is_long = True
 
@@ -558,7 +558,7 @@ class RefusedTest(BothCase):
         self.refuses, self.admits = set[str](), threading.Event()
         self.admits.set()
         self.came: list[list[Asked]] = []
-        """What came over each connection whose session was accepted."""
+        """The bytes that came over each connection whose session was accepted."""
         self.server = self.raw_server(self.serve)
 
     def serve(self, peer: Peer) -> None:
@@ -579,14 +579,14 @@ class RefusedTest(BothCase):
             peer.send(data_reply(one, b"one") if one.kind == GET_DATA else reply(one))
 
     def introduced(self) -> Any:
-        """A client that has credentials, which the server has taken, and a good answer."""
+        """A client that has credentials, which the server has accepted, and a good answer."""
         client = self.client(self.server.host, auth_data=[("x509", b"1"), ("digest", "bob:secret")])
         client.get("/a", watch=True)
         self.assertIs(client.kept("/a").mark, Mark.GOOD)
         return client
 
     def refuse_at_next(self, client: Any) -> None:
-        """Has the connection end, and credentials be refused on the next one."""
+        """Ends the connection, and refuses credentials on the next one."""
         self.refuses.add("digest")
         with self.assertLogs("dirwolleu.connection", "ERROR"), self.assertRaises(AuthFailedError) as caught:
             client.get("/cut")
@@ -613,7 +613,7 @@ class RefusedTest(BothCase):
         return past is not None and past.are_over() and not past.callbacks.is_alive()
 
     def followed(self, client: Any) -> list[bytes]:
-        """What is told of a node that is followed, up to the end."""
+        """The answers of a node that is followed, up to the end."""
         return [kept.data for kept in client.follow("/a")]
 
     def wait_for_tree(self, client: Any) -> None:

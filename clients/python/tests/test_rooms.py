@@ -1,4 +1,4 @@
-"""Tests of what is handed in of that which came, and where it waits."""
+"""Tests of which bytes are handed in when they come, and where the others wait."""
 
 from __future__ import annotations
 
@@ -12,7 +12,7 @@ from support import framed
 from dirwolleu._rooms import MOST_SPARE, SHORT, Inbox, Rooms
 
 SMALL = 4 * SHORT
-"""So large are the rooms of these tests."""
+"""The size of the rooms of these tests."""
 
 
 class RoomsTest(unittest.TestCase):
@@ -23,7 +23,7 @@ class RoomsTest(unittest.TestCase):
         self.rooms = Rooms()
 
     def bring(self, inbox: Inbox, data: bytes) -> bytes:
-        """What is to be handed in after a read that brings this."""
+        """The bytes to hand in after a read that brings this."""
         inbox.room()[: len(data)] = data
         piece = inbox.take(len(data))
         self.assertIs(type(piece), bytes if len(piece) < SHORT else memoryview)
@@ -31,7 +31,7 @@ class RoomsTest(unittest.TestCase):
 
 
 class InboxTest(RoomsTest):
-    """What one connection hands in."""
+    """The bytes that one connection hands in."""
 
     def pieces(self, *reads: bytes) -> list[bytes]:
         inbox = Inbox(self.rooms)
@@ -53,7 +53,7 @@ class InboxTest(RoomsTest):
         self.assertEqual(self.pieces(frame[:100], frame[100:], frame), [frame[:100], frame[100:], frame, b""])
 
     def test_a_length_may_come_in_pieces(self) -> None:
-        """What came of it was handed in. The rest of the frame is handed in once, if it is long."""
+        """The bytes of it that came were handed in. The rest of the frame is handed in once, if it is long."""
         frame = framed(bytes(SHORT + 4))
         for cut in (1, 2, 3):
             self.assertEqual(self.pieces(frame[:cut], frame[cut:100], frame[100:] + frame), [frame[:cut], b"", frame[cut:] + frame, b""])
@@ -106,7 +106,7 @@ class SharingTest(RoomsTest):
     frame = framed(bytes(range(256)) * 20)
 
     def test_all_read_into_one_room(self) -> None:
-        """Also one in which something has waited."""
+        """Also one in which bytes have waited."""
         inboxes, frame, room = [Inbox(self.rooms) for _ in range(3)], self.frame, self.rooms.common
         for inbox in inboxes:
             self.assertEqual(self.bring(inbox, frame[:100]), b"")

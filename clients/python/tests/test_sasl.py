@@ -1,4 +1,4 @@
-"""Tests of the log-in by SASL, against a server that a test writes. What it computes is as RFC 2831 says."""
+"""Tests of the log-in by SASL, against a server that a test writes. It computes as RFC 2831 says."""
 
 from __future__ import annotations
 
@@ -30,7 +30,7 @@ def tokened(asked: Asked, token: bytes, code: int = 0) -> bytes:
 
 
 def proof(response: bytes, username: str, password: str, act: str) -> str:
-    """What RFC 2831 says of the parts of a response."""
+    """The proof of RFC 2831 for the parts of a response."""
     parts = {name: text.strip('"') for name, _, text in (part.partition("=") for part in response.decode().split(","))}
 
     def digest(text: bytes) -> bytes:
@@ -43,7 +43,7 @@ def proof(response: bytes, username: str, password: str, act: str) -> str:
 
 
 class Server:
-    """What a server does on each connection: it wants a log-in as `app`, and then answers all that is asked."""
+    """A server's work on each connection: it demands a log-in as `app`, and then answers all requests."""
 
     def __init__(self, password: str = "secret", code: int = 0, is_false: bool = False) -> None:
         self.password, self.code, self.is_false = password, code, is_false

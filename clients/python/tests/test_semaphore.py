@@ -1,4 +1,4 @@
-"""What a thread waits for that another one sets."""
+"""Tests of the event that one thread waits for and another one sets."""
 
 from __future__ import annotations
 
@@ -17,11 +17,11 @@ from dirwolleu._semaphore import Semaphore
 from dirwolleu._waiting import News, Sleepers, Waiter
 
 LONGEST = 30.0
-"""How long what is awaited may take, in seconds."""
+"""How long anything that a test waits for may take, in seconds."""
 
 
 def is_within(function: Callable[..., object], frame: Optional[FrameType]) -> bool:
-    """Whether a frame is that of a function, or of one that it has called."""
+    """Whether a frame is that of a function, or of one that the function has called."""
     while frame is not None and frame.f_code is not function.__code__:
         frame = frame.f_back
     return frame is not None
@@ -140,7 +140,7 @@ class WaiterTest(unittest.TestCase):
 
     def test_threads_that_are_not_of_the_system_wait_in_their_own_way(self) -> None:
         class Lock:
-            """A lock of gevent, by what is looked at."""
+            """A lock like gevent's, as far as the code looks at it."""
 
         self.assertIsInstance(Waiter(self.sleepers)._news, Semaphore)
         with mock.patch("threading.Lock", Lock), mock.patch.object(News, "__init__", lambda _: None):

@@ -55,7 +55,7 @@ class SessionTest(unittest.TestCase):
         self.assertEqual(session.moment(100), [])  # there is no address
         self.assertEqual(session.addresses(100, 0, 1, True), [Dial(0, 2000)])
         self.assertEqual((session.deadline(), session.moment(2099), session.moment(2100)), (2100, [], [PlainAction.HANG_UP]))
-        self.assertEqual(session.opened(2101), [PlainAction.HANG_UP])  # it comes too late
+        self.assertEqual(session.opened(2101), [PlainAction.HANG_UP])  # it is too late
         self.assertEqual(session.moment(2434), [Dial(0, 2000)])
         self.assertEqual(session.failed(2500), [])
         self.assertEqual(session.moment(2768), [Dial(0, 2000)])
@@ -71,7 +71,7 @@ class SessionTest(unittest.TestCase):
         self.assertEqual({len(set(places[begin : begin + 3])) for begin in range(0, len(places) - 2)}, {3})
 
     def test_a_step_says_more_than_there_was_room_for(self) -> None:
-        for length in (10_000, 100_000, 200_000):  # the last two are not taken together with what else it says
+        for length in (10_000, 100_000, 200_000):  # the last two are not taken together with its other outputs
             session, data = self.connected(), bytes(length)
             session.get_data(100, 1, NO_LIMIT, "/a", False)
             session.get_children(100, 2, NO_LIMIT, "/a", False)
@@ -277,4 +277,4 @@ class MemoryTest(unittest.TestCase):
             faults.append(resource.getrusage(resource.RUSAGE_SELF).ru_minflt)
             self.assertEqual(len(answers.pop()), 100_000)
             del answers
-        self.assertLess(faults[-1] - faults[0], 100)  # where it goes back to the system they are 500 each time
+        self.assertLess(faults[-1] - faults[0], 100)  # if it goes back to the system they are 500 each time

@@ -84,7 +84,7 @@ class SharingRules(TwoCase):
         return str(election.run(lead) if self.module() is aio else election.run(lambda held: held.path))
 
     def test_a_lock_is_taken_again_after_the_node_of_an_earlier_session(self) -> None:
-        """A node of this contender that is left of an expired session is not one that holds."""
+        """A node of this contender that an expired session has left does not hold."""
         lock = self.recipe("Lock", self.one, "/locks")
         first = in_thread(lambda: self.recipe("Lock", self.other, "/locks").acquire(3 * WAIT))
         held = first.get(timeout=WAIT)
@@ -227,7 +227,7 @@ class SharingRules(TwoCase):
         self.assertEqual(self.recipe("Counter", self.one, "/count").get(), 40)
 
     def lossy(self, lost: list[bool]) -> Any:
-        """Has each next request of the kind lose its answer, whether it has happened or not."""
+        """Loses the answer to each next request of the kind, whether it has happened or not."""
         ask = self.engine().ask
 
         def asked(now: int, request: Any, waiter: Any, timeout: Any = None) -> None:
@@ -280,7 +280,7 @@ class SharingRules(TwoCase):
             entries.put(b"", 1000)
 
     def queue_of(self, delete: Callable[[Peer, Asked], None], timeout: float = 6.0, granted_ms: Optional[int] = None) -> Any:
-        """A queue with one entry, at a server that does with a delete what it is told to."""
+        """A queue with one entry, at a server that handles a delete as the test says."""
 
         def serve(peer: Peer) -> None:
             peer.admit(granted_ms)
@@ -315,7 +315,7 @@ class SharingRules(TwoCase):
         self.assertEqual((error.may_have_happened, error.entry, error.path), (True, b"one", "/queue/entry-100-0000000001"))
 
     def test_an_entry_whose_delete_is_answered_never_is_told(self) -> None:
-        """Also where the time for the wait is over before that of the call: a server has granted a longer timeout than that."""
+        """Also if the time for the wait is over before that of the call: a server has granted a longer timeout than that."""
         with mock.patch.object(steps, "SHORTEST_ASK", 0.05), self.assertRaises(CallTimeoutError) as caught:
             self.queue_of(lambda *_: None, 3.0, 60_000).get(1.5)
         error = caught.exception
@@ -328,7 +328,7 @@ class SharingRules(TwoCase):
 
         def work(client: Any) -> None:
             entries = self.recipe("Queue", client, "/queue")
-            while len(entries):  # `get` answers None too where the connection was lost
+            while len(entries):  # `get` returns None too if the connection was lost
                 if (data := entries.get(0)) is not None:
                     taken.append(int(data))
 
@@ -342,7 +342,7 @@ MADE: list[Any] = []
 
 
 class recorded:
-    """Within it, requests of this name that recipes make are in MADE."""
+    """Until the context ends, requests of this name that recipes make are in MADE."""
 
     def __init__(self, name: str) -> None:
         make = getattr(requests, name)
@@ -375,7 +375,7 @@ KINDS = EXCLUSIVE, READING, WRITING
 
 
 def marker_of(kind: Kind, names: str) -> str:
-    """What is before the number in the names of contenders."""
+    """The text before the number in the names of contenders."""
     if names == "kazoo":
         return "__rlock__" if kind is READING else "__lock__"
     return {EXCLUSIVE: "-lock-", READING: "-__READ__", WRITING: "-__WRIT__"}[kind]
@@ -404,7 +404,7 @@ class Contest:
         return self.session.received(300, answer_to(self._xid, zxid, 0, body))
 
     def listed(self, zxid: int, names: list[str]) -> list[Any]:
-        """What the core says when these are the names in the directory."""
+        """The output of the core when these are the names in the directory."""
         return self.answer(zxid, struct.pack(">i", len(names)) + b"".join(buffer(name.encode()) for name in names) + STAT)
 
 
@@ -420,7 +420,7 @@ class OrderTest(unittest.TestCase):
             self.assertEqual((f"/l/{rival}".encode() in said.frame, contest.session.held(1)), (True, None))
 
     def test_which_one_is_waited_for(self) -> None:
-        """Those that share wait for those alone that do not."""
+        """Those that share wait only for those that do not."""
         kinds = EXCLUSIVE, READING, READING, EXCLUSIVE, READING, WRITING
         for names in ("kazoo", "curator"):
             line = [f"{letter}{marker_of(kind, names)}000000000{letter}" for letter, kind in zip("123456", kinds)]
@@ -431,7 +431,7 @@ class OrderTest(unittest.TestCase):
                 self.expect(contest, listing[::-1], None if wanted is None else line[wanted])
 
     def test_none_holds_beside_other_names(self) -> None:
-        """Those of another family are not waited for: each kind pauses beside each kind of theirs, before it or after."""
+        """Nobody waits for those of another family: each kind pauses beside each kind of theirs, before it or after."""
         for names, others in (("kazoo", "curator"), ("curator", "kazoo")):
             for kind, other, number in itertools.product(KINDS, KINDS, "13"):
                 contest, foreign = Contest(kind, names, "own", "0000000002"), f"a{marker_of(other, others)}000000000{number}"

@@ -37,7 +37,7 @@ class ShellTest(PartnerCase):
         return subprocess.Popen(command, stdout=subprocess.PIPE, stderr=subprocess.PIPE, text=True, env=environment)
 
     def run_words(self, partner: Partner, *words: str) -> tuple[int, str, str]:
-        """The exit status of a command, what it prints, and what it says besides. It is run in this process."""
+        """The exit status of a command, its output, and its standard error. It runs in this process."""
         printed, said = io.StringIO(), io.StringIO()
         with contextlib.redirect_stdout(printed), contextlib.redirect_stderr(said):
             with mock.patch.dict(os.environ, {"DIRWOLLEU_HOSTS": partner.host}):
@@ -185,7 +185,7 @@ class ShellTest(PartnerCase):
 
     @unittest.skipUnless(os.path.exists("/dev/full"), "there is no /dev/full")
     def test_what_is_left_to_write_at_the_end_is_no_other_fault(self) -> None:
-        """The interpreter tries once more at its end, and ends with 120 where that fails."""
+        """The interpreter tries once more at its end, and ends with 120 if that fails."""
         program = "import sys; sys.stdout = open(1, 'w', closefd=False); from dirwolleu.__main__ import main; sys.exit(main(['stat', '/', '--wait', '60']))"
         environment = {**os.environ, "PYTHONPATH": str(CLIENTS / "python"), "DIRWOLLEU_HOSTS": self.partner().host}
         with open("/dev/full", "wb") as full:
@@ -195,7 +195,9 @@ class ShellTest(PartnerCase):
         self.assertEqual((done.returncode, done.stderr), (4, "error: standard output: no storage space\n"))
 
     def test_what_drives_a_terminal_is_not_shown_as_it_is(self) -> None:
-        """Data are in hex then, and names as a word, with their bytes. `zk_shell` does so too, except for what changes directions."""
+        """Data are in hex then, and names as a word, with their bytes. `zk_shell` does so too, except for characters that change
+        directions.
+        """
         partner = self.partner()
         client = dirwolleu.Client(partner.host, 60.0)
         self.addCleanup(client.close)
@@ -231,7 +233,7 @@ class ShellTest(PartnerCase):
         process.stderr.close()
 
     def test_a_watch_whose_credentials_are_refused_ends(self) -> None:
-        """They are taken on the first connection, which ends once the node is read."""
+        """The first connection accepts them, and ends once the node is read."""
         taken = list[Asked]()
 
         def serve(peer: Peer) -> None:
@@ -271,7 +273,7 @@ class ShellTest(PartnerCase):
         self.assertEqual(process.returncode, 130)
 
     def read_until(self, process: subprocess.Popen[str], wanted: str) -> list[str]:
-        """The lines that a command prints, up to the first that is so."""
+        """The lines that a command prints, up to the first that meets a condition."""
         assert process.stdout is not None
         lines = [process.stdout.readline()]
         while lines[-1] and not re.search(wanted, lines[-1]):

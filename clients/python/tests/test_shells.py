@@ -30,7 +30,7 @@ SHELL = os.environ.get("DIRWOLLEU_SHELL") or str(CLIENTS.parent / "prebuilt/x86_
 MANUAL = CLIENTS.parent / "docs/zk_shell.1"
 ENVIRONMENT = {**os.environ, "PYTHONPATH": str(CLIENTS / "python")}
 ONLY_HERE = {"auth", "ca", "cert", "key", "makepath", "text"}
-"""The options that `zk_shell` lacks: TLS, credentials, nodes above a node that is made, and `tree` with data."""
+"""The options that `zk_shell` does not have: TLS, credentials, nodes above a node that is made, and `tree` with data."""
 BOTH = ("get", "ls", "stat", "tree", "set", "create", "delete", "watch")
 
 CHANGES: list[list[str]] = [
@@ -44,7 +44,7 @@ CHANGES: list[list[str]] = [
     ["set", "/a", "caf\udce9 'x'"], ["create", "/\udcff", "x"], ["create", "/a/\u202ex", "\u2067y"], ["create", "/a/\u200e", "\u2028z", "--json"],
     ["set", "--version=1", "/a", "é x"], ["delete", "/a"], ["delete", "/none"], ["delete", "/a/empty", "--version", "3"], ["delete", "/a/empty"],
 ]  # fmt: skip
-"""Each is done by both, each at a server of its own."""
+"""Both make each of these, each at a server of its own."""
 PATHS = ("/", "/a", "/none", "/a/null", "/a/bytes", "/a/é z", "/a/\u202ex", "/a/\u200e")
 DATA = ("/a", "/a/esc", "/a/marked", "/a/null", "/a/bytes", "/a/-1", "/a/\u202ex")
 EACH = [[command, path] for command in ("get", "ls", "stat", "tree") for path in PATHS]
@@ -64,7 +64,7 @@ LINES: list[list[str]] = [
     *(["set", "/a", *words] for words in (["--from", "a", "--from", "b"], ["--null", "x"], ["0", "--hex"], ["x", "--version", "-1", "--nope"])),
     ["get", "/a", "--wai", "3"], ["create", "/a", "-x"], ["watch", "--data", "a"], ["watch", "--timeout", "0"], ["watch", "--most", "x"],
 ]  # fmt: skip
-"""Command lines that are refused. Whatever reads them says more below the first line."""
+"""Command lines that are refused. The reader of each says more below the first line."""
 BARE: list[list[str]] = [
     ["--", "get", "/a"], ["--", "help"], ["--", "--"], ["--", "--json"], ["--", ""], ["--json", "get", "/a"], ["-x"], ["--nope"], ["-"], ["g"], [""],
     ["help", "get", "x"], ["help", "nope"], ["help", "-h"], ["help", "--help"], ["help", "--", "get"], ["help", "help"], ["help", "help", "x"],
@@ -78,7 +78,7 @@ BARE: list[list[str]] = [
     ["watch", "h:1", "--data", "a", "--most", "x"], ["watch", "--children", "b", "--data", "a", "--tree", "c"], ["tree", "h:x", "a", "--most", "x", "--depth", "y"],
     *(["set", *words, "--version", "x"] for words in (["h:x", "a"], ["/a"], ["a", "zz", "--hex"], ["/a", "zz", "--hex"], ["/a", "--null"], ["/a", "x", "--wait", "y"])),
 ]  # fmt: skip
-"""Lines without servers that are refused, or ask for help: what may stand before a command, and which of several faults is told."""
+"""Lines without servers that are refused, or ask for help: the words before a command, and which of several faults is reported."""
 
 
 def header(xid: int, zxid: int = 5) -> bytes:
@@ -95,7 +95,7 @@ FAULTS: list[tuple[str, Callable[[Asked], bytes]]] = [
     ("C5 J4 at 28", lambda asked: framed(notice("/a")[:-1] + b"\xff")), ("F1", lambda asked: b"\xff" * 4), ("F2", lambda asked: b"\x7f" * 4),
     ("D2 5 4", lambda asked: framed(data_reply(asked, b"x"), data_reply(asked._replace(xid=2), b"y", zxid=4))), ("D1", lambda asked: b""),
 ]  # fmt: skip
-"""What the first of two reads is answered with, and the fault that it is, with its values."""
+"""The answer to the first of two reads, and the fault that it is, with its values."""
 
 
 def with_hosts(hosts: str, words: list[str]) -> list[str]:
@@ -114,7 +114,7 @@ NO_HOSTS = ("a..b:1", ".a:1", ".:1", "a" * 64 + ":1", "x." + "a" * 64, ".".join(
             "ex\u00e4.invalid:1", "\u202ea:1", "a\u3002b:1", "a:\u0661")  # fmt: skip
 """Words that are no servers: both refuse them, and dial none."""
 HOSTS = ("a.invalid:1", ".".join(["a" * 63] * 3 + ["a" * 61]), "a" * 63 + ".invalid.", "a_-b.invalid:65535", "[no.invalid]:1", "no.invalid:1,no.invalid:2")
-"""Those that are, and that nobody has."""
+"""Words that are servers, and that nobody has."""
 
 
 def closes(peer: Peer) -> None: ...
@@ -174,9 +174,9 @@ CODES = {-4: "the server has lost its connection", -6: "the server does not know
 NAMES = [b"b", b" ", b"\\", "\u00e9".encode(), b"a\tb", "\u202ex".encode(), b"b"]
 UNACCEPTING: list[Serve] = [closes, functools.partial(says, b"\xff" * 4), functools.partial(says, b"\0\0\0\x25\0")]
 LONG_ENOUGH = "10"
-"""For how many seconds a command waits that has no other end: also a busy machine has dialled by then, and has been answered."""
+"""For how many seconds a command waits that has no other end: also a busy machine has dialled by then, and has got an answer."""
 End = tuple[Serve, list[str], int, str, str]
-"""What a server does, a command, and its end in both: the status, the output, and what is said."""
+"""The behaviour of a server, a command, and its end in both: the status, the output, and the message."""
 ENDS_OF_READS: list[End] = [(functools.partial(is_silent, 30_000), words, 8, "", f"{LATE}\n") for words in (GET, LS, TREE, ["stat", "/a"])]
 ENDS_OF_CHANGES: list[End] = [(functools.partial(is_silent, 30_000), words, 8, "", f"{LATE}, and it may or may not have happened\n")
                               for words in (SET, ["create", "/a", ""], ["delete", "/a"])]  # fmt: skip
@@ -230,7 +230,7 @@ class Watched:
                 self._news.notify()
 
     def wait(self, count: int) -> None:
-        """Waits until it has printed this number of lines, those that are stale left out."""
+        """Waits until it has printed this number of lines, not counting stale ones."""
         with self._news:
             if not self._news.wait_for(lambda: len(self.lines) >= count, WAIT):
                 raise AssertionError(f"not {count} lines but {self.lines}")
@@ -296,7 +296,7 @@ class ShellsTest(unittest.TestCase):
             self.assertEqual(zk, python, hosts)
 
     def test_servers_of_the_environment(self) -> None:
-        """They are those of a command whose words name none."""
+        """A command whose words name no servers uses them."""
         with Server() as server:
             server.create("/a", b"one")
             server.create("/a/b", b"two")
@@ -316,7 +316,7 @@ class ShellsTest(unittest.TestCase):
             self.assertIn("connected, but no session was accepted", zk[2])
 
     def test_answers_that_tell_of_a_session(self) -> None:
-        """Codes that a server gives for what the client may find by itself too; and a server that accepts no session that it is asked for."""
+        """Codes of a server that the client may find by itself too; and a server that accepts no session that it is asked for."""
 
         def answer(code: int, peer: Peer) -> None:
             peer.admit()
@@ -377,7 +377,7 @@ class ShellsTest(unittest.TestCase):
         self.check_ends(ENDS_WITH_AN_ANSWER)
 
     def test_names_that_no_path_has(self) -> None:
-        """A tree below which is one is refused; a list has it; and a name that comes twice is one."""
+        """A tree is refused if one is below it; a list has it; and a name that comes twice is one."""
         for name in (b"", b".", b"..", b"b/c", b"a\tb", "\uffff".encode(), b"n" * 4094):
             serve: Serve = functools.partial(answers, functools.partial(listing, [b"b", name, b"b"]))
             zk, python = self.ends_of(serve, [*LS, "--json"])
@@ -389,7 +389,7 @@ class ShellsTest(unittest.TestCase):
                 self.assertEqual((zk[0], zk[2]), (6 if said else 0, said))
 
     def test_trees_that_are_not_listed_to_their_end(self) -> None:
-        """What is at the greatest depth, and what comes after the last that is printed, is not asked for."""
+        """The nodes at the greatest depth, and those after the last that is printed, are not asked for."""
 
         def answer(asked: Asked) -> bytes:
             return listing([b"b", b"c"], asked) if b"/b" not in asked.body else reply(asked, code=-102)
@@ -494,7 +494,7 @@ class ShellsTest(unittest.TestCase):
                 self._watch_both(f"{server.hosts}/a", [*subjects, *form], changes, 5)
 
     def _watch_both(self, hosts: str, words: list[str], changes: list[tuple[Callable[[], object], int]], stale: int) -> None:
-        """Makes changes, and waits after each until both have printed this number of lines, those that are stale left out."""
+        """Makes changes, and waits after each until both have printed this number of lines, not counting stale ones."""
         with Watched([SHELL], hosts, words) as zk, Watched([sys.executable, "-m", "dirwolleu"], hosts, words) as python:
             for change, count in changes:
                 change()
@@ -517,7 +517,7 @@ class ShellsTest(unittest.TestCase):
         self.assertEqual(lines[0][-3:], ["state Closed", "/ data none last 0", "/none names none last 0"])
 
     def test_a_watch_whose_end_the_server_does_not_answer(self) -> None:
-        """That a read is refused then, since the session is being closed, is not printed. An end of the connection is."""
+        """It does not print that a read is refused then, since the session is being closed. It does print an end of the connection."""
 
         def serve(is_left: bool, peer: Peer) -> None:
             peer.admit()
@@ -538,7 +538,7 @@ class ShellsTest(unittest.TestCase):
         self._never_connect("127.0.0.1:1", "failed")
 
     def test_a_host_that_is_not_found(self) -> None:
-        """It is dialled, and told."""
+        """It is dialled, and reported."""
         self._never_connect("nowhere.invalid", "dial nowhere.invalid")
         self.assertEqual(*self.run_both("nowhere.invalid", ["get", "/a", "--wait", "2"]))
 
@@ -581,7 +581,7 @@ class ShellsTest(unittest.TestCase):
         self._given_up(FAULTS)
 
     def _given_up(self, faults: list[tuple[str, Callable[[Asked], bytes]]]) -> None:
-        """The code of the fault is printed, its values, and what it means."""
+        """It prints the code of the fault, its values, and its meaning."""
 
         def serve(message: Callable[[Asked], bytes], peer: Peer) -> None:
             peer.admit()

@@ -1,4 +1,4 @@
-"""Tests of how the objects of both clients show themselves, and of what they say where a program is not theirs."""
+"""Tests of how the objects of both clients show themselves, and of their messages for names that they do not have."""
 
 from __future__ import annotations
 

@@ -25,7 +25,7 @@ ROUNDS, LONGEST = 60, 0.4
 
 @contextlib.contextmanager
 def quick_switches() -> Iterator[None]:
-    """Within it, the interpreter goes from thread to thread as often as it can."""
+    """Until the context ends, the interpreter goes from thread to thread as often as it can."""
     before = sys.getswitchinterval()
     sys.setswitchinterval(1e-6)
     try:
@@ -36,7 +36,7 @@ def quick_switches() -> Iterator[None]:
 
 @contextlib.contextmanager
 def held_at_start(thread: Any) -> Iterator[None]:
-    """Within it, a start of the thread is under way: it has an `ident`, and is not alive yet."""
+    """Until the context ends, a start of the thread is under way: it has an `ident`, and is not alive yet."""
     is_there, goes_on, started = threading.Event(), threading.Event(), thread._started
 
     def set_started() -> None:
@@ -56,7 +56,7 @@ def held_at_start(thread: Any) -> Iterator[None]:
 
 class StoppingCase(PartnerCase):
     def client(self, host: str = "127.0.0.1:1", timeout: float = TIMEOUT) -> Client:
-        """A client, which finds no server unless it is told of one."""
+        """A client, which finds no server unless it gets one."""
         client = Client(host, timeout)
         self.addCleanup(client.close)
         self.addCleanup(client.stop)
@@ -67,7 +67,7 @@ class StoppingCase(PartnerCase):
 
 
 class ThreadsTest(StoppingCase):
-    """The threads of one client, which are stopped at moments that are chosen."""
+    """The threads of one client, which are stopped at chosen moments."""
 
     def setUp(self) -> None:
         self.stopped = self.client()
@@ -75,7 +75,7 @@ class ThreadsTest(StoppingCase):
         self.addCleanup(self.threads.stop, lambda: None)
 
     def check_over(self, life: int) -> None:
-        """All is over, and the engine has begun so often."""
+        """All is over, and the engine has begun this often."""
         within(self.threads.are_over)
         within(lambda: not self.threads.callbacks.is_alive())
         self.assertEqual((self.stopped._engine.life, self.stopped._engine.is_running), (life, False))
@@ -122,7 +122,7 @@ class ThreadsTest(StoppingCase):
 
 class CallbacksTest(unittest.TestCase):
     def told(self) -> tuple[Callbacks, list[int]]:
-        """Callbacks that were told of one, and what was called."""
+        """Callbacks that have got a function to call, and the calls up to now."""
         callbacks, called = Callbacks(lambda begin: None), list[int]()
         self.assertTrue(callbacks.tell(called.append, 1))
         return callbacks, called
@@ -141,7 +141,7 @@ class CallbacksTest(unittest.TestCase):
         self.assertEqual((callbacks.tell(called.append, 2), called), (False, [1]))
 
     def test_it_is_started_once_where_two_threads_begin_it(self) -> None:
-        """That which polls, and one that stops the client: two threads would run it, and one of them for ever."""
+        """The thread that polls, and one that stops the client: two threads would run it, and one of them for ever."""
         started, goes_on = list[Callbacks](), threading.Event()
 
         def start(callbacks: Callbacks) -> None:
@@ -158,7 +158,7 @@ class CallbacksTest(unittest.TestCase):
             self.assertEqual((first.get(timeout=WAIT), second.get(timeout=WAIT), started), (None, None, [callbacks]))
 
     def test_what_is_told_while_the_thread_ends(self) -> None:
-        """Each number is called, or is not said to be."""
+        """Each number is called, or is reported as not called."""
         with quick_switches():
             for _ in range(20):
                 called, refused = list[int](), list[int]()
@@ -231,7 +231,7 @@ class ClientTest(StoppingCase):
         self.assertEqual(client.get_children("/"), [])
 
     def test_one_thread_serves_all_clients(self) -> None:
-        """It ends with the last of them. That for callbacks begins with the first."""
+        """It ends with the last of them. The one for callbacks begins with the first."""
 
         def threads() -> list[str]:
             return sorted(thread.name for thread in threading.enumerate() if thread.name.startswith("dirwolleu"))
@@ -295,7 +295,7 @@ class TurnTest(StoppingCase):
 
     @contextlib.contextmanager
     def held_up_after(self, name: str) -> Iterator[None]:
-        """Within it, each step of the engine by this name is over late, once it has answered."""
+        """Until the context ends, each step of the engine by this name is over late, once it has answered."""
         step = getattr(self.engine, name)
 
         def late(*words: Any) -> None:
@@ -308,7 +308,7 @@ class TurnTest(StoppingCase):
             yield
 
     def check_over(self) -> None:
-        """The turn is, and has told what came."""
+        """The turn is over, and has reported what came."""
         self.assertEqual((self.is_over, self.started.state), (True, State.LOST))
 
     def test_what_comes_after_an_answer_is_there_when_the_call_goes_on(self) -> None:
@@ -355,7 +355,7 @@ class TurnTest(StoppingCase):
                 self.assertEqual(one.get(timeout=WAIT), (ConnectionClosedError, True, State.LOST))
 
     def outcome(self, call: Callable[[], object]) -> tuple[Any, bool, State]:
-        """What a call raises, whether the turn is over by then, and the state."""
+        """The error of a call, whether the turn is over by then, and the state."""
         try:
             return call(), self.is_over, self.started.state
         except ZookeeperError as error:
@@ -376,7 +376,7 @@ class TurnTest(StoppingCase):
         self.assertEqual(self.started.get_children("/"), [])
 
     def test_a_close_wakes_who_waits(self) -> None:
-        """Where no thread is left to do so."""
+        """If no thread is left to do so."""
         waiter = Waiter(self.started._sleepers)
         self.started.stop()
         waiter.set_result("one")

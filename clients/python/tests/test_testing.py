@@ -1,4 +1,4 @@
-"""Tests of `dirwolleu.testing`: what a program's own tests can do with the server in memory."""
+"""Tests of `dirwolleu.testing`: how a program's own tests use the server in memory."""
 
 from __future__ import annotations
 

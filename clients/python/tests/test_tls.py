@@ -21,7 +21,7 @@ from dirwolleu.kazoo._checks import own_key
 
 
 class Authority:
-    """One that signs certificates, in a folder."""
+    """A signer of certificates, in a folder."""
 
     def __init__(self, folder: pathlib.Path, name: str) -> None:
         self._folder, self._name = folder, name

@@ -1,4 +1,6 @@
-"""Tests of trees for what the partner does not do: it refuses no read, says not what comes at once, and lets no memory run out."""
+"""Tests of trees for what the partner does not do: it refuses no read, does not decide which answers come at once, and never runs out of
+memory.
+"""
 
 from __future__ import annotations
 
@@ -56,7 +58,7 @@ class GrowingTest(unittest.TestCase):
         self.admit(100)
 
     def admit(self, now: int) -> None:
-        """A connection that was asked for is made, and a server accepts the session."""
+        """A connection that the session asked for is open, and a server accepts the session."""
         self.assertIsNotNone(self.engine.take_commands().dial)
         self.engine.opened(now)
         self.engine.received(now, CONNECT_RESPONSE)
@@ -122,7 +124,7 @@ class GrowingTest(unittest.TestCase):
         self.assertEqual((tree.is_current(), self.nodes(tree), self.frames()), (True, {"/t": b"one"}, b""))
 
     def test_what_is_reported_and_read_again_at_once_is_looked_at(self) -> None:
-        """By another read, of what was good before the tree was followed: so the session has no ticket for it."""
+        """By another read, of a node that was good before the tree was followed: so the session has no ticket for it."""
         for path in ("/t", "/t/a"):
             self.ask(requests.get(path, True))
             self.ask(requests.get_children(path, True))
@@ -162,7 +164,7 @@ class GrowingTest(unittest.TestCase):
         self.assertIsNone(tree.trouble)
 
     def test_a_read_that_is_refused_before_it_is_sent_is_told_with_its_path(self) -> None:
-        """It is refused in the step in which the session takes the node on."""
+        """It is refused in the step in which the session adds the node."""
         tree, moment = self.planted(), Session.moment
 
         def refused(session: Session, now: int) -> list[Action]:
@@ -270,7 +272,8 @@ class GrowingTest(unittest.TestCase):
         self.assertTrue(self.frames().endswith(read(1, "/t", True).frame + list_of(2, "/t")))
 
     def test_reads_of_a_large_tree_leave_room_for_calls(self) -> None:
-        """A tree has 960 reads on their way. Beside them 64 calls have room; what is asked after those, raw calls too, waits until all else is read."""
+        """A tree has 960 reads on their way. Beside them 64 calls have room; calls after those, raw ones too, wait until all else is read.
+        """
         self.planted(2000)
         self.come(data(1), listed(2, *(f"n{number:03}" for number in range(512))))
         self.assertTrue(self.frames().endswith(list_of(962, "/t/n447")))

@@ -17,7 +17,7 @@ MADE = ("create /t root", "create /t/a 1", "create /t/a/deep 2", "create /t/b -"
 
 
 class SnapshotTest(PartnerCase):
-    """What a snapshot says, over the server in memory."""
+    """The contents of a snapshot, over the server in memory."""
 
     def setUp(self) -> None:
         self.server = self.partner()
@@ -28,7 +28,7 @@ class SnapshotTest(PartnerCase):
         self.tree = self.client.tree("/t")
 
     def grown(self, is_wanted: Callable[[TreeSnapshot], bool]) -> TreeSnapshot:
-        """The first newest snapshot that is wanted."""
+        """The first newest snapshot that meets a condition."""
 
         def found() -> Optional[TreeSnapshot]:
             latest = self.tree.latest
@@ -96,7 +96,7 @@ class SnapshotTest(PartnerCase):
         within(lambda: tree.current is not None and tree.current["/other"].data == b"4")
 
     def test_more_nodes_than_wanted_are_told(self) -> None:
-        """In the log once until the tree is whole again, however many nodes come meanwhile."""
+        """The log has it once until the tree is whole again, however many nodes come meanwhile."""
         with self.assertLogs("dirwolleu.tree", "WARNING") as told:
             tree = self.client.tree("/t", most=3)
             with self.assertRaisesRegex(ValueError, "^more than 3 nodes at and below /t; "):
@@ -164,7 +164,7 @@ class MomentTest(PartnerCase):
         self.assertIsNone(client.snapshot(nodes=["/none"]))
 
     def test_what_each_path_has(self) -> None:
-        """It is what a look-up of that path alone has."""
+        """The same as a look-up of that path alone has."""
         server = self.partner()
         server.do(*MADE)
         with dirwolleu.Client(f"{server.host}/t", TIMEOUT) as client:

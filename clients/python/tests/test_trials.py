@@ -1,4 +1,4 @@
-"""Tests of trials/test: what it says of languages that can't be tried here."""
+"""Tests of trials/test: its report on languages that can't be tried here."""
 
 from __future__ import annotations
 
@@ -21,13 +21,13 @@ class TrialsTest(unittest.TestCase):
         self.tools = pathlib.Path(folder.name)
 
     def put(self, name: str, says: str = "") -> None:
-        """Puts a tool into the path, which says this."""
+        """Puts a tool into the path, which prints this."""
         tool = self.tools / name
         tool.write_text(f"#!/bin/sh\necho '{says}'\n")
         tool.chmod(0o755)
 
     def tried(self, *parts: str) -> tuple[int, str]:
-        """The exit status and the last line of the script, where these tools alone are in the path."""
+        """The exit status and the last line of the script, if only these tools are in the path."""
         environment = {**os.environ, "PATH": str(self.tools), "CC": "cc"}
         done = subprocess.run([sys.executable, str(SCRIPT), *parts], env=environment, capture_output=True, text=True, timeout=6 * WAIT)
         return done.returncode, (done.stdout + done.stderr).splitlines()[-1]

@@ -76,10 +76,10 @@ class FutureTest(unittest.TestCase):
 
 
 class LinkTest(unittest.TestCase):
-    """What a connection hands in of what came, and how it ends."""
+    """The bytes that a connection hands in, and how it ends."""
 
     def read(self, *counts: object) -> tuple[list[object], int]:
-        """What a connection tells of reads that bring these, and how often it reads."""
+        """What a connection reports after reads that bring these, and how often it reads."""
         told = list[object]()
         driver: Any = SimpleNamespace(bring=lambda piece: told.append(len(piece)), leave=told.append)
         reactor: Any = SimpleNamespace(rooms=Rooms(), leave=mock.Mock())
@@ -154,7 +154,7 @@ class ReactorTest(unittest.TestCase):
         self.assertEqual(self.taken, [1])
 
     def test_nothing_is_lost_where_many_post(self) -> None:
-        """Each wait ends long before its bound: else something that was posted has woken nobody."""
+        """Each wait ends long before its bound: else a function that was posted has woken nobody."""
 
         def post(first: int) -> None:
             for number in range(first, first + 5000):
@@ -241,7 +241,7 @@ class PipeTest(ReactorTest):
 
 
 class SelectingTest(ReactorTest):
-    """The same where threads are not the system's: gevent and eventlet have no epoll."""
+    """The same if threads are not the system's: gevent and eventlet have no epoll."""
 
     def setUp(self) -> None:
         with mock.patch("dirwolleu._poll.has_system_threads", return_value=False):

@@ -121,7 +121,7 @@ class WatchRules(BothCase):
         self.assertTrue(told.empty())
 
     def test_what_is_told_is_good_and_never_older(self) -> None:
-        """A node that is changed all the time, through cuts: each call has what is good, with greater and greater zxids."""
+        """A node that is changed all the time, through cuts: each call has a good answer, with greater and greater zxids."""
         partner, told, bad = self.partner(), list[int](), list[Any]()
         client = self.client(partner.host)
         own = getattr(client, "_made", client)
@@ -157,7 +157,7 @@ class WatchRules(BothCase):
                     peer.send(data_reply(asked, b"overtaken"), notice("/a"))
                     overtaken.append(asked)
 
-        client, told = self.client(self.raw_server(serve).host, 3.0), queue.Queue[Any]()  # a watch waits so long for its first call
+        client, told = self.client(self.raw_server(serve).host, 3.0), queue.Queue[Any]()  # its first call may wait that long
         self.watch(client, "DataWatch", "/a", lambda data, _: told.put(data))
         within(lambda: len(overtaken) > 2)
         is_calm.set()
@@ -218,12 +218,12 @@ class FreshRules(BothCase):
         client.exists("/")
         before = client.stats().answered
         client.fresh()
-        self.assertEqual(client.stats().answered - before, 1)  # sync alone: its zxid was seen already
+        self.assertEqual(client.stats().answered - before, 1)  # only sync: its zxid was seen already
         partner.do("create /later")
-        self.assertEqual(partner_asks(client, True), 1)  # the transaction alone
+        self.assertEqual(partner_asks(client, True), 1)  # only the transaction
 
     def test_the_zxid_of_its_answer_is_seen(self) -> None:
-        """The answer to sync has a greater zxid than any before, and notices of what came up to it are before it."""
+        """The answer to sync has a greater zxid than any before, and notices of changes up to it come before it."""
         asked_for = list[int]()
 
         def serve(peer: Peer) -> None:
@@ -356,7 +356,7 @@ class AioFollowChildrenTest(AioCase, FollowChildrenRules): ...
 
 
 class AtOnce:
-    """A client whose thread of the callbacks is as fast as can be: what it is told it has done before `_tell` returns."""
+    """A client whose thread of the callbacks is as fast as can be: it has called each function before `_tell` returns."""
 
     def _tell(self, function: Callable[[Any], object], argument: Any) -> bool:
         function(argument)

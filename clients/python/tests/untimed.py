@@ -1,5 +1,5 @@
-"""An event loop without sockets, whose time passes only where nothing is left to be done before: so a test of hours takes no time, and no load
-of the machine changes what it sees.
+"""An event loop without sockets, whose time passes only when there is nothing left to do before: so a test of hours takes no time, and no
+load of the machine changes what it sees.
 """
 
 from __future__ import annotations
@@ -26,7 +26,7 @@ Serve = Callable[[], asyncio.Protocol]
 
 
 class _Clock(selectors.SelectSelector):
-    """What a loop waits by: it waits for nothing, and its time is later then."""
+    """The selector of a loop: it waits for nothing, and its time is later then."""
 
     now = 1000.0
 
@@ -40,7 +40,7 @@ class _Clock(selectors.SelectSelector):
 
 
 class _End(asyncio.Transport):
-    """One end of a connection. What is written at it comes at the other one in the next turn of the loop."""
+    """One end of a connection. Bytes that are written at it come at the other one in the next turn of the loop."""
 
     other: _End
 
@@ -78,7 +78,7 @@ class _End(asyncio.Transport):
 
 
 class _Listener:
-    """What listens at a port, as the server in memory has it."""
+    """A listener at a port, as the server in memory has it."""
 
     def __init__(self, loop: Untimed, port: int) -> None:
         self._loop, self._port, self.sockets = loop, port, [self]
@@ -97,11 +97,11 @@ class Untimed(asyncio.SelectorEventLoop):
         self._clock = _Clock()
         super().__init__(self._clock)
         self.servers: dict[int, Serve] = {}
-        """What serves at each port. At all others a connection is refused."""
+        """The server at each port. At all others a connection is refused."""
         self.away: set[int] = set()
         """The ports of hosts that are away: nothing there answers an attempt to connect."""
         self.dials: list[tuple[float, int]] = []
-        """When was dialled, and which port."""
+        """The moments of the dials, and their ports."""
 
     def time(self) -> float:
         return self._clock.now
@@ -136,13 +136,13 @@ class Came(NamedTuple):
 
 
 class Server:
-    """A server of which a test writes what it answers. It accepts each session, unless `admits` says otherwise."""
+    """A server whose answers a test writes. It accepts each session, unless `admits` says otherwise."""
 
     def __init__(self, loop: Untimed, port: int, answer: Callable[[Asked], Optional[bytes]]) -> None:
         self.answer = answer
         self.admits = True
         self.granted_ms: Optional[int] = None
-        """The timeout that it grants, where that is not the one that is asked for."""
+        """The timeout that it grants, if that is not the requested one."""
         self.came: list[Came] = []
         self.connects: list[Connected] = []
         self.write: Callable[[bytes], object] = lambda _: None
@@ -217,7 +217,7 @@ class _Polling:
 
 
 class _Stepping:
-    """A driver of which all that a connection tells is a step of its client."""
+    """A driver for which each report of a connection is a step of its client."""
 
     def __init__(self, do: Callable[..., object], driver: Any) -> None:
         self._do, self._driver = do, driver
@@ -250,7 +250,7 @@ class _Dialled:
 
 @contextlib.contextmanager
 def blocking_clients_in(loop: Untimed) -> Iterator[None]:
-    """Within it, the blocking clients that are started have this loop."""
+    """Until the context ends, the blocking clients that are started have this loop."""
     polling = _Polling(loop)
     thread = threading.Thread(target=loop.run_forever, daemon=True)
 
@@ -305,7 +305,7 @@ class UntimedCase(PartnerCase):
             await client.close()
 
     async def until(self, condition: Callable[[], Any], seconds: float) -> float:
-        """Waits until a condition holds, in the loop's time, and gives the moment."""
+        """Waits until a condition holds, in the loop's time, and returns the moment."""
         end = self.loop.time() + seconds
         while not condition():
             self.assertLess(self.loop.time(), end, "this has not come to pass in time")

@@ -1,7 +1,7 @@
 """Changes a tree of a real ZooKeeper server by kazoo: trials/real_server.sh runs it, beside the example that prints what it keeps of the tree.
 
   grove.py PORT COUNT    makes a tree of 100 nodes below /grove, and then this many transactions, at about 100 a second. Each sets the root and three
-                         other nodes, and makes a leaf or deletes one. What the tree is after each is written as the example prints it, without the
+                         other nodes, and makes a leaf or deletes one. The tree after each of them is written as the example prints it, without the
                          zxid
 """
 

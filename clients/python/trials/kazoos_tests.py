@@ -33,7 +33,7 @@ class TookTooLong(Exception):
 
 
 class Outcomes:
-    """A plugin of pytest: ends each test that takes too long, and keeps what became of each."""
+    """A plugin of pytest: ends each test that takes too long, and keeps the outcome of each."""
 
     def __init__(self) -> None:
         self.found: dict[str, str] = {}
@@ -56,7 +56,7 @@ class Outcomes:
 
 
 def module_of(name: str, path: pathlib.Path) -> types.ModuleType:
-    """Has a module of kazoo's package be imported by its name, from its own file."""
+    """Imports a module of kazoo's package by its name, from its own file."""
     folders = [str(path.parent)] if path.name == "__init__.py" else None
     spec = importlib.util.spec_from_file_location(name, path, submodule_search_locations=folders)
     assert spec is not None and spec.loader is not None
@@ -68,9 +68,9 @@ def module_of(name: str, path: pathlib.Path) -> types.ModuleType:
 
 
 def use_dirwolleu() -> None:
-    """Has `import kazoo` give dirwolleu.kazoo, with kazoo's tests and its harness in it.
+    """Makes `import kazoo` give dirwolleu.kazoo, with kazoo's tests and its harness in it.
 
-    A module of them imports three names of how kazoo spells frames, which the tests that use them can't do here.
+    One module of these imports three names of how kazoo spells frames, which the tests that use them can't do here.
     """
     sys.path.insert(0, str(pathlib.Path(__file__).resolve().parents[1]))
     importlib.import_module("dirwolleu.kazoo").install()
@@ -82,7 +82,7 @@ def use_dirwolleu() -> None:
 
 
 def free_ports() -> int:
-    """The first of thirty ports in a row that nothing listens at."""
+    """The first of thirty ports in a row at which nothing listens."""
     for first in range(21000, 30000, 50):
         taken = []
         try:

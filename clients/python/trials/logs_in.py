@@ -15,7 +15,7 @@ from dirwolleu.security import ACL, AuthFailedError, Id, Permissions  # noqa: E4
 
 
 def work(hosts: str) -> None:
-    """A node that `app` alone may read, over two connections."""
+    """A node that only `app` may read, over two connections."""
     app = Id("sasl", "app")
     with dirwolleu.Client(hosts, sasl=digest_md5("app", "secret")) as client:
         client.create("/app", b"one", acl=[ACL(Permissions.ALL, app)])

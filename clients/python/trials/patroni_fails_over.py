@@ -43,7 +43,7 @@ from kazoo.exceptions import KazooException, NoNodeError  # type: ignore[import]
 from kazoo.handlers.threading import KazooTimeoutError  # type: ignore[import]
 
 TTL, LOOP_WAIT, RETRY_TIMEOUT = 10, 2, 3
-"""What patroni is told, in seconds."""
+"""The ttl in patroni's configuration, in seconds."""
 TICK, SYNC_LIMIT = 0.5, 20
 """The tick of the servers, by which the end of a session is rounded up, in seconds, and their `syncLimit` in ticks."""
 LATEST_END = TTL + 2 * TICK + 1
@@ -51,11 +51,11 @@ LATEST_END = TTL + 2 * TICK + 1
 ttl in whole ticks.
 
 Servers of ZooKeeper that have lost their leader serve nobody until they have elected another one, and that one counts the
-timeouts of all sessions from then on. So it is in seconds after they serve again, where that is later.
+timeouts of all sessions from then on. So it is in seconds after they serve again, if that is later.
 """
 LATEST_LOOK = LOOP_WAIT + 0.5 + 1
 """How much later the other node has to have the leader's key at the latest: patroni looks again half a second after
-`loop_wait` where no watch has woken it.
+`loop_wait` if no watch has woken it.
 """
 PATIENCE = 900.0
 PORTS = (20000, 32000)
@@ -67,7 +67,7 @@ KINDS = ("killed", "server killed", "server paused", "cut")
 
 
 class TrialFailed(Exception):
-    """What was to come to pass has not."""
+    """An expected event has not come to pass."""
 
 
 def say(*words: object) -> None:
@@ -75,7 +75,7 @@ def say(*words: object) -> None:
 
 
 def within(what: str, condition: Callable[[], Any], seconds: float = PATIENCE) -> Any:
-    """Waits until a condition has an answer that counts as true, and gives it."""
+    """Waits until a condition returns a value that counts as true, and returns it."""
     until = time.monotonic() + seconds
     while not (found := condition()):
         if time.monotonic() > until:
@@ -85,7 +85,7 @@ def within(what: str, condition: Callable[[], Any], seconds: float = PATIENCE) -
 
 
 def free_ports(count: int) -> list[int]:
-    """Ports that nothing listens at, and that the system gives to no connection while a node is down."""
+    """Ports at which nothing listens, and which the system gives to no connection while a node is down."""
     ports: list[int] = []
     while len(ports) < count:
         port = random.randrange(*PORTS)
@@ -96,7 +96,7 @@ def free_ports(count: int) -> list[int]:
 
 
 def children_of(pid: int) -> Iterator[int]:
-    """The processes that a process has started, and those that these have."""
+    """The processes that a process has started, and those that these have started."""
     with contextlib.suppress(OSError):
         for task in pathlib.Path(f"/proc/{pid}/task").iterdir():
             for child in (task / "children").read_text().split():
@@ -128,7 +128,7 @@ class Doors(threading.Thread):
         self._loop.run_forever()
 
     def server_of(self, node: int) -> Optional[int]:
-        """Which server a node talks to."""
+        """The server that a node talks to."""
         return next((server for owner, server, _ in list(self._ways) if owner == node), None)
 
     def cut(self, node: int) -> None:
@@ -206,7 +206,7 @@ class Server:
                 self._process = subprocess.Popen(words, stdout=out, stderr=out)
 
     def serves(self, mode: bytes = b"") -> bool:
-        """Whether it serves, in this mode where one is named."""
+        """Whether it serves, in this mode if one is named."""
         with contextlib.suppress(OSError), socket.create_connection(("127.0.0.1", self.port), 1.0) as asked:
             asked.settimeout(1.0)
             asked.sendall(b"srvr")
@@ -391,7 +391,7 @@ class Writer(threading.Thread):
 
 
 class Found(NamedTuple):
-    """What a round has brought, in seconds from the end of the leader."""
+    """The results of a round, in seconds from the end of the leader."""
 
     kind: str
     gone: float
@@ -401,7 +401,7 @@ class Found(NamedTuple):
     answered: float
     """When a write is answered."""
     served: float
-    """Since when there is a leader of the servers: 0 where there was one all the time."""
+    """Since when there is a leader of the servers: 0 if there was one all the time."""
 
     def is_late(self) -> bool:
         return self.gone > self.served + LATEST_END or self.keyed > self.gone + LATEST_LOOK
@@ -438,9 +438,9 @@ class Trial:
         self.lookout, self.writer = Lookout(self.nodes), Writer(self.nodes)
 
     def text_of(self, name: str) -> Optional[str]:
-        """What a node of the cluster holds, as a server that is not hit has it: nothing where there is none.
+        """The data of a node of the cluster, as a server that is not hit has them: nothing if there is none.
 
-        None where the server does not answer.
+        None if the server does not answer.
         """
         try:
             return str(self.eyes[self.eye].get_async(f"/service/trial/{name}").get(timeout=1.0)[0].decode())
@@ -492,7 +492,7 @@ class Trial:
         return self.the_server_of(node) if server is None else server
 
     def fail_over(self, kind: str) -> Found:
-        """Ends the leader, and sees that the other node takes its place."""
+        """Ends the leader, and checks that the other node takes its place."""
         leader = self.the_leader()
         other = 1 - leader
         hit = self.the_server_of(other)
@@ -532,7 +532,7 @@ class Trial:
         self.wait_until_whole()
 
     def lost_writes(self) -> list[int]:
-        """What was answered and is not there."""
+        """The writes that were answered and are not there."""
         self.writer.is_over.set()
         self.writer.join(PATIENCE)
         with contextlib.closing(self.nodes[self.the_leader()].connect()) as connection, connection.cursor() as cursor:
@@ -573,7 +573,7 @@ def run(folder: pathlib.Path, rounds: int, program: list[str]) -> bool:
 
 
 def tell(found: list[Found], trial: Trial, lost: list[int]) -> bool:
-    """Prints what was found, and answers whether all went well."""
+    """Prints the results, and returns whether all went well."""
     since = [one.keyed - one.served for one in found]
     say(f"a new leader after {statistics.median(since):.1f} s in the middle, {max(since):.1f} s at most, with a ttl of {TTL} s,")
     say(f"counted from when the servers serve again in {sum(one.served > 0 for one in found)} rounds")

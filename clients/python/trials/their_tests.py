@@ -25,7 +25,7 @@ CLASSES = {
 
 
 def use_dirwolleu() -> None:
-    """Has `import kazoo` give dirwolleu.kazoo. Their fake client, which is made of recipes of kazoo, is left out."""
+    """Makes `import kazoo` give dirwolleu.kazoo. Their fake client, which is made of recipes of kazoo, is left out."""
     sys.path.insert(0, str(pathlib.Path(__file__).resolve().parents[1]))
     importlib.import_module("dirwolleu.kazoo").install()
     for name in ("zake", "zake.fake_client", "zake.utils"):
