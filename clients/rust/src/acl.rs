@@ -3,7 +3,7 @@
 use std::fmt;
 use std::ops::BitOr;
 
-/// What somebody may do to a node. They are joined by `|`.
+/// What an ACL entry lets a client do to a node. Join several with `|`.
 ///
 /// ```
 /// use dirwolleu::Permissions;
@@ -15,20 +15,20 @@ use std::ops::BitOr;
 pub struct Permissions(i32);
 
 impl Permissions {
-    /// To read its data and the names of its children.
+    /// To read the data and the names of the children.
     pub const READ: Permissions = Permissions(1);
-    /// To set its data.
+    /// To set the data.
     pub const WRITE: Permissions = Permissions(2);
-    /// To make children of it.
+    /// To create children.
     pub const CREATE: Permissions = Permissions(4);
-    /// To delete children of it.
+    /// To delete children.
     pub const DELETE: Permissions = Permissions(8);
-    /// To set its ACL.
+    /// To set the ACL.
     pub const ADMIN: Permissions = Permissions(16);
-    /// All of these.
+    /// All five.
     pub const ALL: Permissions = Permissions(31);
 
-    /// Whether all of these are among them.
+    /// Whether it contains all of these.
     pub fn contains(self, others: Permissions) -> bool {
         self.0 & others.0 == others.0
     }
@@ -60,7 +60,7 @@ impl fmt::Debug for Permissions {
     }
 }
 
-/// One line of the list of a node: what somebody may do to it.
+/// An entry of a node's ACL: who may do what.
 ///
 /// ```
 /// use dirwolleu::{Acl, Permissions};
@@ -71,16 +71,16 @@ impl fmt::Debug for Permissions {
 /// ```
 #[derive(Clone, Debug, PartialEq, Eq, Hash)]
 pub struct Acl {
-    /// What.
+    /// What they may do.
     pub permissions: Permissions,
-    /// Who: how somebody is known, as `world`, `auth`, `digest`, `ip`.
+    /// Who: a scheme, such as `world`, `auth`, `digest` or `ip`.
     pub scheme: String,
     /// Who, in the words of the scheme.
     pub id: String,
 }
 
 impl Acl {
-    /// A line of this scheme.
+    /// An entry of this scheme.
     pub fn new(permissions: Permissions, scheme: &str, id: &str) -> Acl {
         Acl {
             permissions,
@@ -89,18 +89,18 @@ impl Acl {
         }
     }
 
-    /// What anybody may do. A node of which nothing else is said has this, with [`Permissions::ALL`].
+    /// An entry for everybody. A node created without an ACL has this one, with [`Permissions::ALL`].
     pub fn anyone(permissions: Permissions) -> Acl {
         Acl::new(permissions, "world", "anyone")
     }
 
-    /// What those may do who have the credentials of the session that sets it.
+    /// An entry for whoever has the credentials of the session that sets it.
     pub fn creator(permissions: Permissions) -> Acl {
         Acl::new(permissions, "auth", "")
     }
 }
 
-/// As whom a server knows somebody: of [`Request::who_am_i`](crate::Request::who_am_i).
+/// An identity under which a server knows a client, from [`Request::who_am_i`](crate::Request::who_am_i).
 ///
 /// ```
 /// use dirwolleu::Id;
@@ -110,9 +110,9 @@ impl Acl {
 /// ```
 #[derive(Clone, Debug, PartialEq, Eq, Hash)]
 pub struct Id {
-    /// How somebody is known, as `ip`, `digest`, `x509`.
+    /// The scheme, such as `ip`, `digest` or `x509`.
     pub scheme: String,
-    /// Who, in the words of the scheme, without what is secret.
+    /// Who, in the words of the scheme, without the secret.
     pub id: String,
 }
 

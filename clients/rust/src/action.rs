@@ -1,4 +1,4 @@
-//! What a machine asks of its program, and tells it.
+//! The actions of a machine: what it asks of its program, and what it reports.
 
 use crate::error::ErrorKind;
 use crate::fault::{Code, Fault, NoReply, UnknownNumber};
@@ -11,11 +11,10 @@ use crate::State;
 use std::fmt;
 use std::time::Duration;
 
-/// What a machine said at its last step. Do all actions of a step, in their order, before the next step: those that were not taken are
-/// forgotten there.
+/// The actions of a machine's last step. Do all of them, in their order, before the next step, which forgets those that were not taken.
 ///
-/// It lends: an action, whose bytes stay in the library until they are copied, is over when the next one is taken. And it borrows the
-/// machine, so that no step happens while it is read:
+/// It lends: the bytes of an action stay in the library until you copy them, and taking the next action ends the one before. It also
+/// borrows the machine, so no step can happen while you read:
 ///
 /// ```compile_fail,E0499
 /// # use dirwolleu::{Machine, Moment};
@@ -49,11 +48,11 @@ impl<'a> Actions<'a> {
         Actions { machine }
     }
 
-    /// The next action, or `None` if all were told.
+    /// Returns the next action, or `None` after the last one.
     ///
     /// # Errors
     ///
-    /// [`Fault::UnknownNumber`] alone, if the library is of another version than this crate.
+    /// Only [`Fault::UnknownNumber`], if the library has another version than this crate.
     #[allow(clippy::should_implement_trait)] // an iterator can't lend
     pub fn next(&mut self) -> Result<Option<Action<'_>>, Fault> {
         let Machine { handle, told, .. } = &mut *self.machine;
@@ -63,7 +62,7 @@ impl<'a> Actions<'a> {
         Ok(Some(Action::of(handle, told)?))
     }
 
-    /// Hands each action to this function as the library spells it.
+    /// Passes each action to this function as the library spells it.
     #[inline]
     pub(crate) fn for_each_flat(
         self,
@@ -82,7 +81,7 @@ impl<'a> Actions<'a> {
     }
 }
 
-/// What a machine asks for, or tells.
+/// An action of a machine: a request to its program, or a report.
 ///
 /// ```
 /// use dirwolleu::{Action, Machine, Moment};
@@ -110,10 +109,10 @@ pub enum Action<'a> {
     Dial {
         /// The place, from 0 on.
         place: usize,
-        /// After this time the attempt will be given up.
+        /// The time after which the machine gives the attempt up.
         within: Duration,
     },
-    /// Close the connection, or give the attempt up. What of it was not yet written is forgotten, and nothing is handed in.
+    /// Close the connection, or give the attempt up. Drop the frames that are not yet written, and hand in nothing.
     HangUp,
     /// One frame: write all of it to the server.
     Send(Bytes<'a>),
@@ -124,75 +123,75 @@ pub enum Action<'a> {
         /// The reply of the server, or why there is none.
         outcome: Result<Reply<'a>, NoReply>,
     },
-    /// The limit of the call with this ticket has come, and it waits no more.
+    /// The limit of the call with this ticket has come. It no longer waits.
     TimedOut {
         /// The number that the call was given.
         ticket: u64,
-        /// Whether it was sent, so that it may have happened, or may yet.
+        /// Whether it was sent: then it may have happened, or still may.
         was_sent: bool,
     },
-    /// A watch has fired: what is kept of this side of the path is stale.
+    /// A watch has fired: the kept answer of this side of the path is stale.
     Report {
         /// The path that was watched.
         path: Text<'a>,
         /// The side that was watched.
         side: Side,
-        /// What has happened.
+        /// The change.
         event: NodeEvent,
     },
-    /// The state is another one. That a connection is to be closed is told by [`HangUp`](Action::HangUp) alone.
+    /// The state has changed. Only [`HangUp`](Action::HangUp) asks you to close a connection.
     State(State),
-    /// The connection is given up, for this reason.
+    /// The machine gives the connection up, for this reason.
     Drop(GivenUp<'a>),
-    /// The session has expired, with its ephemeral nodes, and another one begins. What is followed is read again.
+    /// The session has expired, with its ephemeral nodes, and another one begins. The machine reads followed nodes again.
     Renewed,
-    /// What is kept of the subject with this ticket is good: look it up. It was not, or its path was reported since, or servers had an
-    /// election, and it was read again.
+    /// The kept answer of the subject with this ticket is good: look it up. Either it was not good before, or its path was reported since,
+    /// or the servers held an election, and the subject was read again.
     Shown {
         /// The number that the subject was given.
         ticket: u64,
     },
-    /// A read of the subject with this ticket was refused. It is read again after a second, with [`Refusal::TooLarge`] once more after a
-    /// minute, and this is told once for each new reason.
+    /// A read of the subject with this ticket was refused. The machine reads it again after a second; with [`Refusal::TooLarge`], each
+    /// further read comes after a minute. This comes once for each new reason.
     Refused {
         /// The number that the subject was given.
         ticket: u64,
         /// Why.
         reason: Refusal,
     },
-    /// A side of a node is followed for a tree.
+    /// The machine follows a side of a node for a tree.
     MemberAdded {
         /// The number that the tree was given.
         tree: u64,
-        /// The number of what is followed: that of the tree, or one from 2^63 on.
+        /// The ticket that follows it: that of the tree, or one from 2^63 on.
         ticket: u64,
         /// The side.
         side: Side,
         /// The path of the node.
         path: Text<'a>,
     },
-    /// What was followed for a tree is followed no more: there is no such node, or the tree is followed no more.
+    /// The machine no longer follows this for a tree: the node is gone, or the tree is no longer followed.
     MemberRemoved {
         /// The number that the tree was given.
         tree: u64,
-        /// The number of what was followed.
+        /// The ticket that followed it.
         ticket: u64,
     },
-    /// Whether a tree has more nodes than its bound is another one than before.
+    /// A tree has come to exceed its bound, or no longer exceeds it.
     TreeBounded {
         /// The number that the tree was given.
         tree: u64,
-        /// Whether it has: then no more of it is followed.
+        /// Whether it exceeds it: then the machine follows no more of it.
         is_bounded: bool,
     },
-    /// Nothing is lacking of a tree, and it may be another one than when that was told last: look it up by [`subtree`](Machine::subtree),
-    /// which judges whether it is of one moment.
+    /// A tree is complete again and may have changed since the last such action: look it up by [`subtree`](Machine::subtree), which judges
+    /// whether it is of one moment.
     TreeComplete {
         /// The number that the tree was given.
         tree: u64,
     },
-    /// Another one is before the contender with this ticket, and is watched. This and what is told of contenders below comes after all else of a
-    /// step, and once for each change.
+    /// Another contender is before the one with this ticket, which watches it. This action and those of contenders below come after all
+    /// others of a step, and once for each change.
     Waits {
         /// The number that the contender was given.
         ticket: u64,
@@ -201,37 +200,38 @@ pub enum Action<'a> {
     Holds {
         /// The number that the contender was given.
         ticket: u64,
-        /// The zxid of the making of its place. Whoever the lock protects refuses a smaller one than it has seen.
+        /// The zxid that created its place. Whatever the lock protects refuses a token below one that it has seen.
         token: i64,
     },
-    /// The contender holds no more: its place is gone, or the session has expired, and it contends on by another place; or it was given up.
+    /// The contender no longer holds: its place is gone, or the session has expired, and it goes on contending with another place; or it
+    /// gave up.
     Lost {
         /// The number that the contender was given.
         ticket: u64,
     },
-    /// A call of the contender was refused, or a listing says what is in its way. It is asked again after a second.
+    /// A call of the contender was refused, or a listing shows an obstacle. The machine asks again after a second.
     Pauses {
         /// The number that the contender was given.
         ticket: u64,
         /// Why.
         reason: Refusal,
     },
-    /// The contender is given up, or the session is closed, and no node of it is there. It is told of no more.
+    /// The contender has given up, or the session is closed, and it has no node left. This is its last action.
     GivenUp {
         /// The number that the contender was given.
         ticket: u64,
     },
-    /// The server has answered a credential, after all else of a step but frames of credentials and [`Dial`](Action::Dial). One that it
-    /// refuses ends the connection: let the machine go, since it would introduce itself so on each later one.
+    /// The server has answered a credential. This comes after all other actions of a step but frames of credentials and
+    /// [`Dial`](Action::Dial). A refusal ends the connection: drop the machine, since it would send the credential again on each later one.
     Credential {
-        /// Its place among those that were handed in, from 0 on.
+        /// Its place among the credentials that were handed in, from 0 on.
         place: usize,
-        /// 0 if the server accepts it.
+        /// 0 if the server accepts the credential.
         code: Code,
     },
 }
 
-/// Why a read of what is followed, or a call of a contender, was refused, and why else a contender pauses.
+/// Why a followed subject's read or a contender's call was refused, and why else a contender pauses.
 ///
 /// ```
 /// use dirwolleu::{Code, Refusal};
@@ -246,14 +246,14 @@ pub enum Refusal {
     Code(Code),
     /// 65,536 paths of the side are watched.
     TooManyWatches,
-    /// The answer is longer than [`longest_answer`](crate::SessionOptions::longest_answer) of the session says, which ends the connection. It
-    /// is read again after a second, and from then on after a minute.
+    /// The answer is longer than the session's [`longest_answer`](crate::SessionOptions::longest_answer), which ends the connection. The
+    /// machine reads again after a second, and from then on after a minute.
     TooLarge,
     /// The session is being closed.
     Closed,
     /// Of a contender: the names in the directory have had all 2,147,483,647 numbers.
     NumbersUsedUp,
-    /// Of a contender: a name of another family is in the directory. It never holds beside that: [give it up](Machine::give_up).
+    /// Of a contender: a name of another family is in the directory. It never holds beside one: [give it up](Machine::give_up).
     MixedNames,
 }
 
@@ -394,7 +394,7 @@ mod tests {
         }
     }
 
-    /// What these actions print, which has each of their fields.
+    /// The text of these actions, which has each of their fields.
     fn printed<const N: usize>(flats: [ffi::Output; N]) -> [String; N] {
         let handle = handle();
         flats.map(|flat| format!("{:?}", Action::of(&handle, &flat).unwrap()))

@@ -13,18 +13,18 @@ use crate::output::{Brought, Bytes};
 use crate::transaction::Change;
 use std::mem;
 
-/// The answer to a call. It is moved from hand to hand, and so it is small.
+/// The answer to a call. It is small, because it moves from hand to hand.
 #[derive(Debug, Default, PartialEq)]
 pub(crate) struct Answer {
     /// The zxid at which it holds.
     pub(crate) zxid: i64,
-    /// What is known of the node: zeros if the call does not ask for that.
+    /// The node's `Stat`: zeros if the call does not ask for it.
     pub(crate) stat: Stat,
     pub(crate) content: Content,
 }
 
 impl Answer {
-    /// The answer, which has no content from now on.
+    /// Takes the answer, and leaves one without content.
     #[inline]
     pub(crate) fn take(&mut self) -> Answer {
         Answer {
@@ -35,7 +35,7 @@ impl Answer {
     }
 }
 
-/// What else an answer has.
+/// The rest of an answer.
 #[derive(Debug, Default, PartialEq)]
 pub(crate) enum Content {
     #[default]
@@ -118,7 +118,7 @@ impl Content {
     }
 }
 
-/// What the answer to a call has besides its Stat, as the library spells it, or why there is none.
+/// The content of an answer as the library spells it, besides its `Stat`; or why there is none.
 #[inline]
 pub(crate) fn content_of(
     handle: &Handle,
@@ -127,7 +127,7 @@ pub(crate) fn content_of(
 ) -> Result<Result<Content, ErrorKind>, UnknownNumber> {
     let bytes = Bytes::of(handle, flat);
     match flat.result {
-        // most answers, without a way round
+        // most answers, by the short way
         _ if flat.detail != outcome::REPLIED => {
             NoReply::try_from(flat.detail).map(|reason| Err(reason.into()))
         }

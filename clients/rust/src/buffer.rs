@@ -3,7 +3,7 @@
 /// The first room for a text of unknown length.
 const FIRST_ROOM: usize = 256;
 
-/// All bytes of a look-up. The function copies as many as there is room for, and returns how many there are.
+/// Copies all bytes of a look-up. The function copies as many as there is room for, and returns how many there are.
 pub(crate) fn copy_whole<E>(
     mut copy: impl FnMut(&mut [u8]) -> Result<usize, E>,
 ) -> Result<Vec<u8>, E> {
@@ -32,7 +32,7 @@ pub(crate) fn copy_whole_in<E>(
     Ok(bytes)
 }
 
-/// The text of these bytes, which the library has checked.
+/// The text of these bytes, which the library has validated.
 pub(crate) fn text_of(bytes: Vec<u8>) -> String {
     String::from_utf8(bytes).expect("the library gives UTF-8")
 }

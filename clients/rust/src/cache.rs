@@ -1,4 +1,4 @@
-//! What a client keeps of the paths that were read with a watch.
+//! What a client keeps of paths that it read with a watch.
 
 use crate::fault::UnknownNumber;
 use crate::ffi;
@@ -7,12 +7,12 @@ use crate::numbers::kept;
 
 pub use crate::numbers::Mark;
 
-/// The mark of a number, or `None` if nothing is kept.
+/// The mark with this number, or `None` if nothing is kept.
 pub(crate) fn mark_of(number: i32) -> Result<Option<Mark>, UnknownNumber> {
     (number != 0).then(|| Mark::try_from(number)).transpose()
 }
 
-/// An answer that is kept, and its mark.
+/// A kept answer and its mark.
 ///
 /// ```no_run
 /// use dirwolleu::{DataAnswer, Kept, Mark, Session};
@@ -31,13 +31,13 @@ pub(crate) fn mark_of(number: i32) -> Result<Option<Mark>, UnknownNumber> {
 /// ```
 #[derive(Clone, Debug, PartialEq, Eq)]
 pub struct Kept<T> {
-    /// What was answered.
+    /// The answer.
     pub answer: T,
     /// Whether it is good.
     pub mark: Mark,
 }
 
-/// What is kept about the data of a path.
+/// The kept data of a path.
 ///
 /// ```
 /// use dirwolleu::{DataAnswer, Machine, Moment, Watch};
@@ -62,18 +62,18 @@ pub struct Kept<T> {
 pub enum DataAnswer {
     /// There is no node.
     Absent,
-    /// There is a node, whose data were not read.
+    /// There is a node; its data were not read.
     Known(DataStat),
     /// There is a node with these data.
     Full {
-        /// The data: `None` if they are null, which is another thing than no bytes.
+        /// The data: `None` if they are null, which differs from no bytes.
         data: Option<Vec<u8>>,
-        /// The rest of what is known of the node.
+        /// The node's other kept fields.
         stat: DataStat,
     },
 }
 
-/// What is kept about the children of a path.
+/// The kept children of a path.
 ///
 /// ```
 /// use dirwolleu::{Children, Machine, Moment, Watch};
@@ -100,7 +100,7 @@ pub enum DataAnswer {
 pub struct Children {
     /// Their names, in byte order.
     pub names: Vec<String>,
-    /// The zxid of the last change of this set.
+    /// The zxid of the last change to this set.
     pub pzxid: i64,
 }
 

@@ -4,9 +4,9 @@ use crate::acl::Acl;
 use crate::numbers::naming;
 use std::num::NonZeroU32;
 
-/// How the places of contenders are named: a prefix, the guid, a marker and ten digits. Each contender waits for every other one, and a reader
-/// for locks and writers alone. All contenders of one lock use names of one family: of kazoo, of Curator's locks, of its latches. Beside a name
-/// of another one a contender [pauses](crate::Refusal::MixedNames), and never holds.
+/// How a contender's place is named: a prefix, the guid, a marker and ten digits. Each contender waits for every other one, but a reader
+/// only for locks and writers. All contenders of one lock use names of one family: kazoo's, those of Curator's locks, or those of its
+/// latches. Beside a name of another family a contender [pauses](crate::Refusal::MixedNames), and never holds.
 ///
 /// ```
 /// use dirwolleu::{Contention, Machine, Moment, Naming};
@@ -21,21 +21,21 @@ use std::num::NonZeroU32;
 #[derive(Clone, Copy, Debug, Default, PartialEq, Eq, Hash)]
 #[non_exhaustive]
 pub enum Naming {
-    /// Of kazoo, the guid and `__lock__`: a lock, an election, a writer.
+    /// kazoo's, the guid and `__lock__`: a lock, an election, a writer.
     #[default]
     Kazoo,
-    /// Of kazoo, the guid and `__rlock__`.
+    /// kazoo's, the guid and `__rlock__`.
     KazooReader,
-    /// Of Curator, `_c_`, the guid and `-lock-`.
+    /// Curator's, `_c_`, the guid and `-lock-`.
     CuratorLock,
-    /// Of Curator, `_c_`, the guid and `-latch-`.
+    /// Curator's, `_c_`, the guid and `-latch-`.
     CuratorLatch,
-    /// Of Curator, `_c_`, the guid and `-__WRIT__`.
+    /// Curator's, `_c_`, the guid and `-__WRIT__`.
     CuratorWriter,
-    /// Of Curator, `_c_`, the guid and `-__READ__`.
+    /// Curator's, `_c_`, the guid and `-__READ__`.
     CuratorReader,
-    /// The guid and `__lease__`: one of several that hold at once. It holds while fewer than these are before it. All of one directory say the same
-    /// number. Semaphores of kazoo and of Curator count their leases otherwise: none of these goes into a directory of theirs.
+    /// The guid and `__lease__`: a lease, which holds while fewer than `most` are before it. All leases of one directory have the same
+    /// number. Do not use a directory of kazoo's or Curator's semaphores, which count their leases otherwise.
     Leases {
         /// How many hold at once.
         most: NonZeroU32,
@@ -43,7 +43,7 @@ pub enum Naming {
 }
 
 impl Naming {
-    /// Its number, as the library takes it.
+    /// The library's number for it.
     pub(crate) fn number(self) -> u32 {
         let number = match self {
             Naming::Kazoo => naming::KAZOO,
@@ -62,7 +62,7 @@ impl Naming {
     }
 }
 
-/// A contender as it joins by [`Machine::contend`](crate::Machine::contend).
+/// A contender that joins by [`Machine::contend`](crate::Machine::contend).
 ///
 /// ```
 /// use dirwolleu::{Contention, Naming};
@@ -72,23 +72,23 @@ impl Naming {
 /// ```
 #[derive(Clone, Copy, Debug, PartialEq, Eq)]
 pub struct Contention<'a> {
-    /// The directory of the places, which is made if it is not there.
+    /// The directory of the places. It is created if it is missing.
     pub directory: &'a str,
     /// How its place is named.
     pub naming: Naming,
-    /// A text that no other contender has: 32 hexadecimal digits for names of kazoo, a UUID for names of Curator.
+    /// A text that no other contender uses: 32 hexadecimal digits for kazoo's names, a UUID for Curator's.
     pub guid: &'a str,
-    /// The data of its place: none are null data.
+    /// The data of its place: `None` is null data.
     pub data: Option<&'a [u8]>,
-    /// The ACL of its place, and of those nodes at the directory and above it that are made. Without an entry everybody has every right.
+    /// The ACL of its place, and of the directory and nodes above it that it creates. An empty list gives everybody every right.
     pub acls: &'a [Acl],
-    /// Whether this session may have made a place with this guid before, as after [`Machine::resume`](crate::Machine::resume): then the place is
-    /// looked for first.
+    /// Whether this session may already have created a place with this guid, as after [`Machine::resume`](crate::Machine::resume): then the
+    /// machine looks for that place first.
     pub may_be_there: bool,
 }
 
 impl<'a> Contention<'a> {
-    /// One for a lock by kazoo's names, whose place has no data, is open to everybody, and was not made before.
+    /// A contender for a lock with kazoo's names. Its place has no data, is open to everybody, and was not created before.
     pub fn new(directory: &'a str, guid: &'a str) -> Contention<'a> {
         Contention {
             directory,

@@ -1,4 +1,4 @@
-//! Why something was not done: by the library, on the way to the server, or by the server.
+//! Why something did not happen: in the library, on the way to the server, or at the server.
 
 use crate::numbers::{advice, result, words, VERSION};
 use crate::path_fault::{Escaped, PathFault};
@@ -7,7 +7,7 @@ use std::fmt;
 
 pub use crate::numbers::NoReply;
 
-/// The number of the library for something is one that this crate does not know: the two are of different versions.
+/// A number of the library that this crate does not know: the two have different versions.
 ///
 /// ```
 /// use dirwolleu::State;
@@ -22,12 +22,12 @@ pub struct UnknownNumber {
 }
 
 impl UnknownNumber {
-    /// The number of a thing that the header has under this name.
+    /// The number of a thing that has this name in the header.
     pub(crate) fn of(what: &'static str, number: i32) -> UnknownNumber {
         UnknownNumber { what, number }
     }
 
-    /// What it is a number of: a state, an event, ..
+    /// The kind of thing: a state, an event, ..
     #[must_use]
     pub fn what(&self) -> &'static str {
         self.what
@@ -49,7 +49,7 @@ impl fmt::Display for UnknownNumber {
 
 impl error::Error for UnknownNumber {}
 
-/// Why a step or a look-up was not made. But for [`Fault::Halted`], nothing has happened. Its `Debug` has the words that it prints, for a
+/// Why a step or a look-up did not happen. Except for [`Fault::Halted`], nothing has changed. Its `Debug` prints the same words, for a
 /// `main` that returns it.
 ///
 /// ```
@@ -67,26 +67,26 @@ impl error::Error for UnknownNumber {}
 #[derive(Clone, PartialEq, Eq, Hash)]
 #[non_exhaustive]
 pub enum Fault {
-    /// Memory ran out within a step. The client has no use any more: each later step answers the same, and nothing is kept or watched.
-    /// Its state, zxid and session can still be asked for: take [`saved`](crate::Machine::saved), and resume it.
+    /// Memory ran out within a step. The client is no longer of use: each later step fails the same way, and nothing is kept or watched.
+    /// Its state, zxid and session still have answers: take [`saved`](crate::Machine::saved), and resume it.
     Halted,
-    /// There was no memory for what was given. The same can be handed in again.
+    /// There was no memory for the input. You can hand the same in again.
     NoMemory,
     /// The text is no path of a node.
     #[non_exhaustive]
     NotPath {
         /// The text.
         path: String,
-        /// Why it is none. `None` if this crate sees no reason, and the library does.
+        /// The reason. `None` if this crate sees none, and the library does.
         reason: Option<PathFault>,
     },
-    /// The timeout is not 1 to 2,147,483,647 milliseconds.
+    /// The timeout is not within 1 to 2,147,483,647 milliseconds.
     BadTimeout,
     /// The bytes are no saved session.
     NotSaved,
     /// Some of the subtree is not kept, or not good.
     NotWhole,
-    /// The subtree has more nodes than were asked for.
+    /// The subtree has more nodes than you asked for.
     TooManyNodes,
     /// The scheme and the secret of a credential have more than 1,048,555 bytes.
     CredentialTooLarge,
@@ -94,18 +94,18 @@ pub enum Fault {
     NoSuchLimits,
     /// The ACL of a contender has no entry.
     NotAcl,
-    /// A node with a time to live cannot go with its session: it is persistent, or persistent and sequential.
+    /// A node with a time to live cannot be ephemeral: make it persistent, or persistent and sequential.
     EphemeralWithTtl,
-    /// The library that is linked is of another version than this crate.
+    /// The linked library has another version than this crate.
     #[non_exhaustive]
     OtherVersion {
         /// The version of the library, as a number in which 1.2.3 is 1002003.
         library: u32,
     },
-    /// What dials, reads or writes for the session has panicked, and with that the session's thread is gone. It is of no use any more, and
-    /// the servers end it at its timeout.
+    /// A dialler, a reader or a writer of the session has panicked and ended the session's thread. The session is no longer of use, and the
+    /// servers end it at its timeout.
     Panicked,
-    /// The library gives a number that this crate does not know. The client has no use any more, and neither has one that resumes it.
+    /// The library gives a number that this crate does not know. The client is no longer of use, nor is one that resumes it.
     UnknownNumber(UnknownNumber),
 }
 
@@ -117,7 +117,7 @@ impl Fault {
         }
     }
 
-    /// The same fault, of a step about the node that the program calls so: the library was given the path with the chroot.
+    /// The same fault of a step about the node with this path of the program's: the library saw the path with the chroot.
     pub(crate) fn at(self, path: &str) -> Fault {
         match self {
             Fault::NotPath { reason, .. } => Fault::NotPath {
@@ -128,7 +128,7 @@ impl Fault {
         }
     }
 
-    /// The number that the library has for it. It has none if it is of another version, or the fault is not its own.
+    /// The library's number for it. There is none if the library has another version, or the fault is not its own.
     fn number(&self) -> Option<i32> {
         Some(match self {
             Fault::Halted => result::HALTED,
@@ -157,7 +157,7 @@ impl Fault {
         }
     }
 
-    /// What to do. Nothing if the reason says it.
+    /// What to do. Empty if the reason says it.
     pub(crate) fn advice(&self) -> &'static str {
         match (self, self.number()) {
             (_, Some(number)) => advice::result(number),
@@ -167,13 +167,13 @@ impl Fault {
         }
     }
 
-    /// Whether the client has no use any more.
+    /// Whether the client is no longer of use.
     pub(crate) fn is_final(&self) -> bool {
         matches!(self, Fault::Halted | Fault::UnknownNumber(_))
     }
 }
 
-/// It prints the reason, the path if it has one, and what to do: `/a//b is no path: an empty name`.
+/// Prints the reason, the path if there is one, and what to do: `/a//b is no path: an empty name`.
 impl fmt::Display for Fault {
     fn fmt(&self, f: &mut fmt::Formatter<'_>) -> fmt::Result {
         match self {
@@ -196,7 +196,7 @@ impl fmt::Display for Fault {
     }
 }
 
-/// The same words, so that a `main` that returns it prints them.
+/// The same words, for a `main` that returns it.
 impl fmt::Debug for Fault {
     fn fmt(&self, f: &mut fmt::Formatter<'_>) -> fmt::Result {
         fmt::Display::fmt(self, f)
@@ -217,8 +217,8 @@ impl From<UnknownNumber> for Fault {
     }
 }
 
-/// What a code of the library says of a step or a look-up at this path. The other codes of the header have no cause here: a handle is
-/// open, texts are UTF-8, and a [`Mode`](crate::Mode) has its number.
+/// The result of a step or a look-up at this path, by the library's code. The header's other codes cannot come here: the handle is open,
+/// texts are UTF-8, and a [`Mode`](crate::Mode) has its number.
 #[inline]
 pub(crate) fn done_at(path: &str, code: i32) -> Result<(), Fault> {
     if code == result::OK {
@@ -227,7 +227,7 @@ pub(crate) fn done_at(path: &str, code: i32) -> Result<(), Fault> {
     Err(fault_at(path, code))
 }
 
-/// The same if there is no path.
+/// The same without a path.
 #[inline]
 pub(crate) fn done(code: i32) -> Result<(), Fault> {
     done_at("", code)
@@ -265,8 +265,8 @@ impl fmt::Display for NoReply {
 
 impl error::Error for NoReply {}
 
-/// The error of a server about one call: the number of a reply's header. It changes no state. Each number that ZooKeeper's own library
-/// knows has a name here; a server may answer with another one.
+/// A server's error for one call: the number in a reply's header. It changes no state. Each number that ZooKeeper's own library knows has a
+/// name here; a server may answer with another one.
 ///
 /// ```
 /// use dirwolleu::Code;
@@ -280,7 +280,7 @@ impl error::Error for NoReply {}
 pub struct Code(pub i32);
 
 impl Code {
-    /// Whether the same read may be answered later, after a while: the server was busy, or has lost a connection or the session.
+    /// Whether the same read may succeed after a while: the server was busy, or has lost a connection or the session.
     pub fn is_passing(self) -> bool {
         matches!(
             self,
@@ -288,7 +288,7 @@ impl Code {
         )
     }
 
-    /// What to do. Nothing if the reason says it.
+    /// What to do. Empty if the reason says it.
     pub(crate) fn advice(self) -> &'static str {
         advice::code(self.0)
     }

@@ -1,5 +1,5 @@
-//! The C interface, `include/dirwolleu.h`, and a [`Handle`] that keeps what the header asks of its callers. All `unsafe` code of this
-//! crate is here.
+//! The C interface, `include/dirwolleu.h`, and a [`Handle`] that keeps what the header asks of its callers. All `unsafe` code of this crate
+//! is here.
 #![deny(clippy::undocumented_unsafe_blocks)]
 
 use crate::contention::Contention;
@@ -127,20 +127,20 @@ extern "C" {
 /// A look-up of bytes without a path.
 type CopyAll = unsafe extern "C" fn(*mut Raw, *mut u8, usize, *mut usize) -> i32;
 
-/// A look-up that copies what is at and below a path, with the most nodes that there may be.
+/// A look-up that copies the nodes at and below a path, or the missing reads, with the most nodes that it may have.
 type Collect =
     unsafe extern "C" fn(*mut Raw, *const u8, usize, usize, *mut u8, usize, *mut usize) -> i32;
 
 /// A look-up of a moment.
 type LookOut = unsafe extern "C" fn(*mut Raw, *mut u64) -> i32;
 
-/// A call that reads a node, and one that takes data for it, and a version or a mode.
+/// A call that reads a node, and one that takes its data and a version or a mode.
 type Read = unsafe extern "C" fn(*mut Raw, u64, u64, u64, *const u8, usize, bool) -> i32;
 #[rustfmt::skip]
 type Write<N> =
     unsafe extern "C" fn(*mut Raw, u64, u64, u64, *const u8, usize, *const u8, usize, bool, N) -> i32;
 
-/// What each call has: its moment, the ticket for its answer, until when it waits, and the path of the node that it is about.
+/// What each call has: its moment, the ticket for its answer, its limit, and the path of its node.
 #[derive(Clone, Copy)]
 pub(crate) struct Call<'a> {
     pub(crate) now: Moment,
@@ -151,30 +151,30 @@ pub(crate) struct Call<'a> {
 
 /// An open session. It keeps what the header asks of a caller and nothing checks:
 ///
-/// - the raw handle begins as zeros, is written by the library alone, and is moved but never copied;
-/// - one call at a time uses it: a step has it by `&mut`, and look-ups, which write to the handle too, have it by `&` of a type that is
-///   not `Sync`; no function of the library calls back;
-/// - pointers come from references and slices, so none is null, lengths are those of the slices, and what a call writes is borrowed
-///   mutably, so it overlaps with nothing.
+/// - the raw handle begins as zeros; only the library writes it; it may be moved, and is never copied;
+/// - one call at a time uses it: a step has it by `&mut`, and look-ups, which also write to the handle, by `&` of a type that is not
+///   `Sync`; no function of the library calls back;
+/// - pointers come from references and slices, so none is null; lengths are those of the slices; what a call writes is borrowed mutably, so
+///   it overlaps with nothing.
 ///
 /// The layouts above are those of the header that comes with the library.
 pub(crate) struct Handle {
     raw: UnsafeCell<Raw>,
 }
 
-// SAFETY: the library binds a handle to no thread, and says that it may go to another one between two calls. Rust orders the two.
+// SAFETY: the library binds a handle to no thread, and allows another thread between two calls. Rust orders the two.
 unsafe impl Send for Handle {}
 
 impl Drop for Handle {
     fn drop(&mut self) {
-        // SAFETY: as `Handle` says. After it nothing uses the handle any more.
+        // SAFETY: as `Handle` says. Nothing uses the handle after this.
         unsafe { dw_session_free(self.raw.get_mut()) }
     }
 }
 
-/// Fails if the library is not of the version that this crate was written for.
+/// Fails if the library has another version than the one that this crate was written for.
 fn check_version() -> Result<(), Fault> {
-    // SAFETY: it has no argument, and answers a constant.
+    // SAFETY: it has no argument, and returns a constant.
     let library = unsafe { dw_version() };
     if library == VERSION {
         return Ok(());
@@ -239,7 +239,7 @@ impl Handle {
         self.read(dw_session_get_children, call, watch)
     }
 
-    /// Writes by this function of the library, which has one number more. The bytes of null data are not looked at.
+    /// Writes by this function of the library, which takes one more number. It ignores the bytes of null data.
     fn write<N>(
         &mut self,
         write: Write<N>,
@@ -296,14 +296,14 @@ impl Handle {
         done_at(call.path, code)
     }
 
-    /// Ends the session. It is about no node.
+    /// Ends the session. The call is about no node.
     pub(crate) fn close_session(&mut self, call: Call<'_>) -> Result<(), Fault> {
         let (now, until) = (call.now.as_millis(), call.until.as_millis());
         // SAFETY: as `Handle` says.
         done(unsafe { dw_session_close(self.pointer(), now, call.ticket, until) })
     }
 
-    /// Writes the next output of the last step there, and tells whether there was one: false if all were told.
+    /// Writes the next output of the last step there. Returns whether there was one: `false` after the last.
     pub(crate) fn next(&mut self, output: &mut Output) -> Result<bool, Fault> {
         // SAFETY: as `Handle` says.
         let code = unsafe { dw_session_next(self.pointer(), output) };
@@ -313,30 +313,30 @@ impl Handle {
         done(code).map(|()| true)
     }
 
-    /// Copies the text of the output that was told last, and tells how many bytes there are from that place on.
+    /// Copies the text of the last output, and returns how many bytes it has from that place on.
     pub(crate) fn copy(&self, from: usize, room: &mut [u8]) -> usize {
         // SAFETY: as `Handle` says.
         unsafe { dw_session_copy(self.pointer(), from, room.as_mut_ptr(), room.len()) }
     }
 
-    /// Appends the text of the output that was told last, of which this is the length.
+    /// Appends the text of the last output, which has this length.
     #[inline]
     pub(crate) fn append(&self, length: usize, bytes: &mut Vec<u8>) {
         bytes.reserve(length);
         let (from, room) = (bytes.len(), bytes.spare_capacity_mut());
-        // SAFETY: as `Handle` says. It only writes to the room, of which there is as much as it is told.
+        // SAFETY: as `Handle` says. It only writes to the room, which has the length that it gets.
         let count = unsafe { dw_session_copy(self.pointer(), 0, room.as_mut_ptr().cast(), length) };
-        // SAFETY: it has written that many, for which there is room.
+        // SAFETY: it has written that many bytes, and there is room for them.
         unsafe { bytes.set_len(from + count.min(length)) };
     }
 
-    /// Copies a name of the listing that was told last, and tells how many bytes it has.
+    /// Copies a name of the last listing, and returns how many bytes it has.
     pub(crate) fn name(&self, index: usize, room: &mut [u8]) -> usize {
         // SAFETY: as `Handle` says.
         unsafe { dw_session_name(self.pointer(), index, room.as_mut_ptr(), room.len()) }
     }
 
-    /// Copies what this function of the library has, and tells how many bytes that is.
+    /// Copies what this function of the library has, and returns how many bytes that is.
     fn copy_all(&self, copy: CopyAll, room: &mut [u8]) -> Result<usize, Fault> {
         let mut count = 0;
         // SAFETY: as `Handle` says.
@@ -344,12 +344,12 @@ impl Handle {
         Ok(count)
     }
 
-    /// All names of the listing that was told last, each after its length in four bytes.
+    /// Copies all names of the last listing, each after its length in four bytes.
     pub(crate) fn names(&self, room: &mut [u8]) -> Result<usize, Fault> {
         self.copy_all(dw_session_names, room)
     }
 
-    /// The words of the drop that was told last.
+    /// Copies the words of the last drop.
     pub(crate) fn words(&self, room: &mut [u8]) -> Result<usize, Fault> {
         self.copy_all(dw_session_words, room)
     }
@@ -379,13 +379,13 @@ impl Handle {
         unsafe { dw_session_timeout_ms(self.pointer()) }
     }
 
-    /// Forgets stale answers, which what is open always does.
+    /// Forgets stale answers. With an open session this always succeeds.
     pub(crate) fn forget(&mut self) {
         // SAFETY: as `Handle` says.
         unsafe { dw_session_forget(self.pointer()) };
     }
 
-    /// The moment that this function of the library tells, if there is one.
+    /// The moment from this function of the library, if there is one.
     fn moment_by(&self, look: LookOut) -> Option<Moment> {
         let mut millis = 0;
         // SAFETY: as `Handle` says.
@@ -397,7 +397,7 @@ impl Handle {
         self.moment_by(dw_session_deadline)
     }
 
-    /// What is kept about the data of a path, of which it copies as many as there is room for.
+    /// The kept data of a path. Copies as many bytes as there is room for.
     pub(crate) fn peek_data(&self, path: &str, room: &mut [u8]) -> Result<KeptData, Fault> {
         let mut kept = KeptData::default();
         let (text, length) = (path.as_ptr(), path.len());
@@ -416,7 +416,7 @@ impl Handle {
         done_at(path, code).map(|()| kept)
     }
 
-    /// Copies the names that are kept of a path, each after its length in four bytes, and tells how many bytes there are.
+    /// Copies the kept names of a path, each after its length in four bytes, and returns how many bytes there are.
     pub(crate) fn peek_names(&self, path: &str, room: &mut [u8]) -> Result<usize, Fault> {
         let mut count = 0;
         let (text, length) = (path.as_ptr(), path.len());
@@ -427,7 +427,7 @@ impl Handle {
         done_at(path, code).map(|()| count)
     }
 
-    /// Copies what this function of the library finds at and below a path, and tells how many bytes there are.
+    /// Copies what this function of the library finds at and below a path, and returns how many bytes there are.
     fn collect(
         &self,
         collect: Collect,
@@ -448,13 +448,13 @@ impl Handle {
         self.collect(dw_session_subtree, path, most, room)
     }
 
-    /// Copies the reads that are lacking before there is a subtree, as the header spells them.
+    /// Copies the reads that are still missing before there is a subtree, as the header spells them.
     pub(crate) fn lacking(&self, path: &str, most: usize, room: &mut [u8]) -> Result<usize, Fault> {
         self.collect(dw_session_lacking, path, most, room)
     }
 
-    /// What the library answers of a snapshot of paths that are spelled: its code, and how many bytes what is kept of them has, of which it
-    /// copies as many as there is room for.
+    /// The library's answer about a snapshot of these spelled paths: its code, and how many bytes the kept answers have. Copies as many as
+    /// there is room for.
     pub(crate) fn snapshot(&self, nodes: &[u8], parents: &[u8], room: &mut [u8]) -> (i32, usize) {
         let mut count = 0;
         let (first, length) = (nodes.as_ptr(), nodes.len());
@@ -468,7 +468,7 @@ impl Handle {
         (code, count)
     }
 
-    /// What the library answers of whether the session holds: its code, and the token.
+    /// The library's answer about whether the session holds: its code, and the token.
     pub(crate) fn holder(&self, directory: &str, prefix: &str, path: &str) -> (i32, i64) {
         let mut token = 0;
         // SAFETY: as `Handle` says.
@@ -487,8 +487,8 @@ impl Handle {
         (code, token)
     }
 
-    /// What the library answers of where a session stands, by names and markers that are spelled: its code, the token, and how many bytes
-    /// the name of the rival has, of which it copies as many as there is room for.
+    /// The library's answer about a session's place among these spelled names and markers: its code, the token, and how many bytes the
+    /// rival's name has. Copies as many as there is room for.
     pub(crate) fn standing(
         &self,
         contender: &Contender<'_>,
@@ -614,7 +614,7 @@ impl Handle {
         done(unsafe { dw_session_unfollow_tree(self.pointer(), now.as_millis(), ticket) })
     }
 
-    /// A contender joins, by this ticket.
+    /// Adds a contender with this ticket.
     pub(crate) fn contend(
         &mut self,
         now: Moment,
@@ -654,7 +654,7 @@ impl Handle {
         done(unsafe { dw_session_give_up(self.pointer(), now.as_millis(), ticket) })
     }
 
-    /// The token by which a contender holds, if it does.
+    /// The token with which a contender holds, if it does.
     pub(crate) fn held(&self, ticket: u64) -> Option<i64> {
         let mut token = 0;
         // SAFETY: as `Handle` says.
@@ -662,7 +662,7 @@ impl Handle {
         (code == result::OK).then_some(token)
     }
 
-    /// Copies the path of the place of a contender, and tells how many bytes it has: 0 if it is not known.
+    /// Copies the path of a contender's place, and returns how many bytes it has: 0 if it is not known.
     pub(crate) fn place(&self, ticket: u64, room: &mut [u8]) -> usize {
         let mut count = 0;
         let (out, room) = (room.as_mut_ptr(), room.len());
@@ -671,12 +671,12 @@ impl Handle {
         count
     }
 
-    /// When the server was heard last, if it was.
+    /// When the server was last heard, if it was.
     pub(crate) fn heard_at(&self) -> Option<Moment> {
         self.moment_by(dw_session_heard_at)
     }
 
-    /// Asks for the operation of this number, with this body. It is about no node that the core knows.
+    /// Calls the operation of this number, with this body. The core knows no node of it.
     pub(crate) fn raw(&mut self, call: Call<'_>, number: i32, body: &[u8]) -> Result<(), Fault> {
         let (raw, now, until) = (self.pointer(), call.now.as_millis(), call.until.as_millis());
         let (bytes, length) = (body.as_ptr(), body.len());
@@ -684,7 +684,7 @@ impl Handle {
         done(unsafe { dw_session_raw(raw, now, call.ticket, until, number, bytes, length) })
     }
 
-    /// Introduces the session.
+    /// Hands a credential in.
     pub(crate) fn credential(
         &mut self,
         now: Moment,

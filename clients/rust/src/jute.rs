@@ -1,13 +1,13 @@
-//! Fields of records, and records, of `zookeeper.jute`.
+//! Fields and records of `zookeeper.jute`.
 
 use crate::acl::{Acl, Id, Permissions};
 use crate::fault::Code;
 use crate::node::{Node, Stat};
 
-/// The number that a `MultiHeader` has of what was refused, and at the end.
+/// The number in a `MultiHeader` of a refused operation, and in the last one.
 const MULTI_END: i32 = -1;
 
-/// Spells fields, one after the other.
+/// Writes fields, one after the other.
 #[derive(Default)]
 pub(crate) struct Writer {
     bytes: Vec<u8>,
@@ -18,7 +18,7 @@ impl Writer {
         self.bytes
     }
 
-    /// The ACL of what is made, by itself. Without an entry it has no bytes.
+    /// An ACL for new nodes, by itself. An empty list has no bytes.
     pub(crate) fn acl(acls: &[Acl]) -> Vec<u8> {
         let mut writer = Writer::default();
         if !acls.is_empty() {
@@ -42,7 +42,7 @@ impl Writer {
         self
     }
 
-    /// A length that no frame admits is spelled as the longest: a frame with it is refused for its own length.
+    /// Writes a length that no frame admits as the longest: the frame is refused for its own length.
     fn length(&mut self, length: usize) -> &mut Writer {
         self.int(i32::try_from(length).unwrap_or(i32::MAX))
     }
@@ -66,7 +66,7 @@ impl Writer {
         self
     }
 
-    /// `MultiHeader`, of an operation of this number.
+    /// `MultiHeader` of an operation with this number.
     pub(crate) fn multi_header(&mut self, number: i32) -> &mut Writer {
         self.int(number).boolean(false).int(-1)
     }
@@ -93,7 +93,7 @@ impl<'a> Reader<'a> {
         Some(taken)
     }
 
-    /// The bytes of the fields that were not read.
+    /// The bytes of the unread fields.
     #[cfg(feature = "testing")]
     pub(crate) fn rest(&self) -> &'a [u8] {
         self.bytes
@@ -134,7 +134,7 @@ impl<'a> Reader<'a> {
         Some(Node { data, stat })
     }
 
-    /// A vector, whose elements this reads.
+    /// A vector. `one` reads each element.
     pub(crate) fn vector<T>(&mut self, one: fn(&mut Reader<'a>) -> Option<T>) -> Option<Vec<T>> {
         let count = self.int()?;
         (0..count).map(|_| one(self)).collect()
@@ -154,7 +154,7 @@ impl<'a> Reader<'a> {
         })
     }
 
-    /// `Id`, as which `ClientInfo` is spelled too.
+    /// `Id`, which has the spelling of `ClientInfo` too.
     pub(crate) fn id(&mut self) -> Option<Id> {
         Some(Id {
             scheme: self.text()?,
@@ -162,7 +162,7 @@ impl<'a> Reader<'a> {
         })
     }
 
-    /// The result of an operation, which `read` reads if the number of its `MultiHeader` is this one, or the code with which it was refused.
+    /// The result of an operation: what `read` reads if the number in its `MultiHeader` is this one, or the code with which it was refused.
     pub(crate) fn multi_result<T>(
         &mut self,
         number: i32,

@@ -1,7 +1,7 @@
-//! A client of [Apache ZooKeeper](https://zookeeper.apache.org) over a core that is proved: each answer that it keeps and marks
-//! [`Good`](Mark::Good) is what the servers' history has at the greatest zxid seen, each watch is reported once at most, a reply goes to
-//! the call that has waited longest, and once a session has expired or is closed nothing is kept. What this rests on is in the
-//! header of the core, `include/dirwolleu.h`.
+//! A client of [Apache ZooKeeper](https://zookeeper.apache.org) over a proved core: each answer that it keeps and marks
+//! [`Good`](Mark::Good) is what the servers' history has at the greatest zxid seen, each watch is reported at most once, a reply goes to
+//! the call that has waited longest, and once a session has expired or is closed nothing is kept. The core's header, `include/dirwolleu.h`,
+//! has the premises.
 //!
 //! ```no_run
 //! use dirwolleu::SessionOptions;
@@ -21,29 +21,29 @@
 //!
 //! There are three ways to use it:
 //!
-//! - [`Session`] is a session that a thread of its own keeps alive. Its calls wait for their answers, or give a [`Ticket`], which is a
-//!   future too. [`SessionOptions`] opens one otherwise than usual.
+//! - [`Session`] is a session that a thread of its own keeps alive. Its calls wait for their answers, or return a [`Ticket`], which is also
+//!   a future. [`SessionOptions`] has other ways to open one.
 //! - [`LocalSession`] is the same without a thread, for a loop of your own.
-//! - [`Machine`] is what both use, the core itself, without socket and clock, for an event loop: it decides of the whole session.
+//! - [`Machine`] is the core of both, without socket and clock, for an event loop: it decides about the whole session.
 //!
-//! **Proved** is the core: what each function of its header says. So it is when which host is dialled, which calls wait, when they are
-//! late, which are asked again after a lost connection, and when what is followed is read. **Tested** is all that is above it, in this
-//! crate: connections, tickets, retries, chroots, the addresses of hosts, records that the core does not read, when a [`Tree`] is read and shown,
-//! and [`Registration`]. A [`Lock`], a [`LocalLock`] and an [`Election`] are contenders of the core, whose header says at
-//! `dw_session_held` what of them is proved. Which nodes a [`TreeSnapshot`] and a [`Snapshot`] have, and that all of them are of one moment,
-//! the core says.
+//! **Proved** is the core: what each function of its header says. That includes which host is dialled and when, which calls wait, when they
+//! are late, which are repeated after a lost connection, and when followed nodes are read. **Tested** is everything above it, in this
+//! crate: connections, tickets, retries, chroots, the addresses of hosts, records that the core does not read, when a [`Tree`] is read and
+//! shown, and [`Registration`]. A [`Lock`], a [`LocalLock`] and an [`Election`] are contenders of the core, whose header says at
+//! `dw_session_held` what is proved of them. The core also says which nodes a [`TreeSnapshot`] and a [`Snapshot`] have, and that all of
+//! them are of one moment.
 //!
-//! Transactions, ACLs, `sync` and other [operations](RawOperation) go by the core, which numbers, sends, answers and loses them as each call,
-//! and reads no byte of them: what is spelled, and what an answer says, is tested. For the core, what they change is changed by others: so
-//! what a transaction made stale is stale when its caller goes on. The zxid of each reply counts: a server that is behind it does not admit the
-//! session.
+//! Transactions, ACLs, `sync` and other [operations](RawOperation) go through the core, which numbers, sends, answers and loses them like
+//! any call, and reads none of their bytes: their spelling, and the reading of their answers, is tested. To the core, their changes are
+//! those of another client, so answers that a transaction made stale are stale when its caller goes on. The zxid of each reply counts: a
+//! server that is behind it does not admit the session.
 //!
-//! Enums that a later version may add to are `non_exhaustive`. [`State`], [`Mark`], [`Sharing`] and [`Watch`] are whole.
+//! Enums that a later version may add to are `non_exhaustive`. [`State`], [`Mark`], [`Sharing`] and [`Watch`] are complete.
 //!
-//! The core takes its memory by `malloc`. Use no client in the forked child of a process with threads.
+//! The core takes its memory from `malloc`. Do not use a client in the forked child of a process with threads.
 #![deny(missing_docs, unsafe_op_in_unsafe_fn, unsafe_code)]
 #![warn(clippy::pedantic)]
-// A look-up whose value is dropped does no harm, and an attribute at each would hide those where one matters.
+// Dropping the value of a look-up does no harm, and an attribute at each would hide those that matter.
 #![allow(clippy::must_use_candidate)]
 
 mod acl;
@@ -150,7 +150,7 @@ pub use tree::{LocalTree, Snapshots, Tree};
 pub use tree_snapshot::{TreeChanges, TreeSnapshot};
 pub use view::View;
 
-/// The lines of the page, as a test that they compile.
+/// Compiles the README's code as a test.
 #[cfg(doctest)]
 #[doc = include_str!("../README.md")]
 struct Readme;

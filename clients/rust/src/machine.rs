@@ -1,4 +1,4 @@
-//! A session as a machine.
+//! A session as a machine, without I/O.
 
 mod look_ups;
 
@@ -16,36 +16,36 @@ use std::time::Duration;
 pub use crate::numbers::State;
 
 impl State {
-    /// Whether no other state of the session comes after it.
+    /// Whether this is the session's last state.
     pub fn is_final(self) -> bool {
         matches!(self, State::Expired | State::Closed)
     }
 }
 
-/// A session as a machine: bytes, moments and calls go in, and [`Actions`] come out. It says which server is dialled and when, has calls
-/// wait for a connection, asks reads again that were lost, keeps what is followed good, and begins another session after an expiry.
-/// All of that the core decides, and is proved.
+/// A session as a machine: bytes, moments and calls go in, and [`Actions`] come out. It says which server to dial and when, lets calls wait
+/// for a connection, repeats reads that were lost, keeps followed nodes good, and begins another session after an expiry. The core decides
+/// all of that, and is proved.
 ///
-/// It opens no socket, reads no clock and starts no thread, and no function of it waits. A program has connections, a clock, and a list of
-/// addresses, and decides nothing: it hands in what happened, does what the [`Actions`] say, and wakes at the latest at the
+/// It opens no socket, reads no clock and starts no thread, and none of its functions waits. A program has connections, a clock and a list
+/// of addresses, and decides nothing: it hands in what happened, does what the [`Actions`] say, and wakes at the latest at the
 /// [`deadline`](Machine::deadline). [`Session`](crate::Session) is such a program.
 ///
-/// It gives a connection up on which nothing at all is heard for two thirds of the timeout, and if a call or a ping has no answer for as
-/// long, and for a second at least, whatever else the server sends.
+/// It gives a connection up after two thirds of the timeout without a byte, and if a call or a ping has no answer for that long, and at
+/// least a second, whatever else the server sends.
 ///
-/// Each step forgets the actions of the step before. It fails with [`Fault::Halted`] if memory ran out within it: then
-/// [`resume`](Machine::resume) what it has [`saved`](Machine::saved). It fails with [`Fault::UnknownNumber`] if the library is of
-/// another version than this crate, and with the faults that it names besides; these leave the machine as it was.
+/// Each step forgets the actions of the step before. A step fails with [`Fault::Halted`] if memory ran out within it: then
+/// [`resume`](Machine::resume) what the machine has [`saved`](Machine::saved). It fails with [`Fault::UnknownNumber`] if the library has
+/// another version than this crate. The other faults that a step names leave the machine as it was.
 ///
-/// A machine may be moved, and handed to another thread. It is used by one thread at a time:
+/// You may move a machine, and send it to another thread. One thread uses it at a time:
 ///
 /// ```compile_fail,E0277
 /// fn is_sync<T: Sync>() {}
 /// is_sync::<dirwolleu::Machine>();
 /// ```
 ///
-/// To let it go ends no session of the servers: [`close_session`](Machine::close_session) does. After [`State::Closed`] do nothing more
-/// that it asks for.
+/// Dropping a machine ends no session at the servers: [`close_session`](Machine::close_session) does. After [`State::Closed`] ignore
+/// whatever it asks for.
 ///
 /// ```
 /// use dirwolleu::{Action, Machine, Moment, Side, State};
@@ -69,11 +69,11 @@ impl State {
 pub struct Machine {
     pub(crate) handle: Handle,
     state: State,
-    /// What was told last: a place that each output is written to.
+    /// The last output: each one is written here.
     pub(crate) told: Output,
 }
 
-/// The most bytes that the payload of a frame has. Raise both together with the `jute.maxbuffer` of the servers.
+/// The most bytes in the payload of a frame. Raise both together with the servers' `jute.maxbuffer`.
 ///
 /// ```
 /// use dirwolleu::{Fault, Limits, Machine};
@@ -87,11 +87,10 @@ pub struct Machine {
 /// ```
 #[derive(Clone, Copy, Debug, PartialEq, Eq)]
 pub struct Limits {
-    /// Of a frame that comes: 4,194,304 to 1,073,741,823, by default the least. A longer one ends the connection, and the read that it
-    /// answers is [`TooLarge`](crate::NoReply::TooLarge).
+    /// For incoming frames: 4,194,304 to 1,073,741,823, by default the least. A longer frame ends the connection, and the read that it
+    /// answers gets [`TooLarge`](crate::NoReply::TooLarge).
     pub longest_answer: usize,
-    /// Of a frame that is sent: 1,048,575 to 1,073,741,823, by default the least. A longer call is answered
-    /// [`TooLarge`](crate::NoReply::TooLarge).
+    /// For outgoing frames: 1,048,575 to 1,073,741,823, by default the least. A longer call gets [`TooLarge`](crate::NoReply::TooLarge).
     pub longest_request: usize,
 }
 
@@ -106,19 +105,19 @@ impl Default for Limits {
 
 /// How a machine begins.
 impl Machine {
-    /// A machine of no session yet, which asks for this timeout, in whole milliseconds: 1 to 2,147,483,647. It has this many addresses to
-    /// dial. Their order and the pauses between attempts are random by the seed: take one from the system. The first step asks for a
+    /// A machine without a session, which asks for this timeout, in whole milliseconds: 1 to 2,147,483,647. It has this many addresses to
+    /// dial. The seed determines their order and the pauses between attempts: take a random one from the system. The first step asks for a
     /// connection.
     ///
     /// # Errors
     ///
-    /// [`Fault::BadTimeout`], [`Fault::NoMemory`], [`Fault::UnknownNumber`], and [`Fault::OtherVersion`] if the library that is linked
-    /// is not this crate's.
+    /// [`Fault::BadTimeout`], [`Fault::NoMemory`], [`Fault::UnknownNumber`], and [`Fault::OtherVersion`] if the linked library is not this
+    /// crate's.
     pub fn open(timeout: Duration, addresses: usize, seed: u64) -> Result<Machine, Fault> {
         Machine::open_with_limits(timeout, addresses, seed, Limits::default())
     }
 
-    /// The same, with limits of its own.
+    /// The same with these limits.
     ///
     /// # Errors
     ///
@@ -133,7 +132,7 @@ impl Machine {
         Machine::of(Handle::open(settings)?)
     }
 
-    /// A machine that first takes up the session that was put away.
+    /// A machine that takes up the saved session first.
     ///
     /// # Errors
     ///
@@ -147,7 +146,7 @@ impl Machine {
         Machine::resume_with_limits(timeout, addresses, seed, saved, Limits::default())
     }
 
-    /// The same, with limits of its own.
+    /// The same with these limits.
     ///
     /// # Errors
     ///
@@ -164,12 +163,12 @@ impl Machine {
     }
 }
 
-/// The number of milliseconds of a timeout, in whole ones.
+/// A timeout in whole milliseconds.
 fn timeout_ms(timeout: Duration) -> Result<i32, Fault> {
     i32::try_from(timeout.as_millis()).map_err(|_| Fault::BadTimeout)
 }
 
-/// How a machine begins, as the library is told.
+/// The library's settings of a machine.
 fn settings(
     timeout: Duration,
     addresses: usize,
@@ -185,9 +184,9 @@ fn settings(
     })
 }
 
-/// Steps: what happened, noticed at a moment.
+/// Steps: what happened, by the moment at which the program noticed it.
 impl Machine {
-    /// The connection that was asked for is there. One that was not asked for, or no more, is hung up.
+    /// The connection that it asked for is open. One that it did not ask for, or no longer wants, is hung up.
     ///
     /// # Errors
     ///
@@ -196,7 +195,7 @@ impl Machine {
         self.step(|handle| handle.opened(now))
     }
 
-    /// The connection that was asked for could not be made.
+    /// The connection that it asked for could not be made.
     ///
     /// # Errors
     ///
@@ -223,7 +222,7 @@ impl Machine {
         })
     }
 
-    /// Takes a step. The state is noted, even if the step has failed.
+    /// Takes a step, and notes the state even if the step failed.
     #[inline]
     fn step(
         &mut self,
@@ -235,7 +234,7 @@ impl Machine {
         Ok(Actions::of(self))
     }
 
-    /// A moment, and nothing else: at the latest at the [`deadline`](Self::deadline).
+    /// A moment and nothing else: hand one in at the latest at the [`deadline`](Self::deadline).
     ///
     /// # Errors
     ///
@@ -248,18 +247,17 @@ impl Machine {
     ///
     /// # Errors
     ///
-    /// [`Fault::Halted`], [`Fault::UnknownNumber`], and [`Fault::NoMemory`]: then the same bytes can be handed in again.
+    /// [`Fault::Halted`], [`Fault::UnknownNumber`], and [`Fault::NoMemory`]: then you can hand the same bytes in again.
     pub fn bytes(&mut self, now: Moment, bytes: &[u8]) -> Result<Actions<'_>, Fault> {
         self.step(|handle| handle.bytes(now, bytes))
     }
 
-    /// The list of addresses is another one: first those that were in the list before, as many as `kept`, and after them those that were
-    /// not, as many as `added`. `is_listed` says whether it has that of the connection or of the attempt, or else the one that was dialled
+    /// Changes the list of addresses: first come those that were in the last list, as many as `kept`, and then those that were not, as many
+    /// as `added`. `is_listed` says whether the list has the address of the connection or of the attempt, or else the one that was dialled
     /// last; it is true before the first.
     ///
-    /// They are dialled in a new order, and the session may move, as those of ZooKeeper's own clients do: always if `is_listed` is false;
-    /// else by the chance by which the list has grown, and never if it has not. One that moves is told
-    /// [`HangUp`](crate::Action::HangUp).
+    /// The machine dials them in a new order, and may move the session, as ZooKeeper's own clients do: always if `is_listed` is false; else
+    /// with the chance by which the list has grown, and never if it has not. It moves by a [`HangUp`](crate::Action::HangUp).
     ///
     /// # Errors
     ///
@@ -274,12 +272,12 @@ impl Machine {
         self.step(|handle| handle.addresses(now, kept, added, is_listed))
     }
 
-    /// Follows the data of a node, or the names of its children, also of a node that is not there yet: it is read with a watch, and read
-    /// again after each report, on each new connection and in each new session. No other call or subject has or had the ticket.
+    /// Follows the data of a node, or the names of its children, even if there is no such node yet: reads it with a watch, and again after
+    /// each report, on each new connection and in each new session. No other call or subject may have, or have had, the ticket.
     ///
     /// # Errors
     ///
-    /// [`Fault::NotPath`] and [`Fault::NoMemory`]: then nothing has happened. [`Fault::Halted`] and [`Fault::UnknownNumber`].
+    /// [`Fault::NotPath`] and [`Fault::NoMemory`], which change nothing; [`Fault::Halted`] and [`Fault::UnknownNumber`].
     pub fn follow(
         &mut self,
         now: Moment,
@@ -291,7 +289,7 @@ impl Machine {
         self.step(|handle| handle.follow(call, side))
     }
 
-    /// The subject of this ticket is followed no more.
+    /// Stops following the subject of this ticket.
     ///
     /// # Errors
     ///
@@ -300,10 +298,10 @@ impl Machine {
         self.step(|handle| handle.unfollow(now, ticket))
     }
 
-    /// Follows all nodes at and below a path, of which no more are taken on if there are more than `most`. The data of its root have the
-    /// ticket, and all else has tickets from 2^63 on, which are used for nothing else. What becomes of it is told by
-    /// [`Action::MemberAdded`](crate::Action::MemberAdded) and those after it. If there is no root, that is [shown](crate::Action::Shown), and
-    /// its making is waited for.
+    /// Follows all nodes at and below a path, and takes on no more of them once there are more than `most`. The data of the root have the
+    /// ticket; everything else has tickets from 2^63 on, which must have no other use. [`Action::MemberAdded`](crate::Action::MemberAdded)
+    /// and those after it report the changes. If there is no root, the machine [shows](crate::Action::Shown) that, and waits for its
+    /// creation.
     ///
     /// # Errors
     ///
@@ -319,8 +317,7 @@ impl Machine {
         self.step(|handle| handle.follow_tree(call, most))
     }
 
-    /// The tree of this ticket is followed no more, nor is any node that was taken on for it. If there is none, the moment alone is
-    /// noticed.
+    /// Stops following the tree of this ticket, and each node that was taken on for it. If there is no such tree, only the moment counts.
     ///
     /// # Errors
     ///
@@ -329,9 +326,9 @@ impl Machine {
         self.step(|handle| handle.unfollow_tree(now, ticket))
     }
 
-    /// A contender for a lock or an election joins. It makes its place, watches the last rival before it, and no other, and tells how it stands by
-    /// [`Action::Waits`](crate::Action::Waits) and those after it. A place whose making was lost is looked for, and in each new session it
-    /// contends by another one. No other call, subject, tree or contender has or had the ticket.
+    /// Adds a contender for a lock or an election. It creates its place, watches only the last rival before it, and reports its standing by
+    /// [`Action::Waits`](crate::Action::Waits) and those after it. It looks for a place whose create was lost, and in each new session it
+    /// contends with another place. No other call, subject, tree or contender may have, or have had, the ticket.
     ///
     /// ```
     /// use dirwolleu::{Action, Contention, Machine, Moment};
@@ -349,8 +346,8 @@ impl Machine {
     ///
     /// # Errors
     ///
-    /// [`Fault::NotPath`], also if no place in the directory has a path, and [`Fault::NoMemory`]: then nothing has happened.
-    /// [`Fault::Halted`] and [`Fault::UnknownNumber`].
+    /// [`Fault::NotPath`], also if no place in the directory has a path, and [`Fault::NoMemory`], which change nothing; [`Fault::Halted`]
+    /// and [`Fault::UnknownNumber`].
     pub fn contend(
         &mut self,
         now: Moment,
@@ -360,8 +357,8 @@ impl Machine {
         self.step(|handle| handle.contend(now, ticket, contention))
     }
 
-    /// The contender of this ticket is given up: its places are deleted, through any number of connections, and
-    /// [`Action::GivenUp`](crate::Action::GivenUp) is told once none is left. If there is no such contender, the moment alone is noticed.
+    /// Makes the contender of this ticket give up: the machine deletes its places, over any number of connections, and reports
+    /// [`Action::GivenUp`](crate::Action::GivenUp) once none is left. If there is no such contender, only the moment counts.
     ///
     /// # Errors
     ///
@@ -370,14 +367,14 @@ impl Machine {
         self.step(|handle| handle.give_up(now, ticket))
     }
 
-    /// Introduces the session by a credential, of a scheme as `digest` and a secret as `user:password`: at once if there is a
-    /// connection, and on each later one right after the request that opens it, in the order in which credentials were handed in. What a
-    /// server says of it is told by [`Action::Credential`](crate::Action::Credential). Two equal ones are two. The machine keeps it for as
-    /// long as it lives, and overwrites it then. The bytes of the secret are in the frames that are said, too.
+    /// Adds a credential, with a scheme such as `digest` and a secret such as `user:password`. It goes out at once if there is a
+    /// connection, and on each later one right after the request that opens it, in the order of these calls.
+    /// [`Action::Credential`](crate::Action::Credential) reports the server's answer. Two equal credentials are two. The machine keeps the
+    /// secret for as long as it lives, and overwrites it then; the frames to send also have it.
     ///
     /// # Errors
     ///
-    /// [`Fault::CredentialTooLarge`] and [`Fault::NoMemory`]: then nothing has happened. [`Fault::Halted`] and [`Fault::UnknownNumber`].
+    /// [`Fault::CredentialTooLarge`] and [`Fault::NoMemory`], which change nothing; [`Fault::Halted`] and [`Fault::UnknownNumber`].
     pub fn credential(
         &mut self,
         now: Moment,
@@ -387,14 +384,14 @@ impl Machine {
         self.step(|handle| handle.credential(now, scheme, secret))
     }
 
-    /// Forgets all stale answers. What is kept is bounded by nothing but memory: who goes from path to path calls this now and then. It is
-    /// no step, and what is followed is followed still.
+    /// Forgets all stale answers. Only memory bounds the kept answers: call this now and then if you go from path to path. It is no step,
+    /// and followed nodes stay followed.
     pub fn forget_stale(&mut self) {
         self.handle.forget();
     }
 }
 
-/// A call, which waits to the last moment of all if it has no limit.
+/// A call. Without a limit it waits until the last moment of all.
 fn call(now: Moment, ticket: u64, until: Option<Moment>, path: &str) -> Call<'_> {
     let until = until.unwrap_or(Moment::from_millis(u64::MAX));
     Call {
@@ -405,14 +402,14 @@ fn call(now: Moment, ticket: u64, until: Option<Moment>, path: &str) -> Call<'_>
     }
 }
 
-/// Calls about a node, each by the function of its name that the handle has.
+/// Calls about a node, each by the handle's function of the same name.
 macro_rules! calls {
     ($($(#[$doc:meta])* $name:ident($($word:ident: $kind:ty),*);)*) => {$(
         $(#[$doc])*
         ///
         /// # Errors
         ///
-        /// [`Fault::NotPath`] and [`Fault::NoMemory`]: then nothing has happened. [`Fault::Halted`] and [`Fault::UnknownNumber`].
+        /// [`Fault::NotPath`] and [`Fault::NoMemory`], which change nothing; [`Fault::Halted`] and [`Fault::UnknownNumber`].
         #[inline]
         pub fn $name(
             &mut self,
@@ -428,39 +425,39 @@ macro_rules! calls {
     )*};
 }
 
-/// Steps: calls. Each waits in one line until a server has accepted the connection and fewer than 1,024 are on their way, until a moment at
-/// most, if there is one. It is answered once, or times out once. A read that is lost with its connection is asked again, in its place;
-/// a write is answered [`ConnectionLoss`](crate::NoReply::ConnectionLoss). No other call or subject has or had the ticket. What is to be
-/// kept good is [followed](Machine::follow).
+/// Steps: calls. Each waits in one line until a server has accepted the connection and fewer than 1,024 are on their way, at most until a
+/// moment, if there is one. It is answered once, or times out once. A read that is lost with its connection is repeated, in its place; a
+/// write gets [`ConnectionLoss`](crate::NoReply::ConnectionLoss). No other call or subject may have, or have had, the ticket. To keep a
+/// node good, [follow](Machine::follow) it.
 impl Machine {
     calls! {
-        /// Asks whether there is a node, and what is known of it.
+        /// Asks whether there is a node, and for its `Stat`.
         exists(watch: Watch);
 
-        /// Asks for the data of a node. If there is no node it leaves no watch: [`exists`](Self::exists) does.
+        /// Asks for the data of a node. Without a node it leaves no watch: [`exists`](Self::exists) does.
         get_data(watch: Watch);
 
-        /// Asks for the names of the children of a node. If there is no node it leaves no watch.
+        /// Asks for the names of a node's children. Without a node it leaves no watch.
         get_children(watch: Watch);
 
-        /// Asks to set the data of a node: none are null data. The version is the one that the node has to have, or
+        /// Asks to set the data of a node; `None` is null data. The version is the one that the node must have, or
         /// [`ANY_VERSION`](crate::ANY_VERSION).
         set_data(data: Option<&[u8]>, version: i32);
 
-        /// Asks to make a node, with these data: none are null data.
+        /// Asks to create a node with these data; `None` is null data.
         create(data: Option<&[u8]>, mode: Mode);
 
-        /// Asks to delete a node. The version is as of [`set_data`](Self::set_data).
+        /// Asks to delete a node. The version is that of [`set_data`](Self::set_data).
         delete(version: i32);
     }
 
-    /// Asks for another operation, with what stands after the header of its request, as `zookeeper.jute` spells its record. The core adds the
-    /// header, and reads none of these bytes: 8 less than [`Limits::longest_request`] at most, else it is answered [`TooLarge`](crate::NoReply::TooLarge). A reply without
-    /// an error brings [`Brought::Raw`](crate::Brought::Raw).
+    /// Asks for another operation. The body is what follows the header of its request, as `zookeeper.jute` spells its record. The core adds
+    /// the header, and reads none of these bytes: at most 8 less than [`Limits::longest_request`], else the call gets
+    /// [`TooLarge`](crate::NoReply::TooLarge). A reply without an error brings [`Brought::Raw`](crate::Brought::Raw).
     ///
     /// # Errors
     ///
-    /// [`Fault::NoMemory`]: then nothing has happened. [`Fault::Halted`] and [`Fault::UnknownNumber`].
+    /// [`Fault::NoMemory`], which changes nothing; [`Fault::Halted`] and [`Fault::UnknownNumber`].
     pub fn raw(
         &mut self,
         now: Moment,

@@ -1,10 +1,10 @@
-//! Moments, and a clock that tells them.
+//! Moments, and a clock for them.
 
 use std::time::{Duration, Instant};
 
-/// A moment: milliseconds of a clock that does not go back, from any beginning.
+/// A moment: milliseconds of a clock that never goes back, from any beginning.
 ///
-/// A client compares the moments that it is handed with one another alone, and takes one below an earlier one for the earlier one.
+/// A client only compares the moments that it gets with one another, and takes one below an earlier one for the earlier one.
 ///
 /// ```
 /// use dirwolleu::{Clock, Moment};
@@ -17,7 +17,7 @@ use std::time::{Duration, Instant};
 #[derive(Clone, Copy, Debug, Default, PartialEq, Eq, PartialOrd, Ord, Hash)]
 pub struct Moment(u64);
 
-/// Whole milliseconds, and the most that there are for what is longer.
+/// Whole milliseconds, or the greatest number for a longer duration.
 #[inline]
 fn millis(duration: Duration) -> u64 {
     let seconds = duration.as_secs().saturating_mul(1_000);
@@ -30,37 +30,37 @@ impl Moment {
         Moment(millis)
     }
 
-    /// The moment so long after the clock's beginning. A part of a millisecond is not counted.
+    /// The moment this long after the clock's beginning, without parts of a millisecond.
     #[inline]
     pub(crate) fn after(passed: Duration) -> Moment {
         Moment(millis(passed))
     }
 
-    /// How many milliseconds it is after the clock's beginning.
+    /// How many milliseconds it is from the clock's beginning.
     #[inline]
     pub const fn as_millis(self) -> u64 {
         self.0
     }
 
-    /// The moment that is so much later, in whole milliseconds, and the last one there is if it would be after that.
+    /// The moment this much later, in whole milliseconds, or the last one if it would be after that.
     #[must_use]
     pub fn saturating_add(self, duration: Duration) -> Moment {
         Moment(self.0.saturating_add(millis(duration)))
     }
 
-    /// The moment a millisecond before it, and the first one if there is none.
+    /// The moment a millisecond before it, or the first one if there is none.
     pub(crate) const fn before(self) -> Moment {
         Moment(self.0.saturating_sub(1))
     }
 
-    /// How long it is after another moment: zero if it is not after it.
+    /// How long it is after another moment: zero if it is not later.
     pub const fn saturating_duration_since(self, earlier: Moment) -> Duration {
         Duration::from_millis(self.0.saturating_sub(earlier.0))
     }
 }
 
-/// A clock of moments over [`Instant`], which begins at 0. On Linux that stands still while the machine is suspended. If a session has
-/// expired meanwhile, only a server tells it.
+/// A clock of moments over [`Instant`], which begins at 0. On Linux it stands still while the machine is suspended. If a session has
+/// expired meanwhile, only a server says so.
 ///
 /// ```
 /// use dirwolleu::{Clock, Machine};
@@ -87,7 +87,7 @@ impl Clock {
         }
     }
 
-    /// The moment that it is. A part of a millisecond is not counted.
+    /// The present moment, without parts of a millisecond.
     pub fn now(&self) -> Moment {
         Moment::after(self.passed())
     }
@@ -98,7 +98,7 @@ impl Clock {
         Instant::now().saturating_duration_since(self.beginning)
     }
 
-    /// The moment that it is at an instant. A part of a millisecond is not counted.
+    /// The moment at an instant, without parts of a millisecond.
     pub(crate) fn at(&self, instant: Instant) -> Moment {
         Moment::after(instant.saturating_duration_since(self.beginning))
     }

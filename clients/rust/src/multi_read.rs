@@ -1,4 +1,4 @@
-//! Several nodes that are read at one zxid.
+//! Reads of several nodes at one zxid.
 
 use crate::chroot::Chroot;
 use crate::fault::{Code, Fault};
@@ -9,7 +9,7 @@ use crate::node::Node;
 const GET_DATA: i32 = 4;
 const GET_CHILDREN: i32 = 8;
 
-/// What is read of a node, by [`Request::multi_read`](crate::Request::multi_read).
+/// A read of one node for [`Request::multi_read`](crate::Request::multi_read).
 ///
 /// ```
 /// use dirwolleu::{Read, Request};
@@ -20,13 +20,13 @@ const GET_CHILDREN: i32 = 8;
 #[derive(Clone, Debug, PartialEq, Eq, Hash)]
 #[non_exhaustive]
 pub enum Read {
-    /// The data of the node of this path, and what is known of it.
+    /// The data of the node at this path, and its `Stat`.
     Data(String),
-    /// The names of the children of the node of this path.
+    /// The names of the children of the node at this path.
     Children(String),
 }
 
-/// What a [`Read`] has brought.
+/// The answer to a [`Read`].
 ///
 /// ```
 /// use dirwolleu::{Code, ReadAnswer};
@@ -44,9 +44,9 @@ pub enum Read {
 #[derive(Clone, Debug, PartialEq, Eq)]
 #[non_exhaustive]
 pub enum ReadAnswer {
-    /// Of [`Read::Data`].
+    /// To [`Read::Data`].
     Data(Node),
-    /// Of [`Read::Children`], in an order that means nothing.
+    /// To [`Read::Children`], in no particular order.
     Children(Vec<String>),
 }
 
@@ -77,7 +77,7 @@ pub(crate) fn spell(reads: &[Read], spelled: &mut Writer, root: &Chroot) -> Resu
     Ok(())
 }
 
-/// What each has brought, or with which code it was refused. `None` if that does not read.
+/// The answer to each read, or the code that refuses it. `None` if the bytes do not parse.
 pub(crate) fn read(
     reads: &[Read],
     reply: &mut Reader<'_>,

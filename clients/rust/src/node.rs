@@ -1,10 +1,10 @@
-//! What is said of nodes, and asked of them.
+//! Nodes: their fields, modes and watches.
 
 use crate::numbers::mode;
 
 pub use crate::numbers::{NodeEvent, Side};
 
-/// What is known of a node, as the protocol has it.
+/// A node's `Stat`, as the protocol has it.
 ///
 /// ```
 /// use dirwolleu::{Node, Stat};
@@ -18,29 +18,29 @@ pub use crate::numbers::{NodeEvent, Side};
 pub struct Stat {
     /// The zxid of the transaction that made the node.
     pub czxid: i64,
-    /// The zxid of the transaction that changed its data last.
+    /// The zxid of the transaction that last changed its data.
     pub mzxid: i64,
     /// When it was made, in milliseconds since 1970, by the server's clock.
     pub ctime: i64,
-    /// When its data were changed last, in milliseconds since 1970, by the server's clock.
+    /// When its data last changed, in milliseconds since 1970, by the server's clock.
     pub mtime: i64,
-    /// The session with which the node goes, and 0 if it is not ephemeral.
+    /// The session that owns the node, or 0 if it is not ephemeral.
     pub ephemeral_owner: i64,
-    /// The zxid of the transaction that changed the set of its children last.
+    /// The zxid of the transaction that last changed the set of its children.
     pub pzxid: i64,
-    /// How often its data were changed.
+    /// How often its data have changed.
     pub version: i32,
-    /// How often the set of its children was changed.
+    /// How often the set of its children has changed.
     pub cversion: i32,
-    /// How often its ACL was changed.
+    /// How often its ACL has changed.
     pub aversion: i32,
-    /// How many bytes its data have.
+    /// The length of its data in bytes.
     pub data_length: i32,
-    /// How many children it has.
+    /// The number of its children.
     pub num_children: i32,
 }
 
-/// The fields of a [`Stat`] that change only if a watch on the data fires: those that are kept.
+/// The fields of a [`Stat`] that change only if a watch on the data fires. A client keeps these.
 ///
 /// ```
 /// use dirwolleu::{DataAnswer, DataStat};
@@ -57,21 +57,21 @@ pub struct Stat {
 pub struct DataStat {
     /// The zxid of the transaction that made the node.
     pub czxid: i64,
-    /// The zxid of the transaction that changed its data last.
+    /// The zxid of the transaction that last changed its data.
     pub mzxid: i64,
     /// When it was made, in milliseconds since 1970, by the server's clock.
     pub ctime: i64,
-    /// When its data were changed last, in milliseconds since 1970, by the server's clock.
+    /// When its data last changed, in milliseconds since 1970, by the server's clock.
     pub mtime: i64,
-    /// The session with which the node goes, and 0 if it is not ephemeral.
+    /// The session that owns the node, or 0 if it is not ephemeral.
     pub ephemeral_owner: i64,
-    /// How often its data were changed.
+    /// How often its data have changed.
     pub version: i32,
-    /// How many bytes its data have.
+    /// The length of its data in bytes.
     pub data_length: i32,
 }
 
-/// A node that was read.
+/// The data and the `Stat` of a node.
 ///
 /// ```
 /// use dirwolleu::{Node, Stat};
@@ -84,16 +84,16 @@ pub struct DataStat {
 /// ```
 #[derive(Clone, Debug, PartialEq, Eq)]
 pub struct Node {
-    /// The data: `None` if they are null, which is another thing than no bytes.
+    /// The data: `None` if they are null, which differs from no bytes.
     pub data: Option<Vec<u8>>,
-    /// The rest of what is known of it.
+    /// The node's `Stat`.
     pub stat: Stat,
 }
 
-/// The version of a set or a delete that is right for each version of the node.
+/// The version that matches any version of a node, for a set or a delete.
 pub const ANY_VERSION: i32 = -1;
 
-/// Whether a read leaves a watch on its path. What such a read brings is kept.
+/// Whether a read leaves a watch on its path. The client keeps the answer of one that does.
 ///
 /// ```
 /// use dirwolleu::{Action, Machine, Moment, Watch};
@@ -112,9 +112,9 @@ pub const ANY_VERSION: i32 = -1;
 /// ```
 #[derive(Clone, Copy, Debug, PartialEq, Eq, Hash)]
 pub enum Watch {
-    /// It leaves one.
+    /// It leaves a watch.
     Yes,
-    /// It leaves none, and nothing is kept.
+    /// It leaves no watch, and nothing is kept.
     No,
 }
 
@@ -124,7 +124,7 @@ impl Watch {
     }
 }
 
-/// What kind of a node is made.
+/// The kind of a node to create.
 ///
 /// ```
 /// use dirwolleu::{Action, Machine, Mode, Moment};

@@ -1,4 +1,4 @@
-//! What the actions of a machine bring: bytes, texts and names, which stay in the library until they are copied.
+//! What a machine's actions bring: bytes, texts and names, which stay in the library until you copy them.
 
 use crate::buffer::{copy_whole, copy_whole_in, text_of, TextList};
 use crate::fault::{Code, Fault, NoReply, UnknownNumber};
@@ -30,9 +30,9 @@ use std::fmt;
 /// ```
 #[derive(Debug)]
 pub struct Reply<'a> {
-    /// The zxid at which it holds. With an error of the server it says nothing.
+    /// The zxid at which it holds, without meaning if the server answers with an error.
     pub zxid: i64,
-    /// What it brings, or the error of the server.
+    /// The result, or the server's error.
     pub result: Result<Brought<'a>, Code>,
 }
 
@@ -53,7 +53,7 @@ impl<'a> Reply<'a> {
     }
 }
 
-/// What a reply brings.
+/// The result in a reply.
 ///
 /// ```
 /// use dirwolleu::{Action, Brought, Machine, Moment, Watch};
@@ -82,32 +82,32 @@ impl<'a> Reply<'a> {
 #[derive(Debug)]
 #[non_exhaustive]
 pub enum Brought<'a> {
-    /// To [`exists`](crate::Machine::exists) and [`set_data`](crate::Machine::set_data): what is known of the node.
+    /// To [`exists`](crate::Machine::exists) and [`set_data`](crate::Machine::set_data): the node's `Stat`.
     Stat(Stat),
     /// To [`get_data`](crate::Machine::get_data).
     Data {
-        /// The data: `None` if they are null, which is another thing than no bytes.
+        /// The data: `None` if they are null, which differs from no bytes.
         data: Option<Bytes<'a>>,
-        /// What is known of the node.
+        /// The node's `Stat`.
         stat: Stat,
     },
     /// To [`get_children`](crate::Machine::get_children).
     Names {
-        /// The names, in the server's order, which means nothing.
+        /// The names, in the server's order, which has no meaning.
         names: Names<'a>,
-        /// What is known of the node.
+        /// The node's `Stat`.
         stat: Stat,
     },
-    /// To [`create`](crate::Machine::create): the path of the node, which ends in ten digits more if it is sequential.
+    /// To [`create`](crate::Machine::create): the node's path, to which a sequential create appends ten digits.
     Created(Text<'a>),
-    /// To [`delete`](crate::Machine::delete) and [`close_session`](crate::Machine::close_session): it is done.
+    /// To [`delete`](crate::Machine::delete) and [`close_session`](crate::Machine::close_session): done.
     Done,
-    /// To [`raw`](crate::Machine::raw): all that stands after the header of the reply, of which the core has read nothing.
+    /// To [`raw`](crate::Machine::raw): everything after the header of the reply. The core has read none of it.
     Raw(Bytes<'a>),
 }
 
 impl<'a> Brought<'a> {
-    /// What it brings, or the error of the server.
+    /// The result, or the server's error.
     pub(crate) fn of(
         handle: &'a Handle,
         flat: &ffi::Output,
@@ -136,7 +136,7 @@ impl<'a> Brought<'a> {
     }
 }
 
-/// The bytes of a frame or of data, which stay in the library until they are copied.
+/// The bytes of a frame or of data, which stay in the library until you copy them.
 ///
 /// ```
 /// use dirwolleu::{Action, Machine, Moment};
@@ -162,7 +162,7 @@ pub struct Bytes<'a> {
 }
 
 impl<'a> Bytes<'a> {
-    /// Those of what was told last.
+    /// The bytes of the last output.
     pub(crate) fn of(handle: &'a Handle, flat: &ffi::Output) -> Bytes<'a> {
         let length = flat.length;
         Bytes { handle, length }
@@ -180,12 +180,12 @@ impl Bytes<'_> {
         self.length == 0
     }
 
-    /// Copies the bytes from this place on, as many as there is room for, and tells how many it has copied.
+    /// Copies the bytes from this place on, as many as there is room for, and returns how many it copied.
     pub fn copy_to(&self, from: usize, room: &mut [u8]) -> usize {
         self.handle.copy(from, room).min(room.len())
     }
 
-    /// Copies them to the end of a vector.
+    /// Appends them to a vector.
     pub fn append_to(&self, bytes: &mut Vec<u8>) {
         self.handle.append(self.length, bytes);
     }
@@ -198,14 +198,14 @@ impl Bytes<'_> {
     }
 }
 
-/// It tells how many there are, and not which: a frame may have a password.
+/// Prints how many there are, and not which: a frame may have a password.
 impl fmt::Debug for Bytes<'_> {
     fn fmt(&self, f: &mut fmt::Formatter<'_>) -> fmt::Result {
         write!(f, "Bytes({})", self.length)
     }
 }
 
-/// A path or a code, which stays in the library until it is copied.
+/// A path or a code, which stays in the library until you copy it.
 ///
 /// ```
 /// use dirwolleu::{Action, Brought, Machine, Mode, Moment};
@@ -233,7 +233,7 @@ pub struct Text<'a> {
 }
 
 impl<'a> Text<'a> {
-    /// The text that these bytes are.
+    /// The text of these bytes.
     pub(crate) fn of(bytes: Bytes<'a>) -> Text<'a> {
         Text { bytes }
     }
@@ -269,10 +269,10 @@ impl fmt::Debug for Text<'_> {
     }
 }
 
-/// The least room for each of many names, with its length, before it is known how much they need.
+/// The least room for each of many names, with its length, before their length is known.
 const ROOM_OF_NAME: usize = 32;
 
-/// Names of children, which stay in the library until they are copied.
+/// Names of children, which stay in the library until you copy them.
 ///
 /// ```
 /// use dirwolleu::{Action, Brought, Machine, Moment, Watch};
@@ -313,7 +313,7 @@ impl<'a> Names<'a> {
         self.count == 0
     }
 
-    /// Copies of all of them, in the order of the reply, by one call of the library.
+    /// Copies all of them, in the order of the reply, by one call of the library.
     ///
     /// # Errors
     ///
@@ -322,7 +322,8 @@ impl<'a> Names<'a> {
         Ok(self.spelled()?.texts())
     }
 
-    /// The same, before they are read. The session waits meanwhile, so they are copied once: the names of a lock are as long as the first.
+    /// The same before they are parsed. The session waits meanwhile, so there is only one copy: the names of a lock are as long as the
+    /// first.
     pub(crate) fn spelled(&self) -> Result<TextList, Fault> {
         let of_first = self.handle.name(0, &mut []) + 4;
         let room = self.count * of_first.max(ROOM_OF_NAME);
@@ -331,7 +332,7 @@ impl<'a> Names<'a> {
         Ok(TextList { count, bytes })
     }
 
-    /// Copies of them, in the order of the reply, by a call for each.
+    /// Copies each of them, in the order of the reply, by a call for each.
     pub fn iter(&self) -> impl Iterator<Item = String> + 'a {
         let handle = self.handle;
         (0..self.count).map(move |index| {
@@ -366,18 +367,18 @@ impl fmt::Debug for Names<'_> {
 pub enum Cause {
     /// The length of a frame is out of its range.
     Frame,
-    /// The payload of a frame does not read, or nobody has asked for it.
+    /// The payload of a frame does not parse, or nobody asked for it.
     Payload,
     /// Nothing was heard for two thirds of the timeout.
     Silence,
-    /// A reply that leaves a watch is behind the greatest zxid seen.
+    /// The reply to a watched read is behind the greatest zxid seen.
     Behind {
         /// The zxid of the reply.
         zxid: i64,
     },
-    /// The server has refused to set the watches again.
+    /// The server refused to set the watches again.
     WatchesRefused {
-        /// The error of the server.
+        /// The server's code.
         code: Code,
     },
 }
@@ -397,7 +398,7 @@ impl Cause {
     }
 }
 
-/// That a connection is given up.
+/// The end of a connection that a machine gives up.
 ///
 /// ```
 /// use dirwolleu::{Action, Cause, Machine, Moment};
@@ -416,14 +417,14 @@ impl Cause {
 /// ```
 #[derive(Clone, Copy, Debug)]
 pub struct GivenUp<'a> {
-    /// Why.
+    /// The reason.
     pub cause: Cause,
-    /// The code of the fault, as `D1`.
+    /// The code of the fault, such as `D1`.
     pub code: Text<'a>,
 }
 
 impl GivenUp<'_> {
-    /// Why, in words.
+    /// The reason in words.
     ///
     /// # Errors
     ///

@@ -2,7 +2,7 @@
 
 use std::fmt;
 
-/// The most bytes that a path has.
+/// The most bytes of a path.
 const LONGEST_PATH: usize = 4_096;
 
 /// The most characters of a path that an error prints.
@@ -28,7 +28,7 @@ pub enum PathFault {
     TooLong,
     /// It does not begin with a slash.
     NoSlashFirst,
-    /// It has a control character, or another one that paths do not have.
+    /// It has a control character, or another one that paths cannot have.
     BadCharacter,
     /// Two slashes follow one another, or it ends with a slash and is not the root.
     EmptyName,
@@ -36,13 +36,13 @@ pub enum PathFault {
     DotName,
 }
 
-/// Whether a path never has this character.
+/// Whether no path can have this character.
 fn is_bad(character: char) -> bool {
     matches!(character, '\0'..='\u{1f}' | '\u{7f}'..='\u{9f}' | '\u{e000}'..='\u{f8ff}' | '\u{fff0}'..)
 }
 
 impl PathFault {
-    /// The first of these that a text has. The library alone decides whether it is a path: this says why it is none.
+    /// The first of these that applies to a text. Only the library decides whether it is a path: this says why it is none.
     pub(crate) fn of(text: &str) -> Option<PathFault> {
         let rest = text.strip_prefix('/');
         let mut names = rest.unwrap_or_default().split('/');
@@ -78,7 +78,7 @@ impl fmt::Display for PathFault {
     }
 }
 
-/// A path as an error prints it: control characters are spelled out, and no more of it is there than is read.
+/// A path as an error prints it: with escaped control characters, and no longer than a person reads.
 pub(crate) struct Escaped<'a>(pub(crate) &'a str);
 
 impl fmt::Display for Escaped<'_> {

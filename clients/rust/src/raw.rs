@@ -1,4 +1,4 @@
-//! Calls whose records this crate spells and reads, as `zookeeper.jute` has them. The core carries them, and looks at no byte of them.
+//! Calls whose records this crate writes and parses, as `zookeeper.jute` has them. The core carries them, and looks at no byte of them.
 
 use crate::acl::Acl;
 use crate::answer::{Answer, Content, Outcome, RawAnswer};
@@ -11,8 +11,8 @@ use crate::numbers::operation;
 use crate::transaction::{self, Operation};
 use std::time::Duration;
 
-/// What [`Machine::raw`](crate::Machine::raw) asks for, by the names that ZooKeeper's `ZooDefs.OpCode` has for the types of requests. None of
-/// these leaves or removes a watch, or begins or ends a session, and the machine asks for none of them by itself.
+/// An operation for [`Machine::raw`](crate::Machine::raw), with the name that ZooKeeper's `ZooDefs.OpCode` has for the type of its request.
+/// None of these leaves or removes a watch, or begins or ends a session, and the machine makes none of them by itself.
 ///
 /// ```
 /// use dirwolleu::{Machine, Moment, RawOperation};
@@ -28,39 +28,39 @@ use std::time::Duration;
 #[non_exhaustive]
 #[repr(i32)]
 pub enum RawOperation {
-    /// The ACL of a node. It changes nothing, as [`Sync`](RawOperation::Sync) and those from [`MultiRead`](RawOperation::MultiRead) on: these
-    /// are asked again if they are lost.
+    /// Reads the ACL of a node. It changes nothing, like [`Sync`](RawOperation::Sync) and those from [`MultiRead`](RawOperation::MultiRead)
+    /// on: these are repeated if they are lost.
     GetAcl = operation::GET_ACL,
     /// Sets the ACL of a node.
     SetAcl = operation::SET_ACL,
-    /// Has the server catch up with the leader.
+    /// Makes the server catch up with the leader.
     Sync = operation::SYNC,
-    /// Changes that happen together or not at all. One that fails is no error of the reply: its codes are in the body.
+    /// Makes changes together or not at all. A failure is no error of the reply: its codes are in the body.
     Multi = operation::MULTI,
-    /// Makes a node, and brings its path and Stat: of ZooKeeper 3.5 and later.
+    /// Creates a node, and returns its path and `Stat`: since ZooKeeper 3.5.
     Create2 = operation::CREATE2,
-    /// Makes a container.
+    /// Creates a container.
     CreateContainer = operation::CREATE_CONTAINER,
-    /// Makes a node with a time to live.
+    /// Creates a node with a time to live.
     CreateTtl = operation::CREATE_TTL,
-    /// Reads several nodes at one zxid: of ZooKeeper 3.6 and later.
+    /// Reads several nodes at one zxid: since ZooKeeper 3.6.
     MultiRead = operation::MULTI_READ,
-    /// The ephemeral nodes of the session.
+    /// Lists the ephemeral nodes of the session.
     GetEphemerals = operation::GET_EPHEMERALS,
-    /// How many nodes are below one.
+    /// Counts the nodes below one.
     GetAllChildrenNumber = operation::GET_ALL_CHILDREN_NUMBER,
-    /// As whom the server knows the client: of ZooKeeper 3.7 and later.
+    /// Lists the identities under which the server knows the client: since ZooKeeper 3.7.
     WhoAmI = operation::WHO_AM_I,
 }
 
 impl RawOperation {
-    /// The number of the protocol.
+    /// The number in the protocol.
     pub(crate) fn number(self) -> i32 {
         self as i32
     }
 }
 
-/// Flags of a create, besides those of a [`Mode`].
+/// Flags of a create besides those of a [`Mode`].
 const CONTAINER: i32 = 4;
 const WITH_TTL: i32 = 5;
 const SEQUENTIAL_WITH_TTL: i32 = 6;
@@ -68,11 +68,11 @@ const SEQUENTIAL_WITH_TTL: i32 = 6;
 /// How long a node lives.
 #[derive(Clone, Copy, PartialEq, Eq)]
 pub(crate) enum Lifetime {
-    /// As its mode says.
+    /// As long as its mode says.
     Mode(Mode),
-    /// Until it had children, and has none any more.
+    /// Until its last child is gone.
     Container,
-    /// Until it has had no children and was not changed for so long.
+    /// Until it has had no change and no children for this long.
     Ttl { mode: Mode, ttl: Duration },
 }
 
@@ -92,7 +92,7 @@ impl Lifetime {
         }
     }
 
-    /// The flags, and after them the time to live in milliseconds if there is one. No node that goes with its session has one.
+    /// Writes the flags, and then the time to live in milliseconds if there is one. An ephemeral node has none.
     fn spell(self, spelled: &mut Writer) -> Result<(), Fault> {
         match self {
             Lifetime::Mode(mode) => {
@@ -139,7 +139,7 @@ pub(crate) enum RawCall {
 }
 
 impl RawCall {
-    /// Whether the servers are as they were after it, so that it is safe to be asked again.
+    /// Whether it leaves the servers unchanged, so that it is safe to repeat.
     pub(crate) fn is_read(&self) -> bool {
         !matches!(
             self,
@@ -147,7 +147,7 @@ impl RawCall {
         )
     }
 
-    /// Whether it is about the node of its path.
+    /// Whether it is about the node at its path.
     pub(crate) fn has_node(&self) -> bool {
         !matches!(
             self,
@@ -169,7 +169,7 @@ impl RawCall {
         }
     }
 
-    /// What stands after the header of its request.
+    /// The bytes after the header of its request.
     pub(crate) fn spell(&self, path: &str, root: &Chroot) -> Result<Vec<u8>, Fault> {
         let mut spelled = Writer::default();
         match self {
@@ -200,7 +200,7 @@ impl RawCall {
         Ok(spelled.into_bytes())
     }
 
-    /// What stands after the header of its reply. `None` if that does not read.
+    /// Parses the bytes after the header of its reply. `None` if they do not parse.
     pub(crate) fn read(&self, body: &[u8], root: &Chroot) -> Option<Outcome> {
         let mut reply = Reader::new(body);
         let (mut found, mut records) = (Answer::default(), RawAnswer::default());
@@ -252,7 +252,7 @@ mod tests {
         Chroot::of("/app").unwrap()
     }
 
-    /// An int, and bytes after their length.
+    /// An int; below it, bytes after their length.
     fn int(number: i32) -> Vec<u8> {
         number.to_be_bytes().to_vec()
     }
@@ -267,7 +267,7 @@ mod tests {
         [int(number), vec![is_end], int(code)].concat()
     }
 
-    /// A Stat whose bytes are 1 to 68.
+    /// A `Stat` whose bytes are 1 to 68.
     fn stat_bytes() -> Vec<u8> {
         (1..=68).collect()
     }
@@ -325,7 +325,7 @@ mod tests {
         }])
     }
 
-    /// A create with this body after what all have.
+    /// A create with this body after what all creates have.
     fn made(path: &str, rest: &[u8]) -> Vec<u8> {
         let acl = [int(1), int(1), text("ip"), text("::1")].concat();
         [&text(path), &text("x"), &acl, rest].concat()
@@ -380,7 +380,7 @@ mod tests {
         }
     }
 
-    /// Each call, a body of a reply, and what it says: with its records, if they are all the content that it has.
+    /// Each call, with the body of a reply and its answer; with its records, if they are its whole content.
     fn answers() -> Vec<(RawCall, Vec<u8>, Answer, RawAnswer)> {
         let (none, records) = (Answer::default, RawAnswer::default);
         let with_stat = || Answer {
@@ -403,7 +403,7 @@ mod tests {
         ]
     }
 
-    /// The same, of those that bring records alone.
+    /// The same for calls that bring only records.
     fn answers_of_records() -> Vec<(RawCall, Vec<u8>, Answer, RawAnswer)> {
         let (none, records) = (Answer::default, RawAnswer::default);
         let (data, stat) = (None, stat());

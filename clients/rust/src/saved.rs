@@ -1,11 +1,11 @@
-//! Sessions that are put away.
+//! Saved sessions.
 
 use std::fmt;
 
-/// A session that is put away, by [`Machine::saved`](crate::Machine::saved), and taken up by
-/// [`Machine::resume`](crate::Machine::resume), maybe in another process: its number, its password and the greatest zxid seen.
+/// A session that was put away by [`Machine::saved`](crate::Machine::saved), for [`Machine::resume`](crate::Machine::resume) to take up,
+/// maybe in another process: its id, its password and the greatest zxid seen.
 ///
-/// Its bytes are a secret: whoever has them has the session. They are not printed.
+/// Its bytes are a secret: whoever has them has the session. They are never printed.
 ///
 /// ```
 /// use dirwolleu::{Machine, SavedSession};
@@ -25,13 +25,12 @@ pub struct SavedSession {
 }
 
 impl SavedSession {
-    /// The session of these bytes. Whether they are one is seen when it is resumed.
+    /// A session of these bytes. Only a resume checks them.
     pub fn from_bytes(bytes: Vec<u8>) -> SavedSession {
         SavedSession { bytes }
     }
 
-    /// The number of the session, which its ephemeral nodes have as their owner: 0 before a server has admitted it. `None` if the bytes
-    /// are no session.
+    /// The id of the session, which owns its ephemeral nodes: 0 until a server has admitted it. `None` if the bytes are no session.
     pub fn id(&self) -> Option<i64> {
         let number = self.bytes.get(..8)?.try_into().ok()?;
         Some(i64::from_be_bytes(number))
@@ -42,8 +41,8 @@ impl SavedSession {
         &self.bytes
     }
 
-    /// What another session after it begins with, as the core renews one: no session, a password of 16 zeros, and the greatest zxid seen, so
-    /// that no server which is behind it admits the session.
+    /// The beginning of the session after it, as the core renews one: no session, a password of 16 zeros, and the greatest zxid seen, so
+    /// that no server that is behind it admits the session.
     pub(crate) fn for_another(&self) -> SavedSession {
         let zxid = &self.bytes[self.bytes.len() - 8..];
         let none = [&[0; 8][..], &[0, 0, 0, 16], &[0; 16], zxid];

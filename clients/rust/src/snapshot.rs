@@ -1,4 +1,4 @@
-//! What is kept of several paths, all of it of one moment.
+//! The kept answers of several paths, all of one moment.
 
 use crate::buffer::texts_in;
 use crate::cache::{Children, DataAnswer};
@@ -7,8 +7,8 @@ use crate::jute::Reader;
 use crate::numbers::kept;
 use crate::subtree::{buffer, data_stat};
 
-/// What is kept of several paths, as the servers' history has it at one zxid: of [`Machine::snapshot`](crate::Machine::snapshot) and
-/// [`Session::snapshot`](crate::Session::snapshot).
+/// The kept answers of several paths, as the servers' history has them at one zxid: from [`Machine::snapshot`](crate::Machine::snapshot)
+/// and [`Session::snapshot`](crate::Session::snapshot).
 ///
 /// ```no_run
 /// use dirwolleu::{DataAnswer, Session};
@@ -32,13 +32,13 @@ use crate::subtree::{buffer, data_stat};
 pub struct Snapshot {
     /// That zxid.
     pub zxid: i64,
-    /// What is kept of the nodes, in the order of their paths.
+    /// The kept data of the nodes, in the order of their paths.
     pub nodes: Vec<DataAnswer>,
     /// The names below the parents, in the order of their paths.
     pub children: Vec<Children>,
 }
 
-/// What the library has spelled of a node.
+/// A node as the library spelled it.
 fn answer(reader: &mut Reader<'_>) -> Option<Result<DataAnswer, UnknownNumber>> {
     let _path = reader.text()?;
     let kind = reader.int()?;
@@ -51,7 +51,7 @@ fn answer(reader: &mut Reader<'_>) -> Option<Result<DataAnswer, UnknownNumber>> 
     })
 }
 
-/// The same of the names below a parent.
+/// The same for the names below a parent.
 fn children(reader: &mut Reader<'_>) -> Option<Children> {
     let _path = reader.text()?;
     let names = buffer(reader)??;
@@ -61,7 +61,7 @@ fn children(reader: &mut Reader<'_>) -> Option<Children> {
     })
 }
 
-/// All that the library has spelled, of this many nodes.
+/// Everything that the library spelled, for this many nodes.
 pub(crate) fn snapshot_in(
     zxid: i64,
     nodes: usize,

@@ -1,6 +1,6 @@
-//! Whether a session stands first in a directory: for locks and elections.
+//! Whether a session is first in a directory: for locks and elections.
 
-/// How contenders are named: a name counts if it ends in ten digits, as that of a sequential node does, right after a marker.
+/// How contenders are named: a name counts if it ends in a marker and ten digits, like that of a sequential node.
 ///
 /// ```
 /// use dirwolleu::Markers;
@@ -11,13 +11,13 @@
 /// ```
 #[derive(Clone, Copy, Debug, PartialEq, Eq)]
 pub struct Markers<'a> {
-    /// That of the session's name.
+    /// The marker of the session's name.
     pub own: &'a str,
-    /// Those of the names of rivals, for which it waits.
+    /// The markers of rivals' names: the session waits for those.
     pub against: &'a [&'a str],
 }
 
-/// A session's node in a directory, and the names that were listed there.
+/// A session's node in a directory, and the names listed there.
 ///
 /// ```
 /// use dirwolleu::{Contender, Machine, Markers, Standing};
@@ -36,7 +36,7 @@ pub struct Contender<'a> {
     pub directory: &'a str,
     /// The name of its node there.
     pub name: &'a str,
-    /// The names that a [`get_children`](crate::Machine::get_children) of the directory has brought, asked after that node was made.
+    /// The names from a [`get_children`](crate::Machine::get_children) of the directory that was asked after the node was created.
     pub names: &'a [String],
     /// The zxid of that reply.
     pub listed: i64,
@@ -44,7 +44,7 @@ pub struct Contender<'a> {
     pub markers: Markers<'a>,
 }
 
-/// Whether a session comes first in a directory: of [`Machine::standing`](crate::Machine::standing).
+/// Whether a session comes first in a directory, from [`Machine::standing`](crate::Machine::standing).
 ///
 /// ```
 /// use dirwolleu::{Contender, Fault, Machine, Markers, Standing};
@@ -62,16 +62,16 @@ pub struct Contender<'a> {
 /// ```
 #[derive(Clone, Debug, PartialEq, Eq, Hash)]
 pub enum Standing {
-    /// First, by this token: the zxid of the transaction that made its node.
+    /// First, with this token: the zxid of the transaction that created its node.
     First {
-        /// The token. Whoever the lock protects refuses a smaller one than it has seen.
+        /// The token. Whatever the lock protects refuses a token below one that it has seen.
         token: i64,
     },
-    /// After others: the last rival before it has this name. Watch that node alone, and list again when it is gone.
+    /// After others: the last rival before it has this name. Watch only that node, and list again when it is gone.
     After {
         /// The name.
         rival: String,
     },
-    /// Neither is shown: read the session's node with a watch, or list again.
+    /// Neither is known: read the session's node with a watch, or list again.
     Unsure,
 }

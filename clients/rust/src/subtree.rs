@@ -1,4 +1,4 @@
-//! All nodes at and below a path, of one moment, and what is still to be read before they are known.
+//! All nodes at and below a path, of one moment, and the reads that are still missing before they are known.
 
 use crate::chroot::Chroot;
 use crate::jute::Reader;
@@ -18,16 +18,16 @@ use crate::node::{DataStat, Side};
 pub struct SubtreeNode {
     /// Its path.
     pub path: String,
-    /// The data: `None` if they are null, which is another thing than no bytes.
+    /// The data: `None` if they are null, which differs from no bytes.
     pub data: Option<Vec<u8>>,
-    /// What is known of it.
+    /// The node's kept fields.
     pub stat: DataStat,
-    /// The zxid of the transaction that changed the set of its children last.
+    /// The zxid of the transaction that last changed the set of its children.
     pub pzxid: i64,
 }
 
 impl SubtreeNode {
-    /// The last name of its path: empty if that is `/`.
+    /// The last name of its path, which is empty for `/`.
     #[must_use]
     pub fn name(&self) -> &str {
         let slash = self.path.rfind('/');
@@ -35,7 +35,7 @@ impl SubtreeNode {
     }
 }
 
-/// All nodes at and below a path, as the servers' history has them at one zxid: of [`Machine::subtree`](crate::Machine::subtree).
+/// All nodes at and below a path, as the servers' history has them at one zxid: from [`Machine::subtree`](crate::Machine::subtree).
 ///
 /// ```
 /// use dirwolleu::{Fault, Machine, Moment, Side, Subtree, Watch};
@@ -56,12 +56,12 @@ impl SubtreeNode {
 pub struct Subtree {
     /// That zxid.
     pub zxid: i64,
-    /// The nodes, each after its parent: that of the path first, and no other node was there.
+    /// The nodes, each after its parent: the root first. No other node was there.
     pub nodes: Vec<SubtreeNode>,
 }
 
 impl Subtree {
-    /// The same, by the paths that the program knows.
+    /// The same with the program's paths.
     pub(crate) fn below(mut self, chroot: &Chroot) -> Subtree {
         for node in &mut self.nodes {
             node.path = chroot.inner(std::mem::take(&mut node.path));
@@ -70,7 +70,7 @@ impl Subtree {
     }
 }
 
-/// A read, with a watch, that is lacking before there is a subtree.
+/// A read, with a watch, that is still missing before there is a subtree.
 ///
 /// ```
 /// use dirwolleu::{Lacking, Machine, Side};
@@ -89,7 +89,7 @@ pub struct Lacking {
     pub side: Side,
 }
 
-/// All that a reader finds, one after the other.
+/// Everything that a reader finds, one after the other.
 fn all<T>(spelled: &[u8], mut read: impl FnMut(&mut Reader<'_>) -> Option<T>) -> Vec<T> {
     let mut reader = Reader::new(spelled);
     let mut found = Vec::new();
@@ -110,7 +110,7 @@ pub(crate) fn buffer(reader: &mut Reader<'_>) -> Option<Data> {
     }
 }
 
-/// What is known of a node, in the order of a `Stat`.
+/// A node's kept fields, in the order of a `Stat`.
 pub(crate) fn data_stat(reader: &mut Reader<'_>) -> Option<DataStat> {
     Some(DataStat {
         czxid: reader.long()?,
@@ -132,12 +132,12 @@ fn node(reader: &mut Reader<'_>) -> Option<SubtreeNode> {
     })
 }
 
-/// The nodes that the library has spelled.
+/// The nodes that the library spelled.
 pub(crate) fn nodes_in(spelled: &[u8]) -> Vec<SubtreeNode> {
     all(spelled, node)
 }
 
-/// The reads that the library has spelled.
+/// The reads that the library spelled.
 pub(crate) fn lacking_in(spelled: &[u8]) -> Vec<Lacking> {
     all(spelled, |reader| {
         Some(Lacking {

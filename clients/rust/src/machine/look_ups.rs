@@ -1,4 +1,4 @@
-//! What a machine keeps.
+//! The kept answers of a machine.
 
 use super::{Machine, State};
 use crate::buffer::{copy_whole, copy_whole_in, spelled, text_of, texts_in};
@@ -15,53 +15,53 @@ use crate::subtree::{lacking_in, nodes_in, Lacking, Subtree};
 use std::convert::Infallible;
 use std::time::Duration;
 
-/// Look-ups. They ask nobody, and serve after [`Fault::Halted`] too, when nothing is kept.
+/// Look-ups. They send nothing, and also work after [`Fault::Halted`], when nothing is kept.
 impl Machine {
-    /// The first moment at which something is due: a ping, the end of an attempt, a dial, a read, a limit. `None` if nothing ever is. It
-    /// changes with each step.
+    /// Returns the first moment at which something is due: a ping, the end of an attempt, a dial, a read, a limit. `None` if nothing ever
+    /// is. It changes with each step.
     pub fn deadline(&self) -> Option<Moment> {
         self.handle.deadline()
     }
 
-    /// The moment at which the server was heard last, on any connection, or `None` if it was not heard yet. What is kept and good was so
-    /// on the server when it sent that, or later.
+    /// Returns the moment at which the server was last heard, on any connection, or `None` if it was not heard yet. Good answers were true
+    /// at the server when it sent that, or later.
     pub fn heard_at(&self) -> Option<Moment> {
         self.handle.heard_at()
     }
 
-    /// The state.
+    /// Returns the state.
     pub fn state(&self) -> State {
         self.state
     }
 
-    /// A number from 1 on that rises when what is kept and good may have changed, or the state, or the session. While it is the same, a
-    /// [subtree](Self::subtree), what is [lacking](Self::lacking) and a [snapshot](Self::snapshot) are the same, so ask for them again
-    /// only if it differs. The [last zxid](Self::last_zxid) may rise meanwhile. It rises by one at each
-    /// step with bytes or another state, and if memory ran out within a step.
+    /// Returns a number, from 1 on, that rises when good answers, the state or the session may have changed. While it is the same, a
+    /// [subtree](Self::subtree), the [missing reads](Self::lacking) and a [snapshot](Self::snapshot) are the same, so look them up again
+    /// only if it differs. The [last zxid](Self::last_zxid) may rise meanwhile. It rises by one at each step with bytes or another state,
+    /// and if memory ran out within a step.
     pub fn revision(&self) -> u64 {
         self.handle.revision()
     }
 
-    /// The greatest zxid seen, not below 0. A good answer is what the servers' history has at it.
+    /// Returns the greatest zxid seen, at least 0. Good answers are what the servers' history has at it.
     pub fn last_zxid(&self) -> i64 {
         self.handle.last_zxid()
     }
 
-    /// The timeout of the session: the one that a server granted last, or the one to ask for.
+    /// Returns the session's timeout: the one a server granted last, or else the one to ask for.
     pub fn timeout(&self) -> Duration {
         Duration::from_millis(self.handle.timeout_ms().unsigned_abs())
     }
 
-    /// The session, to be taken up by [`resume`](Self::resume).
+    /// Returns the session, for [`resume`](Self::resume) to take up.
     ///
     /// # Errors
     ///
-    /// [`Fault::NoMemory`] alone.
+    /// Only [`Fault::NoMemory`].
     pub fn saved(&self) -> Result<SavedSession, Fault> {
         copy_whole(|room| self.handle.saved(room)).map(SavedSession::from_bytes)
     }
 
-    /// What is kept about the data of a path that was read with a watch, or `None` if nothing is. The data are copied.
+    /// Returns the kept data of a path that was read with a watch, or `None` if nothing is kept. It copies the data.
     ///
     /// # Errors
     ///
@@ -75,7 +75,7 @@ impl Machine {
         Ok(Kept::of_data(&kept, data)?)
     }
 
-    /// The mark of what is kept about the data of a path, or `None` if nothing is. It copies no data.
+    /// Returns the mark of a path's kept data, or `None` if nothing is kept. It copies no data.
     ///
     /// # Errors
     ///
@@ -84,7 +84,7 @@ impl Machine {
         Ok(mark_of(self.handle.peek_data(path, &mut [])?.mark)?)
     }
 
-    /// What is kept about the children of a path that were read with a watch, or `None` if nothing is. The names are copied.
+    /// Returns the kept names of a path's children that were read with a watch, or `None` if nothing is kept. It copies the names.
     ///
     /// # Errors
     ///
@@ -102,7 +102,7 @@ impl Machine {
         }))
     }
 
-    /// The mark of what is kept about the children of a path, or `None` if nothing is. It copies no names.
+    /// Returns the mark of a path's kept children, or `None` if nothing is kept. It copies no names.
     ///
     /// # Errors
     ///
@@ -111,13 +111,13 @@ impl Machine {
         Ok(mark_of(self.handle.peek_children(path)?.mark)?)
     }
 
-    /// All nodes at and below a path, at most this many, or `None` if some of it is not kept good: then read what is
-    /// [`lacking`](Self::lacking). There is a subtree exactly if the path, and each node that is reached from it through kept names,
-    /// is kept good with its data, and its names are kept good. It is the servers' at that zxid, and no other node was there.
+    /// Returns all nodes at and below a path, at most this many, or `None` if some of them are not kept good: then make the reads that are
+    /// [`lacking`](Self::lacking). There is a subtree exactly if the path, and each node that kept names lead to from there, is kept good
+    /// with its data, and its names are kept good. It is the servers' subtree at that zxid, and no other node was there.
     ///
     /// # Errors
     ///
-    /// As [`peek_data`](Self::peek_data), and [`Fault::TooManyNodes`] if more nodes are reached.
+    /// As [`peek_data`](Self::peek_data), and [`Fault::TooManyNodes`] if names lead to more nodes.
     pub fn subtree(&self, path: &str, most: usize) -> Result<Option<Subtree>, Fault> {
         match copy_whole(|room| self.handle.subtree(path, most, room)) {
             Ok(spelled) => Ok(Some(Subtree {
@@ -129,25 +129,24 @@ impl Machine {
         }
     }
 
-    /// The reads, with a watch, that are lacking before there is a [`subtree`](Self::subtree) of a path with at most this many nodes:
-    /// none exactly if there is one. All can be asked at once; what lies below a node shows when its names are there.
+    /// Returns the reads, with a watch, that are still missing before there is a [`subtree`](Self::subtree) of a path with at most this
+    /// many nodes: none exactly if there is one. You can make all of them at once; the nodes below one show when its names are there.
     ///
     /// # Errors
     ///
-    /// As [`peek_data`](Self::peek_data), [`Fault::TooManyNodes`], and [`Fault::NotWhole`] if a name makes no path, so that no read
-    /// helps.
+    /// As [`peek_data`](Self::peek_data), [`Fault::TooManyNodes`], and [`Fault::NotWhole`] if a name makes no path, so that no read helps.
     pub fn lacking(&self, path: &str, most: usize) -> Result<Vec<Lacking>, Fault> {
         let spelled = copy_whole(|room| self.handle.lacking(path, most, room))?;
         Ok(lacking_in(&spelled))
     }
 
-    /// What is kept of the nodes of the first paths, and of the names below the second ones, or `None` if some of it is not kept good:
-    /// then read that again, with a watch. It is all of one moment: what the servers' history has at that zxid. Of a node that is not
-    /// there, [`exists`](Self::exists) leaves its absence.
+    /// Returns the kept data of the nodes at the first paths, and the kept names below the second ones, or `None` if some of them are not
+    /// kept good: then read those again, with a watch. All of it is of one moment: what the servers' history has at that zxid. For a node
+    /// that does not exist, [`exists`](Self::exists) keeps its absence.
     ///
     /// # Errors
     ///
-    /// As [`peek_data`](Self::peek_data), of the first of them that is no path.
+    /// As [`peek_data`](Self::peek_data), for the first of them that is no path.
     pub fn snapshot(&self, nodes: &[&str], parents: &[&str]) -> Result<Option<Snapshot>, Fault> {
         let [spelled_nodes, spelled_parents] =
             [nodes, parents].map(|paths| spelled(paths.iter().copied()));
@@ -165,14 +164,14 @@ impl Machine {
         }
     }
 
-    /// Whether the session comes first in a directory by its node there, and by one listing of it that needs no watch: it does so
-    /// [`First`](Standing::First) if what is kept of the node's data, or that it exists, is good, its owner is this session, no listed
-    /// rival is before it, and the listing is neither older than the node nor newer than [`last_zxid`](Self::last_zxid). It stays so
-    /// while what is kept of its node is good, if numbers rise with creation.
+    /// Returns whether the session comes first in a directory by its node there, and by one listing of it that needs no watch. It is
+    /// [`First`](Standing::First) if the node's kept data, or the kept answer that it exists, is good, its owner is this session, no listed
+    /// rival is before it, and the listing is neither older than the node nor newer than [`last_zxid`](Self::last_zxid). It stays first
+    /// while the node's kept answer is good, if numbers rise with creation.
     ///
     /// # Errors
     ///
-    /// As [`peek_data`](Self::peek_data), of the directory and of the name.
+    /// As [`peek_data`](Self::peek_data), for the directory and for the name.
     pub fn standing(&self, contender: &Contender<'_>) -> Result<Standing, Fault> {
         let names = spelled(contender.names.iter().map(String::as_str));
         let (own, against) = (contender.markers.own, contender.markers.against);
@@ -192,14 +191,14 @@ impl Machine {
         })
     }
 
-    /// The token by which the session holds the first place in a directory by its node of this path, or `None` if that is not shown: the
-    /// names below the directory are kept good, the path lies right below it, its name begins with the prefix, and none of these names
-    /// that does is before it in byte order; and what is kept of the node's data, or that it exists, is good, and its owner is this
-    /// session. Whoever the lock protects refuses a smaller token than it has seen.
+    /// Returns the token with which the session holds the first place in a directory by its node at this path, or `None` if that is not
+    /// shown. It is shown if the names below the directory are kept good, the path is right below it, its name begins with the prefix, and
+    /// no other name with the prefix is before it in byte order; and if the node's kept data, or the kept answer that it exists, is good,
+    /// and its owner is this session. Whatever the lock protects refuses a token below one that it has seen.
     ///
     /// # Errors
     ///
-    /// As [`peek_data`](Self::peek_data), of the directory and of the path.
+    /// As [`peek_data`](Self::peek_data), for the directory and for the path.
     pub fn holder(&self, directory: &str, prefix: &str, path: &str) -> Result<Option<i64>, Fault> {
         match self.handle.holder(directory, prefix, path) {
             (result::NONE, _) => Ok(None),
@@ -208,22 +207,23 @@ impl Machine {
         }
     }
 
-    /// The token by which the session holds by the contender of this ticket, or `None` if that is not shown: no rival is before its place in a
-    /// listing that was answered since it came there, and the place is kept good and is this session's. So it is at the
-    /// [last zxid](Self::last_zxid). While there is no connection it stays so; [`heard_at`](Self::heard_at) says how old that is.
+    /// Returns the token with which the session holds by the contender of this ticket, or `None` if that is not shown. It is shown if no
+    /// rival is before its place in a listing that was answered after the place existed, and the place is kept good and belongs to this
+    /// session. So it is at the [last zxid](Self::last_zxid). Without a connection it stays so; [`heard_at`](Self::heard_at) says how old
+    /// that is.
     pub fn held(&self, ticket: u64) -> Option<i64> {
         self.handle.held(ticket)
     }
 
-    /// The path of the place of the contender of this ticket, or `None` if it is not known.
+    /// Returns the path of the place of the contender with this ticket, or `None` if it is not known.
     pub fn place(&self, ticket: u64) -> Option<String> {
         let place = copy_whole(|room| Ok::<_, Infallible>(self.handle.place(ticket, room)));
         let place = place.unwrap_or_default();
         (!place.is_empty()).then(|| text_of(place))
     }
 
-    /// What a [`subtree`](Machine::subtree) has, as the library spells it. A tree that is looked at again is mostly as long as it was: it
-    /// is given more room than that.
+    /// A [`subtree`](Machine::subtree) as the library spells it. When a tree is looked up again, it is mostly as long as before: it gets
+    /// more room than that.
     pub(crate) fn spelled_subtree(
         &self,
         path: &str,
