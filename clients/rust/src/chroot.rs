@@ -1,9 +1,9 @@
-//! The path below which a session has its nodes.
+//! The path below which all nodes of a session are.
 
 use crate::fault::Fault;
 use std::borrow::Cow;
 
-/// Whether a character is none that the path of a node may have, as the Programmer's Guide says.
+/// Whether the path of a node cannot have this character, by the Programmer's Guide.
 fn is_no_letter(one: char) -> bool {
     matches!(one, '\0'..='\u{1f}' | '\u{7f}'..='\u{9f}' | '\u{e000}'..='\u{f8ff}' | '\u{fff0}'..='\u{ffff}')
 }
@@ -15,7 +15,7 @@ pub(crate) struct Chroot {
 }
 
 impl Chroot {
-    /// The chroot of the end of a connection string: nothing, `/`, or a path. `None` if it is no path.
+    /// The chroot at the end of a connection string: nothing, `/`, or a path. `None` if it is no path.
     pub(crate) fn of(text: &str) -> Option<Chroot> {
         let prefix = String::from(if text == "/" { "" } else { text });
         let mut parts = prefix.split('/');
@@ -28,7 +28,7 @@ impl Chroot {
         &self.prefix
     }
 
-    /// The path that the servers know, of one of the program's. A text that is no path does not become one.
+    /// The servers' path for one of the program's. A text that is no path stays none.
     #[inline]
     pub(crate) fn outer<'a>(&self, path: &'a str) -> Result<Cow<'a, str>, Fault> {
         if self.prefix.is_empty() {
@@ -37,7 +37,7 @@ impl Chroot {
         self.below(path)
     }
 
-    /// The same, of a session that has its nodes below a path.
+    /// The same for a session with a chroot.
     #[inline(never)]
     fn below<'a>(&self, path: &'a str) -> Result<Cow<'a, str>, Fault> {
         match path {
@@ -47,7 +47,7 @@ impl Chroot {
         }
     }
 
-    /// The same, of a text in a record that the core does not read: it has to be the path of a node.
+    /// The same for a text in a record that the core does not read: it has to be the path of a node.
     pub(crate) fn checked<'a>(&self, path: &'a str) -> Result<Cow<'a, str>, Fault> {
         let is_path = path == "/" || !path.is_empty() && Chroot::of(path).is_some();
         if !is_path || path.chars().any(is_no_letter) {
@@ -56,7 +56,7 @@ impl Chroot {
         self.outer(path)
     }
 
-    /// The same, of a node that is to be made. The number of a sequential one may be all of its name: then the path ends with `/`.
+    /// The same for a node to be created. A sequential one may have its number as its whole name: then the path ends with `/`.
     pub(crate) fn checked_create(&self, path: &str, is_sequential: bool) -> Result<String, Fault> {
         match path.strip_suffix('/').filter(|_| is_sequential) {
             None => self.checked(path).map(Cow::into_owned),
@@ -69,7 +69,7 @@ impl Chroot {
         }
     }
 
-    /// The same, of a path with which others begin: those of all nodes of the program if it is `/`.
+    /// The same for a prefix of paths: with `/`, that of all nodes of the program.
     pub(crate) fn checked_prefix(&self, path: &str) -> Result<String, Fault> {
         let outer = self.checked(path)?.into_owned();
         Ok(if path == "/" && outer != "/" {
@@ -79,7 +79,7 @@ impl Chroot {
         })
     }
 
-    /// The program's path, of one that the servers know.
+    /// The program's path for one of the servers'.
     pub(crate) fn inner(&self, path: String) -> String {
         match path.strip_prefix(&self.prefix) {
             Some("") => String::from("/"),

@@ -9,7 +9,7 @@ use std::time::Duration;
 /// The shortest timeout that the system takes.
 const SHORTEST_WAIT: Duration = Duration::from_millis(1);
 
-/// The server that is dialled.
+/// The server to dial.
 ///
 /// ```
 /// use dirwolleu::{Connection, Dial, Server, SessionOptions, Tcp};
@@ -24,7 +24,7 @@ const SHORTEST_WAIT: Duration = Duration::from_millis(1);
 #[derive(Clone, Copy, Debug, PartialEq, Eq)]
 #[non_exhaustive]
 pub struct Server<'a> {
-    /// Its name, as the list of hosts has it, without the port: what a certificate has to say.
+    /// Its name, as the list of hosts has it, without the port: the name that its certificate has to show.
     pub name: &'a str,
     /// One of the addresses that the name has now.
     pub address: SocketAddr,
@@ -36,7 +36,7 @@ impl<'a> Server<'a> {
     }
 }
 
-/// The half of a connection that is read. One thread has it.
+/// The read half of a connection. One thread uses it.
 ///
 /// ```
 /// use dirwolleu::Incoming;
@@ -57,18 +57,17 @@ impl<'a> Server<'a> {
 /// # Ok::<(), io::Error>(())
 /// ```
 pub trait Incoming: Send {
-    /// Waits until there are bytes, for so long at most, and reads as many as there are and there is room for. `Ok(0)` says that the
-    /// stream has ended.
+    /// Waits for bytes, at most this long, and reads as many as are there and fit. `Ok(0)` means that the stream has ended.
     ///
     /// # Errors
     ///
-    /// [`ErrorKind::WouldBlock`], [`ErrorKind::TimedOut`] or [`ErrorKind::Interrupted`] if nothing came in time; with another kind the
-    /// connection is over.
+    /// [`ErrorKind::WouldBlock`], [`ErrorKind::TimedOut`] or [`ErrorKind::Interrupted`] if nothing came in time; any other kind ends the
+    /// connection.
     fn read(&mut self, room: &mut [u8], wait: Duration) -> io::Result<usize>;
 }
 
-/// The half of a connection that is written. Any thread writes to it, one at a time, while another one reads. The session has no lock
-/// meanwhile, so this may look at its session, and ask it.
+/// The write half of a connection. Any thread writes to it, one at a time, while another one reads. The session holds no lock meanwhile, so
+/// a writer may look at its session, and make calls.
 ///
 /// ```
 /// use dirwolleu::Outgoing;
@@ -92,13 +91,13 @@ pub trait Incoming: Send {
 /// # Ok::<(), io::Error>(())
 /// ```
 pub trait Outgoing: Send {
-    /// Waits until there is room, for so long at most, and writes as many bytes as there is room for. The rest is handed in again; so are
-    /// the same bytes if there was no room in time.
+    /// Waits for room, at most this long, and writes as many bytes as fit. The session hands the rest in again, or the same bytes if there
+    /// was no room in time.
     ///
     /// # Errors
     ///
-    /// [`ErrorKind::WouldBlock`], [`ErrorKind::TimedOut`] or [`ErrorKind::Interrupted`] if there was no room in time; with another
-    /// kind, and with `Ok(0)`, the connection is over.
+    /// [`ErrorKind::WouldBlock`], [`ErrorKind::TimedOut`] or [`ErrorKind::Interrupted`] if there was no room in time; any other kind, and
+    /// `Ok(0)`, ends the connection.
     fn write(&mut self, bytes: &[u8], wait: Duration) -> io::Result<usize>;
 
     /// Ends the connection: a read that waits at the other half ends soon.
@@ -131,13 +130,13 @@ pub trait Outgoing: Send {
 /// let connection = Connection { incoming: Box::new(Gone), outgoing: Box::new(Gone) };
 /// ```
 pub struct Connection {
-    /// What comes from the server.
+    /// The half that reads from the server.
     pub incoming: Box<dyn Incoming>,
-    /// What goes to it.
+    /// The half that writes to it.
     pub outgoing: Box<dyn Outgoing>,
 }
 
-/// Makes connections: [`Tcp`] does, and so does any function of the same form.
+/// Makes connections: [`Tcp`] does, and so does any function of this signature.
 ///
 /// A program brings its own for TLS, for a proxy, and for tests without a network:
 ///
@@ -157,11 +156,11 @@ pub struct Connection {
 /// # }
 /// ```
 pub trait Dial: Send {
-    /// Connects to a server, within this time.
+    /// Connects to a server within this time.
     ///
     /// # Errors
     ///
-    /// Any: the next address is dialled after a pause.
+    /// Any: after a pause the session dials the next address.
     fn dial(&mut self, server: &Server<'_>, within: Duration) -> io::Result<Connection>;
 }
 
@@ -174,7 +173,7 @@ where
     }
 }
 
-/// Connections over TCP, each frame sent at once.
+/// Connections over TCP. Each frame is sent at once.
 ///
 /// ```
 /// use dirwolleu::{Dial, Server, SessionOptions, Tcp};
@@ -207,12 +206,12 @@ impl Incoming for TcpStream {
 /// Sets a timeout of a socket.
 type SetTimeout = fn(&TcpStream, Option<Duration>) -> io::Result<()>;
 
-/// A stream, and the timeout that its socket has, which serves waits from this to four times as long. A wait that comes nearer to its end with
-/// each read is served for a while, so most reads and writes leave it as it is.
+/// A stream, and its socket's timeout, which serves waits from this long to four times as long. A wait that comes nearer to its end with
+/// each read is served for a while, so most reads and writes leave the timeout as it is.
 struct TimedStream {
     stream: TcpStream,
     timeout: Duration,
-    /// The waits that it serves. The shortest timeout serves all that are shorter.
+    /// The waits that the timeout serves. The shortest one serves all shorter waits.
     serves: RangeInclusive<Duration>,
 }
 
@@ -225,7 +224,7 @@ impl TimedStream {
         }
     }
 
-    /// Has the next wait last for so long at most, and for a quarter of that at least. This function sets the timeout of the socket.
+    /// Bounds the next wait: at most this long, and at least a quarter of it. This function sets the socket's timeout.
     #[inline]
     fn set_timeout(&mut self, wait: Duration, tell: SetTimeout) -> io::Result<()> {
         if self.serves.contains(&wait) {
@@ -268,7 +267,7 @@ impl Outgoing for TcpStream {
     }
 
     fn close(&mut self) {
-        // It fails if the server has closed it already.
+        // This fails if the server has already closed it.
         let _ = self.shutdown(Shutdown::Both);
     }
 }
@@ -284,7 +283,7 @@ impl Outgoing for TimedStream {
     }
 }
 
-/// The fault of an attempt to reach a place, with the place, and without the system's number.
+/// The error of an attempt to reach a place: it names the place, and leaves out the system's number.
 pub(crate) fn fault_of(place: &dyn Display, fault: &io::Error) -> io::Error {
     let said = fault.to_string();
     let words = said.split(" (os error").next().unwrap_or_default();
@@ -294,7 +293,7 @@ pub(crate) fn fault_of(place: &dyn Display, fault: &io::Error) -> io::Error {
     io::Error::new(fault.kind(), format!("{place}: {words}"))
 }
 
-/// Whether a read or a write may succeed later: it timed out, or was interrupted.
+/// Whether a read or a write may succeed later, because it timed out or was interrupted.
 pub(crate) fn is_late(fault: &io::Error) -> bool {
     is_past(fault) || fault.kind() == ErrorKind::Interrupted
 }
@@ -311,7 +310,7 @@ mod tests {
     use std::net::{TcpListener, TcpStream};
     use std::time::{Duration, Instant};
 
-    /// What is read of a connection, and its other end.
+    /// A stream to read from, and its other end.
     fn connected() -> (TimedStream, TcpStream) {
         let listener = TcpListener::bind("127.0.0.1:0").unwrap();
         let stream = TcpStream::connect(listener.local_addr().unwrap()).unwrap();

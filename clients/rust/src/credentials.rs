@@ -7,7 +7,7 @@ use std::mem;
 /// The moment that never comes.
 const FOREVER: Moment = Moment::from_millis(u64::MAX);
 
-/// A scheme and its secret, which is overwritten when it is dropped.
+/// A scheme and its secret, which is overwritten on drop.
 #[derive(Clone, PartialEq, Eq)]
 pub(crate) struct Credential {
     pub(crate) scheme: String,
@@ -26,7 +26,7 @@ impl Credential {
 impl Drop for Credential {
     fn drop(&mut self) {
         self.secret.fill(0);
-        black_box(&self.secret); // so that it is overwritten, though nobody reads it any more
+        black_box(&self.secret); // so that it is overwritten, though nobody reads it again
     }
 }
 
@@ -37,14 +37,14 @@ struct CredentialEntry {
     calls: Vec<(u64, Moment)>,
 }
 
-/// The credentials of a session, each at its place in the machine. They are kept for the next machine.
+/// The credentials of a session, each at its place in the machine, kept for the next machine.
 #[derive(Default)]
 pub(crate) struct Credentials {
     all: Vec<CredentialEntry>,
 }
 
 impl Credentials {
-    /// These, which are to be handed in.
+    /// Credentials that are still to be handed in.
     pub(crate) fn of(all: Vec<Credential>) -> Credentials {
         let mut credentials = Credentials::default();
         for credential in all {
@@ -62,7 +62,7 @@ impl Credentials {
         self.all.iter().position(|it| it.credential == *credential)
     }
 
-    /// A credential was handed in: its place.
+    /// Notes that a credential was handed in, and returns its place.
     pub(crate) fn add(&mut self, credential: Credential) -> usize {
         self.all.push(CredentialEntry {
             credential,
@@ -77,7 +77,7 @@ impl Credentials {
         self.all.iter().map(|it| it.credential.clone()).collect()
     }
 
-    /// Lets a call wait for a server's answer to the credential of this place. `true` if one has accepted it already.
+    /// Lets a call wait for a server's answer to the credential at this place. Returns `true` if one has already accepted it.
     pub(crate) fn wait(&mut self, place: usize, ticket: u64, until: Moment) -> bool {
         let entry = &mut self.all[place];
         if !entry.is_accepted {
@@ -86,7 +86,7 @@ impl Credentials {
         entry.is_accepted
     }
 
-    /// A server has accepted the credential of this place: the tickets of the calls that have waited for that.
+    /// A server has accepted the credential at this place. Returns the tickets of the calls that waited for it.
     pub(crate) fn accept(&mut self, place: usize) -> Vec<u64> {
         let Some(entry) = self.all.get_mut(place) else {
             return Vec::new();
@@ -96,13 +96,13 @@ impl Credentials {
         calls.map(|(ticket, _)| ticket).collect()
     }
 
-    /// The first moment at which the limit of a call comes.
+    /// The first moment at which a call reaches its limit.
     pub(crate) fn deadline(&self) -> Moment {
         let calls = self.all.iter().flat_map(|it| &it.calls);
         calls.map(|(_, until)| *until).min().unwrap_or(FOREVER)
     }
 
-    /// The tickets of the calls whose limit has come: they wait no more.
+    /// Removes the calls that have reached their limit, and returns their tickets.
     pub(crate) fn take_late(&mut self, now: Moment) -> Vec<u64> {
         let mut late = Vec::new();
         for entry in &mut self.all {
@@ -115,7 +115,7 @@ impl Credentials {
         late
     }
 
-    /// The session is nobody any more.
+    /// Forgets all credentials.
     pub(crate) fn clear(&mut self) {
         self.all.clear();
     }

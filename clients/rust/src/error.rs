@@ -1,4 +1,4 @@
-//! Why a call fails, and what it was about.
+//! Why a call failed, and which node it was about.
 
 use crate::action::Refusal;
 use crate::fault::{Code, Fault, NoReply};
@@ -7,7 +7,7 @@ use std::error;
 use std::fmt;
 use std::time::Duration;
 
-/// Of what kind an [`Error`] is.
+/// The kind of an [`Error`].
 ///
 /// ```
 /// use dirwolleu::{Code, ErrorKind, NoReply};
@@ -24,44 +24,45 @@ pub enum ErrorKind {
     Server(Code),
     /// There is no reply.
     NoReply(NoReply),
-    /// The library has not made the step.
+    /// The library has not taken the step.
     Fault(Fault),
-    /// The limit of a call has come after it was sent, or that of a [`Ticket::wait_for`](crate::Ticket::wait_for). A write may have happened,
-    /// or may yet.
+    /// The limit of a call has come after it was sent, or that of a [`Ticket::wait_for`](crate::Ticket::wait_for). A write may have
+    /// happened, or still may.
     TimedOut,
     /// More than 16 MiB wait to be written to the server, which reads slowly: the call was not sent, and never is.
     QueueFull,
-    /// The caller's limit has passed before a tree was whole: some of it is not read, or changes faster than it is read. It is read on.
+    /// The caller's limit has passed before a tree was complete: some of it is unread, or changes faster than the session reads it. It goes
+    /// on reading.
     NotWhole,
-    /// The caller's limit has passed before a lock was held: its place is given up.
+    /// The caller's limit has passed before the lock was held. The lock gives its place up.
     LockTimeout,
-    /// A lock is held no more, or was given up already.
+    /// A lock is no longer held, or was already given up.
     LockLost,
-    /// The path of a lock has a place by other names, or that of a [`Semaphore`](crate::Semaphore) is of a semaphore of kazoo's or Curator's: all
-    /// contenders of a path use one kind. The place is given up.
+    /// The path of a lock has a place with other names, or that of a [`Semaphore`](crate::Semaphore) belongs to one of kazoo's or
+    /// Curator's: all contenders of a path use one kind. The place is given up.
     MixedNames,
     /// The names below the path of a lock have had all 2,147,483,647 numbers.
     NumbersUsedUp,
-    /// The node of a [`Counter`](crate::Counter) holds no whole number of 64 bits, or would hold none.
+    /// The node of a [`Counter`](crate::Counter) does not have a whole number of 64 bits, or no longer would.
     NotNumber,
-    /// The node of a [`Semaphore`](crate::Semaphore) says that another number hold it at most.
+    /// The node of a [`Semaphore`](crate::Semaphore) has another limit.
     OtherNumber {
-        /// The number of the node.
+        /// The limit that the node has.
         number: i64,
     },
-    /// A transaction has not happened: the server refuses the operation at this place, from 0 on.
+    /// A transaction has not happened: the server refuses the operation at this index, counted from 0.
     RolledBack {
-        /// The place of the operation.
+        /// The index of the operation.
         index: usize,
         /// Why it is refused.
         code: Code,
-        /// The node for which it is refused.
+        /// The node that it is refused for.
         path: String,
     },
 }
 
 impl ErrorKind {
-    /// Whether a write that has failed so may have happened all the same, or may still happen. With each other kind nothing has changed.
+    /// Whether a write that failed with this may have happened all the same, or still may. With each other kind nothing has changed.
     pub fn may_have_happened(&self) -> bool {
         matches!(
             self,
@@ -71,8 +72,8 @@ impl ErrorKind {
         )
     }
 
-    /// Whether the same read may be answered later: [`Code::is_passing`], and if the connection was lost, there is none, too much
-    /// waits, or a limit has passed. An expired session is no such kind: it is to be renewed.
+    /// Whether the same read may succeed later: [`Code::is_passing`], or the connection was lost or is missing, too much waits, or a limit
+    /// has passed. An expired session does not count: renew it.
     pub fn is_passing(&self) -> bool {
         match self {
             ErrorKind::Server(code) => code.is_passing(),
@@ -94,7 +95,7 @@ impl ErrorKind {
         }
     }
 
-    /// What to do. Nothing if the reason says it.
+    /// What to do. Empty if the reason says it.
     fn advice(&self) -> &'static str {
         match self {
             ErrorKind::Server(code) | ErrorKind::RolledBack { code, .. } => code.advice(),
@@ -167,16 +168,16 @@ impl From<Refusal> for ErrorKind {
     }
 }
 
-/// Where a session has looked for a server in vain, since it was connected last.
+/// A search for a server that has not found one since the session was last connected.
 #[derive(Clone, Debug, Default, PartialEq, Eq, Hash)]
 pub(crate) struct Search {
-    /// The hosts, as the program has named them.
+    /// The hosts, as the program named them.
     pub(crate) hosts: String,
-    /// What became of the last attempt at each address.
+    /// The outcome of the last attempt at each address.
     pub(crate) last: String,
 }
 
-/// The node for which a server refuses to create the one of this path: that one, or its parent.
+/// The node that a server refuses to create this one for: this one itself, or its parent.
 pub(crate) fn refused_of_create(code: Code, path: &str) -> &str {
     match code {
         Code::NO_NODE | Code::NO_CHILDREN_FOR_EPHEMERALS => {
@@ -187,11 +188,11 @@ pub(crate) fn refused_of_create(code: Code, path: &str) -> &str {
     }
 }
 
-/// Why a call of a [`Session`](crate::Session) does not give what was asked, and the path of the node that it was about.
+/// Why a call of a [`Session`](crate::Session) failed, and the path of the node that it was about.
 ///
 /// It prints the reason, the path, and what to do if the reason does not say it, on one line: `no node: /nope`,
-/// `/a//b is no path: an empty name`, `no server of zk1:2181 accepted the session in 3 s; last: 10.0.0.1:2181: connection refused`. So does
-/// its `Debug`, which a `main` prints that returns it.
+/// `/a//b is no path: an empty name`, `no server of zk1:2181 accepted the session in 3 s; last: 10.0.0.1:2181: connection refused`. Its
+/// `Debug` prints the same, for a `main` that returns it.
 ///
 /// ```no_run
 /// use dirwolleu::{Code, ErrorKind, NoReply, Session};
@@ -218,7 +219,7 @@ pub struct Error {
 }
 
 impl Error {
-    /// The error of a call about the node of this path, as the program has named it.
+    /// The error of a call about the node of this path, as the program named it.
     pub(crate) fn about(path: Option<&str>, kind: ErrorKind) -> Error {
         let kind = match (kind, path) {
             (ErrorKind::Fault(fault), Some(path)) => ErrorKind::Fault(fault.at(path)),
@@ -235,7 +236,7 @@ impl Error {
         }
     }
 
-    /// The same error, of a call that has waited for a server for so long, by this search.
+    /// The same error of a call that waited this long for a server, in this search.
     pub(crate) fn after(mut self, search: &Search, waited: Duration) -> Error {
         if self.kind == ErrorKind::NoReply(NoReply::NotConnected) {
             self.search = Some(Box::new((search.clone(), waited)));
@@ -243,7 +244,7 @@ impl Error {
         self
     }
 
-    /// The same error, of a create: if the parent is the reason, about the parent.
+    /// The same error of a create: about the parent, if that is the reason.
     pub(crate) fn of_create(mut self) -> Error {
         if let (Some(code), Some(path)) = (self.code(), &self.path) {
             self.path = Some(String::from(refused_of_create(code, path)));
@@ -251,23 +252,23 @@ impl Error {
         self
     }
 
-    /// Of what kind it is.
+    /// The kind of the error.
     pub fn kind(&self) -> &ErrorKind {
         &self.kind
     }
 
-    /// Of what kind it is, without the path.
+    /// The kind of the error, without the path.
     pub fn into_kind(self) -> ErrorKind {
         self.kind
     }
 
-    /// The path of the node that the call was about; of a create that its parent prevents, the path of the parent. `None` if a call is
-    /// about no node.
+    /// The path of the node that the call was about; if its parent prevents a create, that of the parent. `None` if the call was about no
+    /// node.
     pub fn path(&self) -> Option<&str> {
         self.path.as_deref()
     }
 
-    /// The reason of the server, if it has refused the call.
+    /// The server's code, if it refused the call.
     pub fn code(&self) -> Option<Code> {
         match self.kind {
             ErrorKind::Server(code) => Some(code),
@@ -327,7 +328,7 @@ impl fmt::Display for Error {
     }
 }
 
-/// The same words, so that a `main` that returns it prints them.
+/// The same words, for a `main` that returns it.
 impl fmt::Debug for Error {
     fn fmt(&self, f: &mut fmt::Formatter<'_>) -> fmt::Result {
         fmt::Display::fmt(self, f)

@@ -42,27 +42,27 @@ pub enum Event {
         /// The change.
         event: NodeEvent,
     },
-    /// A server has refused credentials of the session, which is over: [`SessionOptions::auth`](crate::SessionOptions::auth) says how.
+    /// A server has refused the session's credentials, and the session is over: see [`SessionOptions::auth`](crate::SessionOptions::auth).
     CredentialsRefused,
-    /// The connection was given up. The next one is dialled.
+    /// The session has given a connection up, and dials the next one.
     Dropped {
         /// Why.
         cause: Cause,
         /// Why, in words.
         words: String,
     },
-    /// A [`LocalLock`](crate::LocalLock) stands otherwise than it did: [`held`](crate::LocalLock::held) says how.
+    /// A [`LocalLock`](crate::LocalLock) has changed: look at its [`held`](crate::LocalLock::held).
     LockChanged {
-        /// The path that is contended for.
+        /// The path of the lock.
         path: String,
     },
-    /// This many events are lost, those that had waited longest, since 1,024 wait at most. Those that wait still come next. Marks are right
-    /// all the same: ask the client for its state, and for what is kept of the paths that you watch.
+    /// This many events are lost, the oldest, since at most 1,024 wait. Those that wait come next. Marks are right all the same: look up
+    /// the session's state, and the kept answers of the paths that you watch.
     Missed(u64),
 }
 
-/// The events of a session, of [`Session::events`](crate::Session::events): a stream that needs no runtime. It keeps the waker of its last
-/// poll until it is dropped.
+/// The events of a session, from [`Session::events`](crate::Session::events): a stream for any runtime. It keeps the waker of its last poll
+/// until it is dropped.
 #[must_use = "it tells nothing before it is polled"]
 pub struct Events {
     shared: Arc<Shared>,
@@ -77,9 +77,9 @@ impl Events {
         }
     }
 
-    /// The next event, as [`Session::next_event`](crate::Session::next_event): none once the session has expired or is closed, and no event
-    /// waits. If none waits, the waker of this context is woken when there may be one. It is the session's thread that wakes it, so it
-    /// serves under each runtime, or without one.
+    /// The next event, as [`Session::next_event`](crate::Session::next_event); `None` once the session has expired or is closed and no
+    /// event waits. If none waits, the session's thread wakes the waker of this context when there may be one, so this works with any
+    /// runtime, or with none.
     ///
     /// ```no_run
     /// use dirwolleu::{Fault, Session};
@@ -103,7 +103,7 @@ impl Events {
     }
 }
 
-/// The next event if one waits, or the end if the session is over.
+/// The next waiting event, or the end if the session is over.
 fn next_of(engine: &mut Engine) -> Poll<Option<Result<Event, Fault>>> {
     if let Some(event) = engine.next_event() {
         return Poll::Ready(Some(Ok(event)));

@@ -1,4 +1,4 @@
-//! Which servers there are, and where they are.
+//! The servers, and their addresses.
 
 use crate::chroot::Chroot;
 use crate::connection;
@@ -29,12 +29,12 @@ pub(crate) struct Host {
     port: u16,
 }
 
-/// The hosts of an ensemble, and the path below which a session has its nodes: what ZooKeeper calls a connection string.
+/// The hosts of an ensemble and a session's chroot: what ZooKeeper calls a connection string.
 ///
-/// It is a list of `HOST:PORT`, of which the port may be left out if it is 2181, and an IPv6 address is in brackets. A path after the
-/// list is the chroot: the paths that a program names, and those that it is told, begin there. It has to be there at the servers.
+/// It is a list of `HOST:PORT`. The port may be left out if it is 2181; an IPv6 address is in brackets. A path after the list is the
+/// chroot, at which all paths of a program begin, those that it gives and those that it gets. Its node has to exist.
 ///
-/// A name is looked up at each attempt to connect to it. [`Session::open`](crate::Session::open) takes a text as it is; addresses do too.
+/// A name is looked up at each attempt to connect. [`Session::open`](crate::Session::open) takes a text as it is, and addresses too.
 ///
 /// ```
 /// use dirwolleu::Hosts;
@@ -87,7 +87,7 @@ impl From<Infallible> for HostsFault {
 }
 
 impl Host {
-    /// The host of a text. `None` if it is none.
+    /// The host of a text. `None` if it is no host.
     fn of(text: &str) -> Option<Host> {
         let (name, port) = match text.strip_prefix('[') {
             Some(rest) => rest.split_once(']')?,
@@ -124,7 +124,7 @@ impl fmt::Display for Host {
 }
 
 impl Hosts {
-    /// The path below which a session has its nodes, and nothing if it has all.
+    /// The chroot, which is empty if the session sees all nodes.
     pub fn chroot(&self) -> &str {
         self.chroot.as_str()
     }
@@ -133,7 +133,7 @@ impl Hosts {
         &self.chroot
     }
 
-    /// How many hosts there are.
+    /// The number of hosts.
     pub(crate) fn len(&self) -> usize {
         self.hosts.len()
     }
@@ -181,7 +181,7 @@ impl FromIterator<SocketAddr> for Hosts {
     }
 }
 
-/// Lists of addresses are hosts without a chroot.
+/// Makes hosts without a chroot from lists of addresses.
 macro_rules! from_addresses {
     ($($list:ty $(, $size:ident)?;)*) => {$(
         impl$(<const $size: usize>)? From<$list> for Hosts {
@@ -228,7 +228,7 @@ impl TryFrom<String> for Hosts {
     }
 }
 
-/// In which order hosts are dialled.
+/// The order in which to dial hosts.
 #[derive(Clone, Copy, Debug, PartialEq, Eq)]
 pub(crate) enum DialOrder {
     /// At random.
@@ -237,9 +237,8 @@ pub(crate) enum DialOrder {
     AsListed,
 }
 
-/// Which host is at which place. The machine wants those first that were listed before; it names places in a random order, one after the
-/// other, and always in the same one. So if the hosts are to be dialled as the list has them, each place gets the next host when it is
-/// named first.
+/// Which host has which place. The machine expects hosts of the last list first. It names places in a random order, one after the other,
+/// and keeps to it. So to dial hosts in the order of the list, each place gets the next host when it is first named.
 #[derive(Debug)]
 pub(crate) struct Places {
     order: DialOrder,
@@ -252,12 +251,12 @@ impl Places {
         Places { order, named }
     }
 
-    /// The machine is another one.
+    /// Begins again, for another machine.
     pub(crate) fn begin_again(&mut self) {
         self.named.clear();
     }
 
-    /// The list is another one. How many of its hosts were in the list before.
+    /// Changes the list. Returns how many of its hosts were in the last one.
     pub(crate) fn change(&mut self, before: &Hosts, hosts: &Hosts) -> usize {
         let is_kept = |index: &usize| before.hosts.contains(&hosts.hosts[*index]);
         let (mut places, added): (Vec<usize>, Vec<usize>) = (0..hosts.len()).partition(is_kept);
@@ -288,7 +287,7 @@ impl Places {
     }
 }
 
-/// The addresses of hosts. If a name has several, each is dialled in turn.
+/// The addresses of hosts. If a name has several, each has its turn.
 #[derive(Debug)]
 pub(crate) struct Addresses {
     order: DialOrder,
@@ -301,7 +300,7 @@ impl Addresses {
         Addresses { order, dialled }
     }
 
-    /// An address of a host that is to be dialled now, after its name was looked up.
+    /// An address at which to dial a host now, after a look-up of its name.
     pub(crate) fn of(&mut self, host: &Host) -> io::Result<SocketAddr> {
         let found = host.look_up();
         let found = found.map_err(|fault| connection::fault_of(host, &fault))?;
@@ -313,7 +312,7 @@ impl Addresses {
         address.ok_or_else(|| io::Error::new(ErrorKind::NotFound, format!("{host}: no address")))
     }
 
-    /// One of these that was not dialled since all of them were. It is dialled from now on.
+    /// Picks an address that was not dialled since all of them were, and notes that it is.
     fn next_of(&mut self, found: &[SocketAddr], random: u64) -> Option<SocketAddr> {
         if found.iter().all(|address| self.dialled.contains(address)) {
             self.dialled.retain(|address| !found.contains(address));

@@ -30,13 +30,13 @@ use std::fmt;
 use std::num::NonZeroU32;
 use std::time::{Duration, Instant};
 
-/// A session without a thread, for a loop of the program's own: it reads, pings and reconnects within its functions alone, and is one
-/// thread's at a time. [`Session`](crate::Session) is the same with a thread, and says how both dial and wait.
+/// A session without a thread, for a loop of the program's own: it reads, pings and reconnects only within its functions, and one thread
+/// uses it at a time. [`Session`](crate::Session) is the same with a thread, and says how both dial and wait.
 ///
-/// Call [`next_event`](LocalSession::next_event) at least once in a third of the timeout. A program that comes later than that keeps its
-/// connection if the server has sent something meanwhile. What is not asked for waits as an [`Event`].
+/// Call [`next_event`](LocalSession::next_event) at least once in a third of the timeout. A program that comes later keeps its connection
+/// if the server has sent something meanwhile. What no call asked for waits as an [`Event`].
 ///
-/// A call waits for a connection, and then for its answer, to its limit at most, as those of a [`Session`](crate::Session).
+/// A call waits for a connection, and then for its answer, at most to its limit, like those of a [`Session`](crate::Session).
 ///
 /// ```no_run
 /// use dirwolleu::{LocalSession, Mode};
@@ -61,12 +61,12 @@ pub struct LocalSession {
 
 /// How a session begins and ends.
 impl LocalSession {
-    /// A session at these hosts, which asks for this timeout. It dials at the first call. Without a host it never connects.
-    /// [`SessionOptions::open_local`] opens one otherwise.
+    /// A session at these hosts that asks for this timeout. It dials at the first call. Without a host it never connects.
+    /// [`SessionOptions::open_local`] has options.
     ///
     /// # Errors
     ///
-    /// As [`OpenError`] says.
+    /// See [`OpenError`].
     pub fn open<H>(hosts: H, timeout: Duration) -> Result<LocalSession, OpenError>
     where
         H: TryInto<Hosts>,
@@ -83,14 +83,14 @@ impl LocalSession {
     ///
     /// # Errors
     ///
-    /// [`Fault::NoMemory`]; then the session is as it was.
+    /// [`Fault::NoMemory`]: then the session is unchanged.
     pub fn renew(&mut self) -> Result<(), Fault> {
         self.inner().with(Engine::renew)
     }
 
-    /// Ends the session, with its ephemeral nodes. A session that is over already is no error.
+    /// Ends the session and deletes its ephemeral nodes. If the session is already over, this is no error.
     ///
-    /// It waits as [`Session::close`](crate::Session::close) does.
+    /// It waits like [`Session::close`](crate::Session::close).
     ///
     /// # Errors
     ///
@@ -107,7 +107,7 @@ impl LocalSession {
 impl LocalSession {
     calls! { self: [&mut self] self }
 
-    /// Asks a request, waits for its answer, and asks again if the session's [`Retry`] says so.
+    /// Makes a request, waits for its answer, and repeats it if the session's [`Retry`] says so.
     ///
     /// # Errors
     ///
@@ -124,7 +124,7 @@ impl LocalSession {
         self.call_once(&request.lend())
     }
 
-    /// The same of a request whose path and data need not be kept if it is asked once.
+    /// The same for a request whose path and data need no copy if it is made once.
     #[inline]
     fn call_lent<T>(&mut self, request: LentRequest<'_, T>) -> Result<T, Error> {
         if self.terms.retry == Retry::never() {
@@ -155,22 +155,22 @@ impl Caller for LocalSession {
 
 /// Locks, elections and semaphores.
 impl LocalSession {
-    /// Contends for the lock of a path, and does not wait: [`within`](LockOptions::within) says nothing. An election is a lock whose places
+    /// Contends for the lock of a path without waiting: [`within`](LockOptions::within) has no effect. An election is a lock whose places
     /// say who the [`candidates`](LocalSession::candidates) are.
     ///
     /// # Errors
     ///
-    /// That the path is none, that memory ran out, and why the session is over.
+    /// The path is invalid, memory ran out, or the session is over.
     pub fn contend(&mut self, path: &str, options: LockOptions<'_>) -> Result<LocalLock, Error> {
         LocalLock::by(options.naming(), self.driver.shared(), path, options)
     }
 
-    /// Contends for a [`Lease`](crate::Lease) of a [`Semaphore`](crate::Semaphore), which this many hold at most, and one at least. Of the
-    /// options the data and the ACL count. It waits for the number of the node alone.
+    /// Contends for a [`Lease`](crate::Lease) of a [`Semaphore`](crate::Semaphore) for at most this many holders, at least one. Only the
+    /// data and the ACL of the options count. It waits only until it has read the node's limit.
     ///
     /// # Errors
     ///
-    /// As [`call`](LocalSession::call), and as [`Semaphore::acquire`](crate::Semaphore::acquire) if the node says something else.
+    /// As [`call`](LocalSession::call), and as [`Semaphore::acquire`](crate::Semaphore::acquire) if the node has another limit.
     pub fn contend_for_lease(
         &mut self,
         path: &str,
@@ -187,7 +187,7 @@ impl LocalSession {
         LocalLock::by(naming, self.driver.shared(), path, options)
     }
 
-    /// What the candidates of an [`Election`](crate::Election) at a path have said of themselves, the one that leads first.
+    /// The data of the candidates of an [`Election`](crate::Election) at a path, the leader's first.
     ///
     /// # Errors
     ///
@@ -196,7 +196,7 @@ impl LocalSession {
         lock::candidates(self, path)
     }
 
-    /// Goes on while this holds, for so long at most, unless the session ends before.
+    /// Goes on while this holds, at most this long, unless the session ends before.
     pub(crate) fn go_on_while(
         &mut self,
         time: Duration,
@@ -211,7 +211,7 @@ impl LocalSession {
     }
 }
 
-/// What is heard and kept. Look-ups ask nobody.
+/// Events, and kept answers. Look-ups send nothing.
 impl LocalSession {
     look_ups! {}
 
@@ -219,17 +219,17 @@ impl LocalSession {
         self.driver.shared()
     }
 
-    /// The state. `None` if something was due on the connection and this program has not come to do it: then nobody knows whether there
-    /// is a session still. Call [`next_event`](LocalSession::next_event) to learn it.
+    /// The state. `None` if something was due on the connection and the program has not come to do it: then nobody knows whether there
+    /// still is a session. Call [`next_event`](LocalSession::next_event) to find out.
     pub fn state(&self) -> Option<State> {
         self.inner().look(|engine| engine.state(Duration::ZERO))
     }
 
-    /// The next event: one that waits, or the first that comes until this instant, or `None` if none has come by then. Without an
-    /// instant it waits until there is one. Once the session has expired or is closed, and no event waits, there is none.
+    /// Returns the next event. If none waits, it waits for one until this instant, or without a limit. `None` if none has come by then, or
+    /// if the session has expired or is closed.
     ///
-    /// It may wait for longer by as much as an attempt to connect takes: a third of the timeout at most, or a second, and the time in which
-    /// the system looks a name up.
+    /// It may wait longer by as much as an attempt to connect takes: at most a third of the timeout, or a second, and the system's look-up
+    /// of a name.
     ///
     /// # Errors
     ///
@@ -253,7 +253,7 @@ impl LocalSession {
         }
     }
 
-    /// Follows all nodes at and below a path, of which there are 65,536 at most, as [`Session::tree`](crate::Session::tree).
+    /// Follows all nodes at and below a path, at most 65,536, as [`Session::tree`](crate::Session::tree) does.
     ///
     /// # Errors
     ///
@@ -262,7 +262,7 @@ impl LocalSession {
         self.bounded_tree(path, MOST_NODES)
     }
 
-    /// The same, of this many nodes at most: if there are more, that is its [`trouble`](LocalTree::trouble), until there are fewer.
+    /// The same for at most this many nodes: while there are more, that is the tree's [`trouble`](LocalTree::trouble).
     ///
     /// # Errors
     ///
@@ -272,12 +272,12 @@ impl LocalSession {
         Ok(LocalTree::new(shown))
     }
 
-    /// The next snapshot of a tree of this session: one that was not given yet, or the first that comes until this instant, or `None` if
-    /// none has come by then. Without an instant it waits until there is one. Once the session is closed there is none.
+    /// Returns the next snapshot of a tree of this session. If there is no new one, it waits for one until this instant, or without a
+    /// limit. `None` if none has come by then, or if the session is closed.
     ///
     /// # Errors
     ///
-    /// The [`trouble`](LocalTree::trouble) of the tree, which is told once, and why the session is over.
+    /// The [`trouble`](LocalTree::trouble) of the tree, once, and why the session is over.
     pub fn next_snapshot(
         &mut self,
         tree: &mut LocalTree,
@@ -303,16 +303,16 @@ impl LocalSession {
         }
     }
 
-    /// Other hosts, as [`Session::change_hosts`](crate::Session::change_hosts).
+    /// Changes the hosts, as [`Session::change_hosts`](crate::Session::change_hosts) does.
     ///
     /// # Errors
     ///
-    /// The hosts, if they have another chroot.
+    /// The hosts themselves, if they have another chroot.
     pub fn change_hosts(&mut self, hosts: Hosts) -> Result<(), Hosts> {
         self.inner().with(|engine| engine.change_hosts(hosts))
     }
 
-    /// Forgets all stale answers, as [`Session::forget_stale`](crate::Session::forget_stale).
+    /// Forgets all stale answers, as [`Session::forget_stale`](crate::Session::forget_stale) does.
     pub fn forget_stale(&mut self) {
         self.inner().with(Engine::forget_stale);
     }

@@ -1,4 +1,4 @@
-//! How a session is opened.
+//! How to open a session.
 
 use crate::connection::{Dial, Tcp};
 use crate::credentials::Credential;
@@ -25,7 +25,7 @@ use std::path::PathBuf;
 use std::sync::Arc;
 use std::time::Duration;
 
-/// Why a session was not opened. Its `Debug` has the words that it prints, for a `main` that returns it.
+/// Why a session did not open. Its `Debug` prints the same words, for a `main` that returns it.
 ///
 /// ```
 /// use dirwolleu::{OpenError, Session, SessionOptions};
@@ -45,14 +45,14 @@ use std::time::Duration;
 pub enum OpenError {
     /// The text is no list of hosts.
     Hosts(HostsFault),
-    /// The library has not made a session: [`Fault::BadTimeout`], [`Fault::NoSuchLimits`], [`Fault::NotSaved`] or [`Fault::NoMemory`].
+    /// The library made no session: [`Fault::BadTimeout`], [`Fault::NoSuchLimits`], [`Fault::NotSaved`] or [`Fault::NoMemory`].
     Fault(Fault),
-    /// The system has not made a thread.
+    /// The system made no thread.
     Thread(io::Error),
-    /// The file of the record cannot be made.
+    /// The record's file cannot be made.
     Record(io::Error),
-    /// No server has accepted the session in time, or the servers refuse it: the error of a call that would have been asked. It has the
-    /// last reason of each address.
+    /// No server accepted the session in time, or the servers refuse it: the error that a call would have had, with the last reason of each
+    /// address.
     NotConnected(Error),
 }
 
@@ -68,7 +68,7 @@ impl fmt::Display for OpenError {
     }
 }
 
-/// The same words, so that a `main` that returns it prints them.
+/// The same words, for a `main` that returns it.
 impl fmt::Debug for OpenError {
     fn fmt(&self, f: &mut fmt::Formatter<'_>) -> fmt::Result {
         fmt::Display::fmt(self, f)
@@ -95,7 +95,7 @@ impl From<Infallible> for OpenError {
     }
 }
 
-/// How a session is opened: its timeout, and what differs from how [`Session::open`] opens one.
+/// Options of a session: its timeout, and whatever should differ from [`Session::open`].
 ///
 /// ```no_run
 /// use dirwolleu::{Retry, SessionOptions};
@@ -125,11 +125,11 @@ pub struct SessionOptions {
     opens_within: Duration,
 }
 
-/// How long a first server is waited for, unless the options say otherwise.
+/// The default of how long to wait for a first server.
 const OPENS_WITHIN: Duration = Duration::from_secs(15);
 
 impl SessionOptions {
-    /// A session that asks for this timeout, in whole milliseconds: 1 to 2,147,483,647.
+    /// Options of a session that asks for this timeout, in whole milliseconds: 1 to 2,147,483,647.
     pub fn new(timeout: Duration) -> SessionOptions {
         SessionOptions {
             timeout,
@@ -146,8 +146,8 @@ impl SessionOptions {
         }
     }
 
-    /// Whether the hosts are dialled in a random order, or as the list has them. The order is random unless this says otherwise, so that
-    /// many clients spread over many servers. Of a name that has several addresses each is dialled in turn.
+    /// Sets whether to dial the hosts in a random order, or as the list has them. The default is random, so that many clients spread over
+    /// many servers. If a name has several addresses, each is dialled in turn.
     pub fn shuffles(mut self, shuffles: bool) -> SessionOptions {
         self.order = if shuffles {
             DialOrder::Shuffled
@@ -157,54 +157,54 @@ impl SessionOptions {
         self
     }
 
-    /// Whether a new session begins by itself if one has expired. None does, unless this says otherwise. The event
-    /// [`State(Expired)`](crate::Event::State) tells that the ephemeral nodes and the watches of the old one are gone. Calls that wait then
-    /// are answered [`SessionExpired`](crate::NoReply::SessionExpired), unless they are asked again by [`retry`](SessionOptions::retry).
+    /// Sets whether a new session begins by itself after an expiry. The default is that none does. The event
+    /// [`State(Expired)`](crate::Event::State) says that the ephemeral nodes and the watches of the old session are gone. Calls that wait
+    /// then get [`SessionExpired`](crate::NoReply::SessionExpired), unless [`retry`](SessionOptions::retry) repeats them.
     pub fn renews(mut self, renews: bool) -> SessionOptions {
         self.terms.renews = renews;
         self
     }
 
-    /// How often calls are asked again.
+    /// Sets how often calls are repeated.
     pub fn retry(mut self, retry: Retry) -> SessionOptions {
         self.terms.retry = retry;
         self
     }
 
-    /// How long a call waits at most, with all times that it is asked again: for a connection, for its turn and for its answer. Without this
-    /// it is the timeout of the session, and a second at least, each time that it is asked. [`Request::within`](crate::Request::within)
-    /// says it of one call.
+    /// Sets how long a call waits at most, with all its repetitions: for a connection, for its turn and for its answer. The default is the
+    /// session's timeout, at least a second, for each time that it is made. [`Request::within`](crate::Request::within) sets the limit of
+    /// one call.
     pub fn limit(mut self, limit: Duration) -> SessionOptions {
         self.terms.limit = Some(limit);
         self
     }
 
-    /// The most bytes of a frame that comes, after its length: 4,194,304 unless this says more, and at most 1,073,741,823. A longer one, as
-    /// the names of very many children, ends the connection, and its read is answered [`TooLarge`](crate::NoReply::TooLarge). The servers'
-    /// `jute.maxbuffer` says how long those are that they send.
+    /// Sets the most bytes that an incoming frame may have after its length: 4,194,304, the default, to 1,073,741,823. A longer frame, such
+    /// as the names of very many children, ends the connection, and its read gets [`TooLarge`](crate::NoReply::TooLarge). The servers'
+    /// `jute.maxbuffer` says how long their frames may be.
     pub fn longest_answer(mut self, bytes: usize) -> SessionOptions {
         self.limits.longest_answer = bytes;
         self
     }
 
-    /// The most bytes of a frame that is sent, after its length: 1,048,575 unless this says more, and at most 1,073,741,823. A longer call
-    /// is answered [`TooLarge`](crate::NoReply::TooLarge). Servers take as many as their `jute.maxbuffer` says: raise both.
+    /// Sets the most bytes that an outgoing frame may have after its length: 1,048,575, the default, to 1,073,741,823. A longer call gets
+    /// [`TooLarge`](crate::NoReply::TooLarge). Servers take as many bytes as their `jute.maxbuffer` says: raise both.
     pub fn longest_request(mut self, bytes: usize) -> SessionOptions {
         self.limits.longest_request = bytes;
         self
     }
 
-    /// Who the session is, in the words of a scheme, as `digest` and `user:password`: told on each connection before anything else. If a
-    /// server does not take it, the session is over: [`Event::CredentialsRefused`](crate::Event::CredentialsRefused) comes, its state is
-    /// [`State::Closed`](crate::State::Closed), each call fails with [`Code::AUTH_FAILED`](crate::Code::AUTH_FAILED), it dials no more, and it
-    /// forgets its credentials. Credentials cross the network as they are: use TLS.
+    /// Adds a credential, with a scheme such as `digest` and credentials such as `user:password`, which go to the server first on each
+    /// connection. If a server refuses them, the session is over: [`Event::CredentialsRefused`](crate::Event::CredentialsRefused) comes,
+    /// the state is [`State::Closed`](crate::State::Closed), each call fails with [`Code::AUTH_FAILED`](crate::Code::AUTH_FAILED), the
+    /// session dials no more, and it forgets its credentials. Credentials cross the network as they are: use TLS.
     pub fn auth(mut self, scheme: &str, credentials: &[u8]) -> SessionOptions {
         self.credentials.push(Credential::new(scheme, credentials));
         self
     }
 
-    /// Logs in by SASL on each connection, before anything else is asked over it: `begin` makes a [`LogIn`] for each. If a step fails, or the
-    /// server refuses, the session is over as [`auth`](SessionOptions::auth) says. Tokens cross the network as they are: use TLS.
+    /// Logs in by SASL on each connection, before any other request: `begin` makes a [`LogIn`] for each. If a step fails, or the server
+    /// refuses, the session is over, as [`auth`](SessionOptions::auth) says. Tokens cross the network as they are: use TLS.
     ///
     /// ```no_run
     /// use dirwolleu::SessionOptions;
@@ -227,21 +227,21 @@ impl SessionOptions {
         self
     }
 
-    /// Takes up a session that was put away.
+    /// Takes up a saved session.
     pub fn resume(mut self, saved: &SavedSession) -> SessionOptions {
         self.saved = Some(saved.clone());
         self
     }
 
-    /// What makes connections, instead of [`Tcp`].
+    /// Sets the dialler that makes connections, instead of [`Tcp`].
     pub fn dial(mut self, dial: impl Dial + 'static) -> SessionOptions {
         self.dial = Box::new(dial);
         self
     }
 
-    /// What is told what is observed of the session, for metrics and traces: [`Observation`]. Several threads may call it at once, so it is to be
-    /// short; it may look at the session, and is not to wait for it. A panic of it is one of the thread that calls it: in its own thread, it ends
-    /// the session. [`Session::stats`] counts without it.
+    /// Sets an observer, which gets each [`Observation`] of the session, for metrics and traces. Several threads may call it at once, so
+    /// keep it short; it may look at the session, but must not wait for it. If it panics, so does the thread that calls it: on the
+    /// session's own thread, that ends the session. [`Session::stats`] counts without it.
     ///
     /// ```no_run
     /// use dirwolleu::{Observation, SessionOptions};
@@ -265,9 +265,9 @@ impl SessionOptions {
         self
     }
 
-    /// Writes what the session is handed, and what it sends, into this file, from its beginning: `zk_shell` plays it again, to show a fault.
-    /// No password is in it, nor a credential; paths and data are. It is whole up to the last step. If it cannot be written any further,
-    /// [`Observation::RecordEnded`] says so, and the session goes on.
+    /// Writes the session's input and output into this file, from its beginning: `zk_shell` replays it, to show a fault. It has paths and
+    /// data, but no password or credential. It is complete up to the last step. If writing fails, [`Observation::RecordEnded`] says so, and
+    /// the session goes on.
     ///
     /// ```no_run
     /// use dirwolleu::SessionOptions;
@@ -283,17 +283,17 @@ impl SessionOptions {
         self
     }
 
-    /// How long [`open`](SessionOptions::open) waits at most for a server that accepts the session: 15 seconds, unless this says otherwise.
+    /// Sets how long [`open`](SessionOptions::open) waits at most for a server that accepts the session: by default 15 seconds.
     pub fn opens_within(mut self, limit: Duration) -> SessionOptions {
         self.opens_within = limit;
         self
     }
 
-    /// Opens a session that is kept alive by a thread of its own, and waits until a server has accepted it.
+    /// Opens a session that a thread of its own keeps alive, and waits until a server has accepted it.
     ///
     /// # Errors
     ///
-    /// As [`OpenError`] says: [`OpenError::NotConnected`] where none has in time, with the last reason of each address.
+    /// See [`OpenError`]: [`OpenError::NotConnected`] if no server has in time, with the last reason of each address.
     pub fn open<H>(self, hosts: H) -> Result<Session, OpenError>
     where
         H: TryInto<Hosts>,
@@ -307,11 +307,11 @@ impl SessionOptions {
         Ok(session)
     }
 
-    /// The same, and does not wait: it dials at once, and its calls wait for a server. So a task of a runtime opens a session.
+    /// The same without waiting: it dials at once, and its calls wait for a server. A task of a runtime opens a session like this.
     ///
     /// # Errors
     ///
-    /// As [`OpenError`] says, except [`OpenError::NotConnected`].
+    /// See [`OpenError`]; never [`OpenError::NotConnected`].
     pub fn open_lazily<H>(self, hosts: H) -> Result<Session, OpenError>
     where
         H: TryInto<Hosts>,
@@ -325,7 +325,7 @@ impl SessionOptions {
     ///
     /// # Errors
     ///
-    /// As [`OpenError`] says.
+    /// See [`OpenError`].
     pub fn open_local<H>(self, hosts: H) -> Result<LocalSession, OpenError>
     where
         H: TryInto<Hosts>,
@@ -365,7 +365,7 @@ impl SessionOptions {
     }
 }
 
-/// It tells nothing of what dials.
+/// Prints nothing about the dialler.
 impl fmt::Debug for SessionOptions {
     fn fmt(&self, f: &mut fmt::Formatter<'_>) -> fmt::Result {
         f.debug_struct("SessionOptions")

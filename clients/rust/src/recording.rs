@@ -1,7 +1,7 @@
-//! The record of a session: what its machine is handed and what it sends, as lines that `zk_shell` replays and shows.
+//! The record of a session: the input and output of its machine, as lines that `zk_shell` replays and shows.
 //!
-//! No secret is written: the passwords in the request for a session and in the answer to it stand as zeros, and so does all of a
-//! credential. A log-in by SASL is over before the machine is handed anything.
+//! It has no secret: the passwords in the request for a session and in its answer are written as zeros, and so is all of a credential. A
+//! log-in by SASL is over before the machine gets anything.
 
 use crate::moment::Moment;
 use std::fs::{File, OpenOptions};
@@ -11,8 +11,8 @@ use std::ops::Range;
 use std::path::Path;
 use std::time::{Duration, SystemTime, UNIX_EPOCH};
 
-/// Where frames have what is looked for: the xid, the type and the record of a request; and the passwords of the request for a session and
-/// of the answer to it, each after its length.
+/// The places in a frame of the xid, the type and the record of a request, and of the passwords in the request for a session and in its
+/// answer, each after its length.
 const AT_XID: usize = 4;
 const AT_TYPE: usize = 8;
 const AT_RECORD: usize = 12;
@@ -22,18 +22,18 @@ const AT_CAME_PASSWORD: usize = 24;
 /// The xid of a credential.
 const AUTH: i32 = -4;
 
-/// The number at a place of a frame. A machine sends whole ones.
+/// The number at a place in a frame. A machine sends whole frames.
 fn int(frame: &[u8], at: usize) -> i32 {
     let spelled = frame.get(at..at + 4).and_then(|it| it.try_into().ok());
     i32::from_be_bytes(spelled.unwrap_or_default())
 }
 
-/// How many bytes stand after a length.
+/// How many bytes follow a length.
 fn length(frame: &[u8], at: usize) -> usize {
     usize::try_from(int(frame, at)).unwrap_or(0)
 }
 
-/// Adds bytes in hexadecimal digits, and zeros for those of a range.
+/// Appends bytes as hexadecimal digits, with zeros for those of a range.
 fn push_hex(line: &mut Vec<u8>, bytes: &[u8], hidden: &Range<usize>) {
     const DIGITS: &[u8; 16] = b"0123456789abcdef";
     line.reserve(2 * bytes.len() + 1);
@@ -62,7 +62,7 @@ fn push_path(line: &mut Vec<u8>, path: &[u8]) {
     }
 }
 
-/// What a call is in a record, by the type of its request, if the machine reads something of it.
+/// The name of a call in a record, by the type of its request, if the machine reads any of it.
 fn name_of(kind: i32) -> Option<&'static str> {
     Some(match kind {
         1 => "create",
@@ -76,7 +76,7 @@ fn name_of(kind: i32) -> Option<&'static str> {
     })
 }
 
-/// Adds the call that has made the machine send this request.
+/// Appends the call that made the machine send this request.
 fn push_call(line: &mut Vec<u8>, frame: &[u8]) {
     let (kind, record) = (int(frame, AT_TYPE), &frame[AT_RECORD..]);
     line.extend(format!("call {} ", int(frame, AT_XID)).bytes());
@@ -110,7 +110,7 @@ fn push_call(line: &mut Vec<u8>, frame: &[u8]) {
 pub(crate) struct Recorder {
     file: File,
     lines: Vec<u8>,
-    /// The line of a session that begins, before the next line.
+    /// The line that begins a session, to go before the next line.
     machine: Vec<u8>,
     now: u64,
     /// The first moment, and that of the last line.
@@ -125,7 +125,7 @@ pub(crate) struct Recorder {
 }
 
 impl Recorder {
-    /// Makes the file, or begins it again.
+    /// Creates the file, or truncates it.
     pub(crate) fn create(path: &Path) -> io::Result<Recorder> {
         let mut options = OpenOptions::new();
         options.write(true).create(true).truncate(true);
@@ -147,7 +147,7 @@ impl Recorder {
         })
     }
 
-    /// Another session begins, or one is taken up.
+    /// Records that another session begins, or is taken up.
     pub(crate) fn begin(&mut self, timeout: Duration, saved: Option<&[u8]>) {
         let timeout = timeout.as_millis();
         self.machine.clear();
@@ -165,18 +165,18 @@ impl Recorder {
         self.machine.extend(format!(" {zxid}").bytes());
     }
 
-    /// The moment of a step. One below an earlier one counts as that, as for the machine.
+    /// Sets the moment of a step. One below an earlier one counts as that, as it does for the machine.
     pub(crate) fn at(&mut self, now: Moment) {
         self.now = self.now.max(now.as_millis());
     }
 
-    /// The machine was handed a connection.
+    /// Records that the machine got a connection.
     pub(crate) fn opened(&mut self) {
         (self.is_open, self.has_sent, self.came, self.password) = (true, false, 0, 0);
         self.add(|line| line.extend(b"opened"));
     }
 
-    /// The connection is over, if there was one. It was of the session before another one that begins.
+    /// Records that the connection, if there was one, is over. It belonged to the session before a new one.
     pub(crate) fn cut(&mut self) {
         if mem::take(&mut self.is_open) {
             let machine = mem::take(&mut self.machine);
@@ -185,7 +185,7 @@ impl Recorder {
         }
     }
 
-    /// The machine was handed bytes of the server.
+    /// Records bytes that the machine got from the server.
     pub(crate) fn bytes(&mut self, bytes: &[u8]) {
         let left = AT_CAME_PASSWORD.saturating_sub(self.came);
         for byte in bytes.iter().take(left) {
@@ -199,7 +199,7 @@ impl Recorder {
         });
     }
 
-    /// The machine has sent these frames.
+    /// Records frames that the machine sent.
     pub(crate) fn sent(&mut self, frames: &[u8]) {
         let mut left = frames;
         while left.len() > AT_XID {
@@ -227,7 +227,7 @@ impl Recorder {
         });
     }
 
-    /// Adds a line, after the moment if that is another one.
+    /// Adds a line, and the moment before it if that has changed.
     fn add(&mut self, push: impl FnOnce(&mut Vec<u8>)) {
         if !self.machine.is_empty() {
             self.lines.append(&mut self.machine);
@@ -242,7 +242,7 @@ impl Recorder {
         self.lines.push(b'\n');
     }
 
-    /// Writes what was recorded.
+    /// Writes the recorded lines.
     pub(crate) fn flush(&mut self) -> io::Result<()> {
         if !self.lines.is_empty() {
             self.file.write_all(&self.lines)?;

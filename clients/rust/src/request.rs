@@ -1,4 +1,4 @@
-//! What a program asks of the servers.
+//! Requests to the servers.
 
 use crate::acl::{Acl, Id};
 use crate::action::Actions;
@@ -29,7 +29,7 @@ pub(crate) enum CoreCall {
 }
 
 impl CoreCall {
-    /// Asks the machine, about the node of this path at the servers. It waits to this moment at most.
+    /// Makes the call on the machine, about the node at this path of the servers', with this moment as its limit.
     #[inline]
     pub(crate) fn ask<'a>(
         self,
@@ -55,11 +55,11 @@ impl CoreCall {
     }
 }
 
-/// A call, without its path. The data of a call of the core are not in it.
+/// A call without its path. It does not have the data of a core call.
 #[derive(Clone)]
 pub(crate) enum Call {
     Core(CoreCall),
-    /// It is shared by who reads its answer.
+    /// Shared with whoever parses its answer.
     Raw(Arc<RawCall>),
     Auth(Credential),
 }
@@ -89,7 +89,7 @@ impl Call {
         }
     }
 
-    /// Whether the servers are as they were after it.
+    /// Whether it leaves the servers unchanged.
     fn is_read(&self) -> bool {
         match self {
             Call::Core(CoreCall::Exists(_) | CoreCall::Data(_) | CoreCall::Children(_))
@@ -100,7 +100,7 @@ impl Call {
     }
 }
 
-/// A call that is lent.
+/// A lent call.
 #[derive(Clone, Copy)]
 pub(crate) enum LentCall<'a> {
     Core(CoreCall),
@@ -123,21 +123,21 @@ impl LentCall<'_> {
     }
 }
 
-/// What is asked, as an engine is lent it.
+/// A call as the engine borrows it.
 #[derive(Clone, Copy)]
 pub(crate) struct Asking<'a> {
     pub(crate) path: &'a str,
-    /// Those of a call of the core.
+    /// The data of a core call.
     pub(crate) data: &'a [u8],
     pub(crate) call: LentCall<'a>,
-    /// How long it waits at most, if it says so itself.
+    /// How long it waits at most, if it has a limit of its own.
     pub(crate) limit: Option<Duration>,
 }
 
-/// A request, whose answer is a `T`.
+/// A request whose answer is a `T`.
 ///
-/// [`Session::ask`](crate::Session::ask) sends it and goes on, and [`Session::call`](crate::Session::call) waits for its answer. Each
-/// function of a session that has the same name as one here is such a call.
+/// [`Session::ask`](crate::Session::ask) sends it and goes on; [`Session::call`](crate::Session::call) waits for its answer. Each function
+/// here has a function of the same name in a session, which makes that call.
 ///
 /// ```no_run
 /// use dirwolleu::{Request, Session};
@@ -155,10 +155,10 @@ pub(crate) struct Asking<'a> {
 #[must_use = "it is not sent before it is asked"]
 pub struct Request<T> {
     pub(crate) path: String,
-    /// Those of a call of the core: none of another one.
+    /// The data of a core call: empty for another one.
     pub(crate) data: Vec<u8>,
     pub(crate) call: Call,
-    /// How long it waits at most, if it says so itself.
+    /// How long it waits at most, if it has a limit of its own.
     pub(crate) limit: Option<Duration>,
     pub(crate) read: fn(CallResult) -> Result<T, Error>,
 }
@@ -178,8 +178,8 @@ impl<T> Request<T> {
         }
     }
 
-    /// How long it waits at most, with all the time that it waits for a connection and that it is asked again after a lost one. If the
-    /// limit has come it fails as [`Session::call`](crate::Session::call) says.
+    /// Sets how long it waits at most, including the time that it waits for a connection and is repeated after a lost one. At its limit it
+    /// fails as [`Session::call`](crate::Session::call) says.
     ///
     /// ```no_run
     /// use dirwolleu::{Request, Session};
@@ -196,7 +196,7 @@ impl<T> Request<T> {
         self
     }
 
-    /// The same request, which is kept: it may be asked again.
+    /// Lends the request, which can then be repeated.
     pub(crate) fn lend(&self) -> LentRequest<'_, T> {
         let asking = Asking {
             path: &self.path,
@@ -210,7 +210,7 @@ impl<T> Request<T> {
         }
     }
 
-    /// The same, which waits until this instant at most, if there is one.
+    /// The same, waiting at most until this instant, if there is one.
     pub(crate) fn until(self, until: Option<Instant>) -> Request<T> {
         match until {
             Some(until) => self.within(until.saturating_duration_since(Instant::now())),
@@ -218,18 +218,18 @@ impl<T> Request<T> {
         }
     }
 
-    /// Whether it only reads. A read is safe to be asked again, whatever became of it; a write is safe if it was not sent or was refused.
+    /// Whether it only reads. A read is always safe to repeat; a write is safe to repeat if it was not sent or was refused.
     pub fn is_read(&self) -> bool {
         self.call.is_read()
     }
 
-    /// Whether it is safe to be asked again after this error, and of use.
+    /// Whether it is safe, and of use, to repeat it after this error.
     pub(crate) fn may_be_repeated(&self, fault: &Error) -> bool {
         fault.is_passing() && (self.is_read() || !fault.may_have_happened())
     }
 }
 
-/// A request whose path and data are its caller's still. A session without a thread asks it so, and copies neither.
+/// A request that borrows its path and data from its caller. A session without a thread makes it without copying either.
 pub(crate) struct LentRequest<'a, T> {
     pub(crate) asking: Asking<'a>,
     pub(crate) read: fn(CallResult) -> Result<T, Error>,
@@ -343,12 +343,12 @@ impl<'a> LentRequest<'a, ()> {
 }
 
 impl Request<Option<Stat>> {
-    /// What is known of a node, or `None` if there is none.
+    /// Asks for the `Stat` of a node, or `None` if there is no node.
     pub fn exists(path: &str) -> Request<Option<Stat>> {
         LentRequest::exists(path).into()
     }
 
-    /// The same, and a watch is left, even if there is no node.
+    /// The same, and leaves a watch, even if there is no node.
     pub fn watched(mut self) -> Request<Option<Stat>> {
         self.call = Call::Core(CoreCall::Exists(Watch::Yes));
         self
@@ -356,12 +356,12 @@ impl Request<Option<Stat>> {
 }
 
 impl Request<Node> {
-    /// The data of a node. If there is none the answer is [`Code::NO_NODE`].
+    /// Asks for the data of a node. Without a node the answer is [`Code::NO_NODE`].
     pub fn get(path: &str) -> Request<Node> {
         LentRequest::get(path).into()
     }
 
-    /// The same, and a watch is left if there is a node.
+    /// The same, and leaves a watch if there is a node.
     pub fn watched(mut self) -> Request<Node> {
         self.call = Call::Core(CoreCall::Data(Watch::Yes));
         self
@@ -369,13 +369,12 @@ impl Request<Node> {
 }
 
 impl Request<(Vec<String>, Stat)> {
-    /// The names of the children of a node, in an order that means nothing, and what is known of it. If there is none the answer is
-    /// [`Code::NO_NODE`].
+    /// Asks for the names of a node's children, in no particular order, and its `Stat`. Without a node the answer is [`Code::NO_NODE`].
     pub fn children(path: &str) -> Request<(Vec<String>, Stat)> {
         LentRequest::children(path).into()
     }
 
-    /// The same, and a watch is left if there is a node.
+    /// The same, and leaves a watch if there is a node.
     pub fn watched(mut self) -> Request<(Vec<String>, Stat)> {
         self.call = Call::Core(CoreCall::Children(Watch::Yes));
         self
@@ -383,7 +382,7 @@ impl Request<(Vec<String>, Stat)> {
 }
 
 impl Request<(Vec<String>, i64)> {
-    /// The names of the children of a node, and the zxid at which it has these.
+    /// The names of a node's children, and the zxid at which it has these.
     pub(crate) fn listing(path: &str) -> Request<(Vec<String>, i64)> {
         Request::new(path, Call::Core(CoreCall::Children(Watch::No)), |ending| {
             ending.map(|found| (found.content.names(), found.zxid))
@@ -392,12 +391,12 @@ impl Request<(Vec<String>, i64)> {
 }
 
 impl Request<Stat> {
-    /// Sets the data of a node that has this version; [`ANY_VERSION`](crate::ANY_VERSION) is that of each node.
+    /// Sets the data of a node if it has this version; [`ANY_VERSION`](crate::ANY_VERSION) matches any.
     pub fn set(path: &str, data: &[u8], version: i32) -> Request<Stat> {
         LentRequest::set(path, data, version).into()
     }
 
-    /// Sets the ACL of a node whose ACL has this version ([`Stat::aversion`]); [`ANY_VERSION`](crate::ANY_VERSION) is that of each node.
+    /// Sets the ACL of a node if the ACL has this version ([`Stat::aversion`]); [`ANY_VERSION`](crate::ANY_VERSION) matches any.
     pub fn set_acls(path: &str, acls: &[Acl], version: i32) -> Request<Stat> {
         let acls = acls.to_vec();
         let call = RawCall::SetAcls { acls, version };
@@ -406,7 +405,7 @@ impl Request<Stat> {
 }
 
 impl Request<(Vec<Acl>, Stat)> {
-    /// The ACL of a node, and what is known of it.
+    /// Asks for the ACL and the `Stat` of a node.
     pub fn acls(path: &str) -> Request<(Vec<Acl>, Stat)> {
         Request::new(path, RawCall::Acls.into(), |ending| {
             ending.map(|found| (found.content.records().acls, found.stat))
@@ -415,18 +414,18 @@ impl Request<(Vec<Acl>, Stat)> {
 }
 
 impl Request<String> {
-    /// Makes a node, and tells its path, which ends in ten digits more if it is sequential.
+    /// Creates a node and returns its path, to which a sequential create appends ten digits.
     pub fn create(path: &str, data: &[u8], mode: Mode) -> Request<String> {
         LentRequest::create(path, data, mode).into()
     }
 
-    /// The same, of a node with this ACL. It goes by `create2`, which ZooKeeper has since version 3.5. The path of a sequential one may end
-    /// with `/`: then its name is the number alone.
+    /// The same with this ACL. It uses `create2`, which ZooKeeper has since version 3.5. The path of a sequential node may end with `/`:
+    /// then its name is the number alone.
     pub fn create_with_acls(path: &str, data: &[u8], mode: Mode, acls: &[Acl]) -> Request<String> {
         Request::created(path, data, acls, Lifetime::Mode(mode))
     }
 
-    /// A node that stays. Without an entry of an ACL it goes by `create`, which each server has.
+    /// Creates a persistent node. Without an ACL entry it uses `create`, which each server has.
     pub(crate) fn persistent(path: &str, data: &[u8], acls: &[Acl]) -> Request<String> {
         if acls.is_empty() {
             return Request::create(path, data, Mode::Persistent);
@@ -434,16 +433,15 @@ impl Request<String> {
         Request::create_with_acls(path, data, Mode::Persistent, acls)
     }
 
-    /// Makes a container: a node that the servers delete once it had children and has none any more (ZooKeeper Programmer's Guide, *Container
-    /// Nodes*).
+    /// Creates a container: a node that the servers delete once its last child is gone (ZooKeeper Programmer's Guide, *Container Nodes*).
     pub fn create_container(path: &str, data: &[u8], acls: &[Acl]) -> Request<String> {
         Request::created(path, data, acls, Lifetime::Container)
     }
 
-    /// Makes a node that the servers delete once it was not changed and has had no children for so long, in whole milliseconds: at least 1,
-    /// less than 2^40, and else the answer is [`Code::BAD_ARGUMENTS`]. Servers have to be told to keep such nodes (Programmer's Guide, *TTL
-    /// Nodes*): else the answer is [`Code::UNIMPLEMENTED`]. The mode is [`Mode::Persistent`] or [`Mode::PersistentSequential`]; with another one
-    /// nothing is asked, and it fails with [`Fault::EphemeralWithTtl`].
+    /// Creates a node that the servers delete once it has had no change and no children for this long, in whole milliseconds: at least 1
+    /// and less than 2^40, or the answer is [`Code::BAD_ARGUMENTS`]. Servers keep such nodes only if they are configured to (Programmer's
+    /// Guide, *TTL Nodes*): else the answer is [`Code::UNIMPLEMENTED`]. The mode is [`Mode::Persistent`] or [`Mode::PersistentSequential`];
+    /// with another one nothing is sent, and it fails with [`Fault::EphemeralWithTtl`].
     pub fn create_with_ttl(
         path: &str,
         data: &[u8],
@@ -463,7 +461,7 @@ impl Request<String> {
     }
 }
 
-/// A create that brings the path and the Stat of the node.
+/// A create that returns the path and the `Stat` of the node.
 fn creation(data: &[u8], acls: &[Acl], lifetime: Lifetime) -> Call {
     let (data, acls) = (data.to_vec(), acls.to_vec());
     let call = RawCall::Create {
@@ -475,7 +473,7 @@ fn creation(data: &[u8], acls: &[Acl], lifetime: Lifetime) -> Call {
 }
 
 impl Request<(String, Stat)> {
-    /// As [`create_with_acls`](Request::create_with_acls), and tells what is known of the node, too.
+    /// As [`create_with_acls`](Request::create_with_acls), and also returns the node's `Stat`.
     pub fn create2(path: &str, data: &[u8], mode: Mode, acls: &[Acl]) -> Request<(String, Stat)> {
         Request::new(path, creation(data, acls, Lifetime::Mode(mode)), |ending| {
             let found = ending.map_err(Error::of_create)?;
@@ -485,7 +483,7 @@ impl Request<(String, Stat)> {
 }
 
 impl Request<Vec<Result<ReadAnswer, Code>>> {
-    /// Reads several nodes at one zxid, and tells what each read has brought, in their order, or with which code the server has refused it.
+    /// Reads several nodes at one zxid, and returns in their order each one's answer, or the code with which the server refused it.
     /// ZooKeeper has it since version 3.6. It leaves no watch.
     pub fn multi_read(reads: &[Read]) -> Request<Vec<Result<ReadAnswer, Code>>> {
         let call = RawCall::Reads(reads.to_vec());
@@ -496,8 +494,8 @@ impl Request<Vec<Result<ReadAnswer, Code>>> {
 }
 
 impl Request<Vec<String>> {
-    /// The paths of the session's ephemeral nodes that begin with this path, which need not be one of a node: `/a` begins `/ab` too. ZooKeeper
-    /// has it since version 3.6.
+    /// Asks for the paths of the session's ephemeral nodes that begin with this one, which need not be the path of a node: `/a` begins
+    /// `/ab` too. ZooKeeper has it since version 3.6.
     pub fn ephemerals(prefix: &str) -> Request<Vec<String>> {
         Request::new(prefix, RawCall::Ephemerals.into(), |ending| {
             ending.map(|found| found.content.records().paths)
@@ -506,8 +504,7 @@ impl Request<Vec<String>> {
 }
 
 impl Request<i32> {
-    /// How many nodes are below a node, at all depths. If there is no node the answer is [`Code::NO_NODE`]. ZooKeeper has it since version
-    /// 3.6.
+    /// Counts the nodes below a node, at all depths. Without a node the answer is [`Code::NO_NODE`]. ZooKeeper has it since version 3.6.
     pub fn all_children_number(path: &str) -> Request<i32> {
         Request::new(path, RawCall::AllChildrenNumber.into(), |ending| {
             ending.map(|found| found.content.records().count)
@@ -516,8 +513,8 @@ impl Request<i32> {
 }
 
 impl Request<Vec<Id>> {
-    /// As whom the server knows the session: by its address, and by its credentials. ZooKeeper has it since version 3.7; else the answer is
-    /// [`Code::UNIMPLEMENTED`].
+    /// Asks for the identities under which the server knows the session: its address, and its credentials. ZooKeeper has it since version
+    /// 3.7; before, the answer is [`Code::UNIMPLEMENTED`].
     pub fn who_am_i() -> Request<Vec<Id>> {
         Request::new("/", RawCall::WhoAmI.into(), |ending| {
             ending.map(|found| found.content.records().ids)
@@ -526,18 +523,17 @@ impl Request<Vec<Id>> {
 }
 
 impl Request<()> {
-    /// Deletes a node that has this version and no children; [`ANY_VERSION`](crate::ANY_VERSION) is that of each node.
+    /// Deletes a node if it has this version and no children; [`ANY_VERSION`](crate::ANY_VERSION) matches any.
     pub fn delete(path: &str, version: i32) -> Request<()> {
         LentRequest::delete(path, version).into()
     }
 
-    /// Has the server that the session is connected to catch up with the leader, as far as it was when that was asked: a read that is
-    /// asked after it is of no older state.
+    /// Makes the connected server catch up with the leader: a later read shows no state older than the leader's when this was asked.
     pub fn sync(path: &str) -> Request<()> {
         Request::new(path, RawCall::Sync.into(), |ending| ending.map(drop))
     }
 
-    /// Tells the server who the session is, now and on each later connection.
+    /// Authenticates the session, now and on each later connection.
     pub fn auth(scheme: &str, credentials: &[u8]) -> Request<()> {
         let call = Call::Auth(Credential::new(scheme, credentials));
         Request::new("/", call, |ending| ending.map(drop))
@@ -561,7 +557,7 @@ impl<T> Clone for Request<T> {
     }
 }
 
-/// It tells no data.
+/// Prints no data.
 impl<T> fmt::Debug for Request<T> {
     fn fmt(&self, f: &mut fmt::Formatter<'_>) -> fmt::Result {
         f.debug_struct("Request")

@@ -1,4 +1,4 @@
-//! How often a call is asked again.
+//! How often a call is repeated.
 
 use crate::error::Error;
 use crate::fault::NoReply;
@@ -6,24 +6,25 @@ use crate::hosts::random;
 use crate::request::Request;
 use std::time::{Duration, Instant};
 
-/// The longest pause before a call is asked again for the first time. It is twice as long before each further time.
+/// The longest pause before the first repetition. It doubles before each further one.
 const FIRST_PAUSE: Duration = Duration::from_millis(100);
 
 /// The longest pause of all.
 const LONGEST_PAUSE: Duration = Duration::from_secs(1);
 
-/// By chance between a half of this duration and the whole, in milliseconds.
+/// A random duration between half of this one and the whole, in milliseconds.
 fn spread(longest: Duration, random: u64) -> Duration {
     let whole = u64::try_from(longest.as_millis()).unwrap_or(u64::MAX);
     let half = whole / 2;
     Duration::from_millis(half + random % (whole - half + 1))
 }
 
-/// How often a call is asked again that has failed for a reason that passes ([`Error::is_passing`](crate::Error::is_passing)).
+/// How often a call is repeated that failed for a passing reason ([`Error::is_passing`](crate::Error::is_passing)).
 ///
-/// A read that is lost with its connection is asked again without it, within its limit. With it a read is asked again after each such error,
-/// and if the session renews itself, after an expiry. A write is asked again only if nothing has happened for sure: it was not sent, or the
-/// server has refused it. One that [may have happened](crate::Error::may_have_happened) is never asked twice: its caller is told.
+/// Even without retries, a read that is lost with its connection is repeated within its limit. With them, a read is repeated after each
+/// such error and, if the session renews itself, after an expiry. A write is repeated only if nothing has happened for sure: it was not
+/// sent, or the server refused it. One that [may have happened](crate::Error::may_have_happened) is never repeated: its caller gets the
+/// error.
 ///
 /// ```
 /// use dirwolleu::{Retry, SessionOptions};
@@ -37,29 +38,29 @@ pub struct Retry {
 }
 
 impl Retry {
-    /// Each call is asked once, which is how a session begins.
+    /// Makes each call once, which is the default.
     pub const fn never() -> Retry {
         Retry { times: 0 }
     }
 
-    /// A call is asked this often again, after random pauses that grow up to a second.
+    /// Repeats a call this often, after random pauses that grow up to a second.
     pub const fn times(times: u32) -> Retry {
         Retry { times }
     }
 
-    /// The pauses before a call is asked again.
+    /// The pauses before each repetition.
     pub(crate) fn pauses(self) -> impl Iterator<Item = Duration> {
         let longest = |time: u32| FIRST_PAUSE.saturating_mul(1 << time.min(8));
         (0..self.times).map(move |time| spread(longest(time).min(LONGEST_PAUSE), random()))
     }
 }
 
-/// Whether a call was not sent, since the session has expired.
+/// Whether a call was not sent because the session has expired.
 pub(crate) fn is_expired(error: &Error) -> bool {
     error.no_reply() == Some(NoReply::SessionExpired)
 }
 
-/// How the calls of a session are asked, unless they say otherwise.
+/// The session's default for calls that do not say otherwise.
 #[derive(Clone, Copy, Default)]
 pub(crate) struct Terms {
     pub(crate) retry: Retry,
@@ -69,7 +70,7 @@ pub(crate) struct Terms {
 }
 
 impl Terms {
-    /// The times of a call that has this limit. One that is asked once needs no look at the clock.
+    /// The tries of a call with this limit. A single try needs no look at the clock.
     pub(crate) fn tries(self, limit: Option<Duration>) -> Tries {
         let limit = limit.or(self.limit);
         let limit = limit.filter(|_| self.retry != Retry::never());
@@ -80,7 +81,7 @@ impl Terms {
     }
 }
 
-/// All times that a call is asked, within its limit.
+/// All tries of a call, within its limit.
 #[derive(Clone, Copy)]
 pub(crate) struct Tries {
     renews: bool,
@@ -94,7 +95,7 @@ impl Tries {
         self.until.map(left)
     }
 
-    /// Whether a call is to be asked again after this error and this pause. After an expiry nothing was sent.
+    /// Whether to repeat a call after this error and this pause. After an expiry nothing was sent.
     pub(crate) fn goes_on<T>(self, request: &Request<T>, error: &Error, pause: Duration) -> bool {
         let is_over = self.left().is_some_and(|left| left <= pause);
         let is_safe = request.may_be_repeated(error) || self.renews && is_expired(error);

@@ -1,5 +1,5 @@
-//! SASL: a session says who it is by challenges and tokens, on each connection before anything else is asked over it. What the server has
-//! said of the session is kept back meanwhile, so that to the machine the server was slow to accept.
+//! SASL: a session authenticates by challenges and tokens, on each connection before any other request. Meanwhile the server's answer about
+//! the session is held back, so that to the machine the server was slow to accept.
 
 use crate::connection::{Connection, Dial, Incoming, Outgoing, Server};
 use crate::jute::{Reader, Writer};
@@ -11,17 +11,17 @@ use std::sync::{Arc, Mutex, PoisonError};
 use std::thread;
 use std::time::{Duration, Instant};
 
-/// The type of a request of the log-in, and the xid before the first: sessions use none below -8.
+/// The type of a log-in request, and the xid before the first one: sessions use none below -8.
 const OPERATION: i32 = 102;
 const BEFORE_FIRST_XID: i32 = -1000;
-/// Codes by which a server does not take who the client is: authentication has failed, and SASL is wanted.
+/// The codes with which a server refuses a client's identity: authentication has failed, and SASL is required.
 const REFUSALS: [i32; 2] = [-115, -124];
 /// How long a token may wait to be written, in all and at a time.
 const WRITE_LIMIT: Duration = Duration::from_secs(10);
 const WRITE_WAIT: Duration = Duration::from_millis(100);
 const HELD_WAIT: Duration = Duration::from_millis(10);
 
-/// One log-in, on one connection. A closure of the same form is one.
+/// The log-in of one connection. A closure of this signature is one.
 ///
 /// ```
 /// use dirwolleu::LogIn;
@@ -33,11 +33,11 @@ const HELD_WAIT: Duration = Duration::from_millis(10);
 /// assert_eq!(LogIn::step(&mut plain, None).unwrap(), Some(b"\0app\0secret".to_vec()));
 /// ```
 pub trait LogIn: Send {
-    /// The token to send, or `None` if the log-in is over. The first step has no challenge; each later one has that of the server.
+    /// Returns the token to send, or `None` if the log-in is over. The first step has no challenge; each later one has the server's.
     ///
     /// # Errors
     ///
-    /// Any: the session is over, as with credentials that a server does not take.
+    /// Any: the session is over, as with credentials that a server refuses.
     fn step(
         &mut self,
         challenge: Option<&[u8]>,
@@ -56,7 +56,7 @@ where
     }
 }
 
-/// Why a log-in has failed, in words. A refusal ends the session; anything else the connection.
+/// Why a log-in has failed, in words. A refusal ends the session; anything else ends the connection.
 #[derive(Debug)]
 pub(crate) struct LogInFault {
     pub(crate) is_refusal: bool,
@@ -72,7 +72,7 @@ impl fmt::Display for LogInFault {
 impl Error for LogInFault {}
 
 impl LogInFault {
-    /// The server answers with a code.
+    /// The fault of a log-in that the server answers with this code.
     fn answered(code: i32) -> LogInFault {
         LogInFault {
             is_refusal: REFUSALS.contains(&code),
@@ -80,7 +80,7 @@ impl LogInFault {
         }
     }
 
-    /// The fault of the log-in, if that is why a read failed.
+    /// The fault of the log-in, if it made a read fail.
     pub(crate) fn of(fault: &io::Error) -> Option<&LogInFault> {
         fault.get_ref()?.downcast_ref()
     }
@@ -92,7 +92,7 @@ impl From<LogInFault> for io::Error {
     }
 }
 
-/// What makes a log-in for each connection.
+/// Makes a log-in for each connection.
 pub(crate) type Begin = Box<dyn FnMut() -> Box<dyn LogIn> + Send>;
 
 /// Dials, and logs in on each connection.
@@ -121,7 +121,7 @@ impl Dial for LoggingIn {
     }
 }
 
-/// The half that is written, for the session and for the log-in.
+/// The write half of a connection, for the session and for the log-in.
 struct Half {
     outgoing: Mutex<Box<dyn Outgoing>>,
     is_over: AtomicBool,
@@ -133,7 +133,7 @@ impl Half {
         outgoing.write(bytes, wait)
     }
 
-    /// Writes all of what the log-in sends.
+    /// Writes all bytes that the log-in sends.
     fn write_all(&self, bytes: &[u8]) -> io::Result<()> {
         let until = Instant::now() + WRITE_LIMIT;
         let mut written = 0;
@@ -149,7 +149,7 @@ impl Half {
     }
 }
 
-/// What the session writes: its first frame, and the others when the log-in is over.
+/// The session's write half: it passes the first frame, and the others once the log-in is over.
 struct Held {
     half: Arc<Half>,
     left: Option<usize>,
@@ -184,7 +184,7 @@ impl Outgoing for Held {
     }
 }
 
-/// What the session reads: nothing until the log-in is over, and then what was kept back first.
+/// The session's read half: it holds everything back until the log-in is over.
 struct Guarded {
     incoming: Box<dyn Incoming>,
     half: Arc<Half>,
@@ -239,7 +239,7 @@ impl Login {
         }
     }
 
-    /// Takes bytes that came. Whether the log-in is over; `frames` is to be written. What does not read is for the machine to judge.
+    /// Takes bytes from the server. Returns whether the log-in is over; `frames` is to be written. The machine judges what does not parse.
     fn take(&mut self, bytes: &[u8]) -> Result<bool, LogInFault> {
         self.came.extend(bytes);
         while let Some(length) = self.came.get(..4).and_then(|four| four.try_into().ok()) {

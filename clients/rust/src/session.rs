@@ -33,31 +33,31 @@ use std::sync::Arc;
 use std::thread::{self, Builder};
 use std::time::{Duration, Instant};
 
-/// A part of the timeout: when a session's thread is late by more, nobody knows the state.
+/// The fraction of the timeout by which a session's thread may be late before nobody knows the state.
 const LATENESS: u32 = 6;
 
-/// A session, which lives while its program works: a thread of its own pings, reads and reconnects. Which host is dialled and when, which
-/// calls wait and how long, and what becomes of them where the connection ends, the proved core decides: it is a [`Machine`](crate::Machine)
-/// with sockets, a lock and a clock.
+/// A session that lives while its program works: a thread of its own pings, reads and reconnects. The proved core decides which host to
+/// dial and when, which calls wait and how long, and what becomes of them when the connection ends: a session is a
+/// [`Machine`](crate::Machine) with sockets, a lock and a clock.
 ///
-/// It dials at once: one of its [`Hosts`] after the other, in an order that is random in each session, and goes on to the next one if
-/// a server is silent or the connection ends. Watches and what is kept go on over reconnects. An attempt may take a third of the timeout,
-/// and a second at least. The pause after one that has failed is random, between a half of this and the whole: 100 milliseconds, and twice
-/// as long after each further one, up to a second and to a tenth of the timeout; and up to a second once there was no connection for
-/// longer than the timeout. There is none after an answered call, after an expiry that a server told, and after a connection that has
-/// lasted for a third of the timeout. A third of a second lies between two attempts at least, so a session of less than some three seconds
-/// does not outlive a lost connection for sure. After a refusal the next address is dialled at once, once round the list.
+/// It dials at once: one of its [`Hosts`] after the other, in an order that is random in each session, and goes on to the next one if a
+/// server is silent or the connection ends. Watches and kept answers outlive a reconnect. An attempt may take a third of the timeout, and
+/// at least a second. The pause after a failed one is random, between half and all of this: 100 milliseconds, and twice as long after each
+/// further one, up to a second and to a tenth of the timeout; and up to a second once there was no connection for longer than the timeout.
+/// There is no pause after an answered call, after an expiry that a server reported, and after a connection that lasted for a third of the
+/// timeout. At least a third of a second lies between two attempts, so a session of less than some three seconds may not outlive a lost
+/// connection. After a refusal the next address is dialled at once, once round the list.
 ///
 /// A call waits until a server has accepted the session and fewer than 1,024 calls are on their way, and then for its answer. A read that
-/// is lost with its connection is asked again; a write is not, and is answered [`ConnectionLoss`](crate::NoReply::ConnectionLoss). All of
-/// that takes as long as the limit of the call at most: the one that its [`Request`] has, else that of
-/// [`SessionOptions::limit`], else the timeout of the session, and a second at least.
+/// is lost with its connection is repeated; a write is not, and gets [`ConnectionLoss`](crate::NoReply::ConnectionLoss). All of that takes
+/// at most as long as the limit of the call: the one that its [`Request`] has, else that of [`SessionOptions::limit`], else the timeout of
+/// the session, and at least a second.
 ///
-/// If a call, a ping or the request for the session has no answer after two thirds of the timeout, and a second at least, whatever else
-/// the server sends, the connection is over. That time includes the writing, so a server that reads slowly is left too.
+/// If a call, a ping or the request for the session has no answer after two thirds of the timeout, and at least a second, whatever else the
+/// server sends, the connection is over. That time includes the writing, so the session also leaves a server that reads slowly.
 ///
-/// All functions take `&self`, and threads may call them at once: [`shared`](Session::shared) gives handles to hand to them. To let a
-/// session go ends its thread and leaves the session to its timeout at the servers: [`close`](Session::close) ends it.
+/// All functions take `&self`, and threads may call them at once: [`shared`](Session::shared) makes handles for them. Dropping a session
+/// ends its thread and leaves the session to its timeout at the servers: [`close`](Session::close) ends it.
 ///
 /// ```no_run
 /// use dirwolleu::{Mode, Session};
@@ -79,12 +79,12 @@ pub struct Session {
 
 /// How a session begins and ends.
 impl Session {
-    /// A session at these hosts, which asks for this timeout. It waits until a server has accepted the session, for 15 seconds at most.
-    /// [`SessionOptions`] opens one otherwise, and [`SessionOptions::open_lazily`] one that is not waited for.
+    /// Opens a session at these hosts that asks for this timeout, and waits until a server has accepted it, for 15 seconds at most.
+    /// [`SessionOptions`] has options, and [`SessionOptions::open_lazily`] does not wait.
     ///
     /// # Errors
     ///
-    /// As [`OpenError`] says.
+    /// See [`OpenError`].
     pub fn open<H>(hosts: H, timeout: Duration) -> Result<Session, OpenError>
     where
         H: TryInto<Hosts>,
@@ -93,7 +93,7 @@ impl Session {
         SessionOptions::new(timeout).open(hosts)
     }
 
-    /// A session whose keeper runs in a thread.
+    /// A session whose driver runs in a thread.
     pub(crate) fn driven_by(driver: Driver, terms: Terms) -> io::Result<Session> {
         let shared = Arc::clone(driver.shared());
         let thread = Builder::new().name(String::from("dirwolleu"));
@@ -101,7 +101,7 @@ impl Session {
         Ok(Session { shared, terms })
     }
 
-    /// Waits until a server has accepted the session, for so long at most.
+    /// Waits until a server has accepted the session, at most this long.
     pub(crate) fn wait_for_server(&self, limit: Duration) -> Result<(), Error> {
         let begun = Instant::now();
         self.wait_while(begun.checked_add(limit), |engine| !engine.is_connected());
@@ -110,29 +110,29 @@ impl Session {
         fault.map_or(Ok(()), Err)
     }
 
-    /// A handle of this session, which is cloned for each thread. With the last one the session is let go.
+    /// Makes a handle of this session, to clone for each thread. Dropping the last one drops the session.
     pub fn shared(self) -> SharedSession {
         SharedSession {
             session: Arc::new(self),
         }
     }
 
-    /// Goes on with a new machine, which keeps and watches nothing: of a new session if this one has expired or is closed, at servers
-    /// that are not behind what was seen, and else of the same session, as after [`Fault::Halted`].
+    /// Goes on with a new machine, which keeps and watches nothing: of a new session if this one has expired or is closed, at servers that
+    /// are not behind the greatest zxid seen; else of the same session, as after [`Fault::Halted`].
     ///
     /// # Errors
     ///
-    /// [`Fault::NoMemory`]; then the session is as it was. [`Fault::Panicked`].
+    /// [`Fault::NoMemory`]: then the session is unchanged. [`Fault::Panicked`].
     pub fn renew(&self) -> Result<(), Fault> {
         let renewed = self.shared.with(Engine::renew);
         self.shared.wake();
         renewed
     }
 
-    /// Ends the session, with its ephemeral nodes. A session that is over already is no error.
+    /// Ends the session and deletes its ephemeral nodes. If the session is already over, this is no error.
     ///
-    /// It waits for the server's word, as a call waits for its answer; and for a second at most if no server has accepted the session, or
-    /// the connection is lost. Then it is an error, and the session is left to its timeout at the servers.
+    /// It waits for the server's answer as any call does, but at most a second if no server has accepted the session, or the connection is
+    /// lost. Then it fails, and the session is left to its timeout at the servers.
     ///
     /// # Errors
     ///
@@ -160,16 +160,16 @@ impl Drop for Session {
 impl Session {
     calls! { self: [&self] &mut &*self }
 
-    /// Asks a request, waits for its answer, and asks again if the session's [`Retry`] says so.
+    /// Makes a request, waits for its answer, and repeats it if the session's [`Retry`] says so.
     ///
     /// # Errors
     ///
-    /// [`ErrorKind::Server`](crate::ErrorKind::Server) if the server refuses it, [`ErrorKind::NoReply`](crate::ErrorKind::NoReply) with why
-    /// there is no reply, [`ErrorKind::TimedOut`](crate::ErrorKind::TimedOut) if its limit has come after it was sent, so that a write
-    /// may have happened, or may yet; if it was not sent, and never is, [`NotConnected`](crate::NoReply::NotConnected), or
-    /// [`TooManyPending`](crate::NoReply::TooManyPending) with a connection; and
-    /// [`ErrorKind::Fault`](crate::ErrorKind::Fault) of [`Fault::NotPath`], [`Fault::NoMemory`], [`Fault::Halted`],
-    /// [`Fault::UnknownNumber`] or [`Fault::Panicked`]. [`QueueFull`](crate::ErrorKind::QueueFull) if too much waits to be written.
+    /// [`ErrorKind::Server`](crate::ErrorKind::Server) if the server refuses it; [`ErrorKind::NoReply`](crate::ErrorKind::NoReply) with the
+    /// reason why there is no reply; [`ErrorKind::TimedOut`](crate::ErrorKind::TimedOut) if it reached its limit after it was sent, so that
+    /// a write may have happened, or still may; if it was not sent, and never is, [`NotConnected`](crate::NoReply::NotConnected), or
+    /// [`TooManyPending`](crate::NoReply::TooManyPending) with a connection; [`ErrorKind::Fault`](crate::ErrorKind::Fault) of
+    /// [`Fault::NotPath`], [`Fault::NoMemory`], [`Fault::Halted`], [`Fault::UnknownNumber`] or [`Fault::Panicked`];
+    /// [`QueueFull`](crate::ErrorKind::QueueFull) if too much waits to be written.
     pub fn call<T>(&self, mut request: Request<T>) -> Result<T, Error> {
         let tries = self.terms.tries(request.limit);
         for pause in self.terms.retry.pauses() {
@@ -196,8 +196,8 @@ impl Session {
         Transaction::new(self)
     }
 
-    /// Asks a request, and goes on: the answer comes by the ticket. Up to 1,024 calls are on their way at once, and answered in the order
-    /// in which they were asked; more wait in line.
+    /// Makes a request and goes on: the answer comes by the ticket. Up to 1,024 calls are on their way at once, and answered in the order
+    /// of asking; more wait in line.
     pub fn ask<T>(&self, request: Request<T>) -> Ticket<T> {
         ask(&self.shared, request)
     }
@@ -218,21 +218,21 @@ impl Caller for &Session {
     }
 }
 
-/// What is heard and kept. Look-ups ask nobody.
+/// Events, and kept answers. Look-ups send nothing.
 impl Session {
     look_ups! {}
 
-    /// The state. `None` if something was due on the connection for more than a sixth of the timeout and the session's thread has not
-    /// come to do it, as when the process was stopped, or that thread has panicked: then nobody knows.
+    /// The state. `None` if something was due on the connection for more than a sixth of the timeout and the session's thread has not come
+    /// to do it, for example because the process was stopped or that thread has panicked: then nobody knows.
     pub fn state(&self) -> Option<State> {
         self.shared
             .look(|engine| engine.state(engine.machine().timeout() / LATENESS))
     }
 
-    /// The next event: one that waits, or the first that comes until this instant, or `None` if none has come by then. Without an
-    /// instant it waits until there is one. Once the session has expired or is closed, and no event waits, there is none.
+    /// Returns the next event. If none waits, it waits for one until this instant, or without a limit. `None` if none has come by then, or
+    /// if the session has expired or is closed.
     ///
-    /// Each event is told once: if several threads ask, to one of them. Of the events that nobody takes the last 1,024 are kept.
+    /// Each event comes once: if several threads ask, to one of them. Of events that nobody takes, the last 1,024 are kept.
     ///
     /// # Errors
     ///
@@ -251,22 +251,22 @@ impl Session {
         self.shared.with(act)
     }
 
-    /// Waits until there are news of what is followed by this ticket, or the session is over.
+    /// Waits until the subject of this ticket has an update, or the session is over.
     pub(crate) fn wait_for_update(&self, ticket: u64) {
         self.wait_while(None, |engine| !engine.has_update(ticket));
     }
 
-    /// One that polls.
+    /// A new poller.
     pub(crate) fn poller(&self) -> Poller {
         self.shared.poller()
     }
 
-    /// Follows a node: the iterator waits, and gives what the node holds at first, and at each change, even if it changed while there
-    /// was no connection. Changes in quick succession may be given as one, the last. The core reads the node again after each report, on
-    /// a new connection if that is needed, and in each new session, and gives what is good. It takes no events.
+    /// Follows a node: the iterator waits, and returns the node's content at first, and at each change, even if it changed without a
+    /// connection. Changes in quick succession may come as one, the last. The core reads the node again after each report, on a new
+    /// connection if need be, and in each new session, and returns only good content. It takes no events.
     ///
-    /// If the server refuses a read for a reason that does not pass, that is given once, as an error, and the node is read again each
-    /// second: what comes then is given too. It ends if the session is closed, or after an error that says why the session is over:
+    /// If the server refuses a read for a reason that does not pass, the iterator returns that once, as an error, and reads the node again
+    /// each second, and then goes on. It ends if the session is closed, or after an error that says why the session is over:
     /// [`SessionExpired`](crate::NoReply::SessionExpired) unless the session [renews](SessionOptions::renews) itself.
     ///
     /// ```no_run
@@ -288,8 +288,8 @@ impl Session {
         Follow::new(self, path)
     }
 
-    /// Follows all nodes at and below a path, of which there are 65,536 at most: they are read with watches, and what changes is read
-    /// again, until the [`Tree`] is dropped. If no node of the path is there, its making is waited for.
+    /// Follows all nodes at and below a path, at most 65,536: reads them with watches, and reads again what changes, until the [`Tree`] is
+    /// dropped. If there is no node at the path, it waits for its creation.
     ///
     /// ```no_run
     /// use dirwolleu::Session;
@@ -315,7 +315,7 @@ impl Session {
         self.bounded_tree(path, MOST_NODES)
     }
 
-    /// The same, of this many nodes at most: if there are more, that is its [`trouble`](Tree::trouble), until there are fewer.
+    /// The same for at most this many nodes: while there are more, that is the tree's [`trouble`](Tree::trouble).
     ///
     /// # Errors
     ///
@@ -325,36 +325,36 @@ impl Session {
         Ok(Tree::new(Arc::clone(&self.shared), shown))
     }
 
-    /// Has whoever waits look again.
+    /// Makes all waiting threads look again.
     pub(crate) fn wake(&self) {
         self.shared.wake();
     }
 
-    /// Waits while this holds, until this instant at most, and until the session is over.
+    /// Waits while this holds, at most until this instant, and until the session is over.
     pub(crate) fn wait_while(&self, until: Option<Instant>, holds: impl Fn(&Engine) -> bool) {
         let holds = |engine: &Engine| !engine.is_over() && holds(engine);
         self.shared.wait_while(until, holds);
     }
 
-    /// The same, of what is looked up.
+    /// The same for a look-up.
     pub(crate) fn wait_until(&self, until: Option<Instant>, holds: impl Fn(View<'_>) -> bool) {
         self.wait_while(until, |engine| holds(View::of(engine)));
     }
 
-    /// Other hosts. The session moves to another one, as after a cut, if its own is not among them, and by the chance by which there are
-    /// more than before: as those of ZooKeeper's own clients do. Else it stays.
+    /// Changes the hosts. If the session's host is not among the new ones, the session moves to another one, as after a cut; if there are
+    /// more hosts than before, it moves with the chance by which the list has grown, as ZooKeeper's own clients do. Else it stays.
     ///
     /// # Errors
     ///
-    /// The hosts, if they have another chroot than the session: then nothing is changed.
+    /// The hosts themselves, if they have another chroot than the session: then nothing has changed.
     pub fn change_hosts(&self, hosts: Hosts) -> Result<(), Hosts> {
         let changed = self.shared.with(|engine| engine.change_hosts(hosts));
         self.shared.wake();
         changed
     }
 
-    /// Forgets all stale answers. What is kept is bounded by nothing but memory: who goes from path to path calls this now and then. What is
-    /// followed is followed still.
+    /// Forgets all stale answers. Only memory bounds the kept answers: call this now and then if you go from path to path. Followed nodes
+    /// stay followed.
     pub fn forget_stale(&self) {
         self.shared.with(Engine::forget_stale);
     }
@@ -371,7 +371,7 @@ impl fmt::Debug for Session {
     }
 }
 
-/// A handle of a [`Session`], to be cloned for each thread that uses it. It has all that a session has.
+/// A handle of a [`Session`], to clone for each thread that uses it. It has everything that a session has.
 ///
 /// ```no_run
 /// use dirwolleu::Session;
@@ -392,7 +392,7 @@ pub struct SharedSession {
 }
 
 impl SharedSession {
-    /// Ends the session for all that have a handle of it; see [`Session::close`].
+    /// Ends the session for everyone with a handle of it; see [`Session::close`].
     ///
     /// # Errors
     ///

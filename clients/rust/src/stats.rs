@@ -1,4 +1,4 @@
-//! What is observed of a session, and counted. Tested, and not proved.
+//! Observations and counts of a session. Tested, not proved.
 
 use crate::error::ErrorKind;
 use crate::fault::{Code, NoReply};
@@ -11,7 +11,7 @@ use std::mem;
 use std::sync::Arc;
 use std::time::Duration;
 
-/// Names of the variants of an enum, as metrics have them, in their order.
+/// Defines an enum whose variants have names in metrics.
 macro_rules! named {
     ($(#[$doc:meta])* $type:ident: $($(#[$of:meta])* $variant:ident $name:literal,)*) => {
         $(#[$doc])*
@@ -24,7 +24,7 @@ macro_rules! named {
         impl $type {
             const ALL: &'static [$type] = &[$($type::$variant),*];
 
-            /// The name that metrics have for it, in each language of this library.
+            /// Its name in metrics, which is the same in each language of this library.
             #[must_use]
             pub const fn name(self) -> &'static str {
                 match self {
@@ -36,15 +36,15 @@ macro_rules! named {
 }
 
 named! {
-    /// Why a connection was over.
+    /// Why a connection ended.
     ConnectionEnd:
     /// The server or the network ended it.
     Ended "ended",
-    /// Nothing came in time, or not the answer.
+    /// Nothing came in time, or the answer did not.
     Silent "silent",
-    /// What came does not read.
+    /// The bytes did not parse.
     Unreadable "unreadable",
-    /// The server is behind what was seen.
+    /// The server is behind the greatest zxid seen.
     Behind "server_behind",
     /// The server refused to set the watches again.
     WatchesRefused "watches_refused",
@@ -52,45 +52,45 @@ named! {
     Expired "expired",
     /// The session was closed.
     Closed "closed",
-    /// The server does not take the credentials of the session.
+    /// The server refused the session's credentials.
     CredentialsRefused "credentials_refused",
-    /// It was given up for another reason: memory ran out, or the session was let go.
+    /// It was given up for another reason: memory ran out, or the session was dropped.
     Dropped "dropped",
 }
 
 named! {
-    /// What a call was about.
+    /// The kind of a call.
     CallKind:
-    /// Whether a node is there.
+    /// Asks whether there is a node.
     Exists "exists",
-    /// The data of a node.
+    /// Reads the data of a node.
     Get "get",
-    /// The names of children.
+    /// Reads the names of children.
     Children "children",
-    /// Data that are set.
+    /// Sets data.
     Set "set",
-    /// A node that is made.
+    /// Creates a node.
     Create "create",
-    /// A node that is deleted.
+    /// Deletes a node.
     Delete "delete",
     /// A transaction.
     Transaction "transaction",
     /// A sync.
     Sync "sync",
-    /// An ACL, which is read or set.
+    /// Reads or sets an ACL.
     Acl "acl",
-    /// Another one.
+    /// Any other call.
     Other "other",
-    /// The end of the session.
+    /// Ends the session.
     Close "close",
 }
 
 named! {
-    /// What has come of a call.
+    /// The outcome of a call.
     CallOutcome:
-    /// Its reply.
+    /// A reply.
     Ok "ok",
-    /// The server's code.
+    /// The server refused it, with a code.
     Refused "refused",
     /// It was lost with its connection: it may have happened.
     Lost "lost",
@@ -102,7 +102,7 @@ named! {
     NotConnected "not_connected",
     /// Its limit came after it was sent.
     Late "late",
-    /// It was refused before it was sent, as of a text that is no path, or its answer is too long.
+    /// It was refused before it was sent, for example because a text is no path; or its answer is too long.
     NotAsked "not_asked",
 }
 
@@ -133,7 +133,7 @@ impl CallKind {
 }
 
 impl CallOutcome {
-    /// What has come of a call that fails so.
+    /// The outcome of a call with this error.
     pub(crate) fn of(kind: &ErrorKind) -> CallOutcome {
         match kind {
             ErrorKind::Server(_) | ErrorKind::RolledBack { .. } => CallOutcome::Refused,
@@ -151,7 +151,7 @@ impl CallOutcome {
 }
 
 impl ConnectionEnd {
-    /// By what the machine has said of a connection that it gives up.
+    /// The end of a connection that the machine gives up for this cause.
     pub(crate) fn of(cause: &Cause) -> ConnectionEnd {
         match cause {
             Cause::Frame | Cause::Payload => ConnectionEnd::Unreadable,
@@ -162,33 +162,33 @@ impl ConnectionEnd {
     }
 }
 
-/// What is observed of a session, of [`SessionOptions::observe`](crate::SessionOptions::observe): for metrics and traces.
+/// An observation of a session, for metrics and traces: see [`SessionOptions::observe`](crate::SessionOptions::observe).
 #[derive(Clone, Debug, PartialEq, Eq)]
 #[non_exhaustive]
 pub enum Observation {
     /// An attempt to connect has failed.
     AttemptFailed {
-        /// Why, with the address.
+        /// The reason, with the address.
         why: String,
     },
     /// A server has accepted the session.
     Connected {
         /// Its address.
         server: String,
-        /// The number of the session.
+        /// The id of the session.
         session: i64,
     },
     /// A connection is over.
     ConnectionEnded(ConnectionEnd),
     /// The session has expired.
     SessionLost,
-    /// A call has its answer, or will have none.
+    /// A call has its answer, or will never have one.
     Answered {
-        /// What it was about.
+        /// The kind of the call.
         kind: CallKind,
-        /// The node that it was about.
+        /// The path of its node.
         path: Option<String>,
-        /// What has come of it.
+        /// Its outcome.
         outcome: CallOutcome,
         /// The server's code, if it was refused.
         code: Option<Code>,
@@ -199,19 +199,19 @@ pub enum Observation {
     },
     /// This many bytes came from the server.
     BytesIn(usize),
-    /// This many bytes were handed to the connection.
+    /// This many bytes went to the connection.
     BytesOut(usize),
-    /// The record of the session cannot be written any further, and ends. The session goes on.
+    /// The record of the session ends, because it cannot be written any further. The session goes on.
     RecordEnded {
-        /// Why.
+        /// The reason.
         why: String,
     },
 }
 
-/// What is told what is observed.
+/// Gets each observation.
 pub(crate) type Observer = Arc<dyn Fn(&Observation) + Send + Sync>;
 
-/// Bounds of how long calls take, with their names.
+/// The bounds of how long calls take, with their names.
 const BOUNDS: [(Duration, &str); 13] = [
     (Duration::from_millis(1), "0.001"),
     (Duration::from_millis(2), "0.002"),
@@ -228,7 +228,7 @@ const BOUNDS: [(Duration, &str); 13] = [
     (Duration::from_secs(10), "10"),
 ];
 
-/// The place of the least bound that such a time does not pass: most do not pass the first one.
+/// The place of the least bound that a time does not exceed. Most times do not exceed the first.
 #[inline]
 fn place_of(took: Duration) -> usize {
     if took <= BOUNDS[0].0 {
@@ -246,7 +246,7 @@ fn later_place_of(took: Duration) -> usize {
 /// How long calls took.
 #[derive(Clone, Copy, Debug, Default, PartialEq, Eq)]
 pub struct Histogram {
-    /// Those within each bound, and above the one before; the last has no bound.
+    /// The calls within each bound and above the one before; the last has no bound.
     within: [u64; BOUNDS.len() + 1],
     sum: Duration,
 }
@@ -258,13 +258,13 @@ impl Histogram {
         self.sum += took;
     }
 
-    /// How many calls there were.
+    /// The number of calls.
     #[must_use]
     pub fn count(&self) -> u64 {
         self.within.iter().sum()
     }
 
-    /// How long all of them took.
+    /// The time that all of them took.
     #[must_use]
     pub fn sum(&self) -> Duration {
         self.sum
@@ -280,7 +280,7 @@ impl Histogram {
     }
 }
 
-/// What a session has counted since it was opened, and what it holds: of [`Session::stats`](crate::Session::stats).
+/// The counts of a session since it was opened, and what it holds: from [`Session::stats`](crate::Session::stats).
 ///
 /// ```no_run
 /// use dirwolleu::{CallKind, CallOutcome, Session};
@@ -300,21 +300,21 @@ impl Histogram {
 pub struct Stats {
     /// How often a server has accepted the session.
     pub connections: u64,
-    /// Attempts of which no connection came.
+    /// Attempts that led to no connection.
     pub attempts_failed: u64,
     /// Sessions that have expired.
     pub sessions_lost: u64,
     /// Bytes that came from servers.
     pub bytes_in: u64,
-    /// Bytes that were handed to connections.
+    /// Bytes that went to connections.
     pub bytes_out: u64,
-    /// How long ago a server was heard: how old what is followed, and good, may be. None before the first word.
+    /// How long ago a server was heard, which bounds how old good answers of followed nodes may be. `None` before the first byte.
     pub age: Option<Duration>,
     /// The nodes that are followed.
     pub nodes: usize,
     /// The trees that are followed.
     pub trees: usize,
-    /// The bytes of paths and data that are kept of what is followed.
+    /// The bytes of the paths and kept data of followed nodes.
     pub kept_bytes: usize,
     ends: [u64; ConnectionEnd::ALL.len()],
     calls: [[u64; CallOutcome::ALL.len()]; CallKind::ALL.len()],
@@ -322,19 +322,19 @@ pub struct Stats {
 }
 
 impl Stats {
-    /// Connections that were over for this reason.
+    /// The number of connections that ended for this reason.
     #[must_use]
     pub fn ends(&self, end: ConnectionEnd) -> u64 {
         self.ends[end as usize]
     }
 
-    /// Calls of this kind of which this has come.
+    /// The number of calls of this kind with this outcome.
     #[must_use]
     pub fn calls(&self, kind: CallKind, outcome: CallOutcome) -> u64 {
         self.calls[kind as usize][outcome as usize]
     }
 
-    /// How long calls of this kind took, from the question to the answer.
+    /// How long calls of this kind took, from the request to the answer.
     #[must_use]
     pub fn times(&self, kind: CallKind) -> &Histogram {
         &self.times[kind as usize]
@@ -346,7 +346,7 @@ impl Stats {
             Observation::Connected { .. } => self.connections += 1,
             Observation::ConnectionEnded(end) => self.ends[*end as usize] += 1,
             Observation::SessionLost => self.sessions_lost += 1,
-            // The first three are counted by functions of their own.
+            // The first three have functions of their own.
             Observation::Answered { .. }
             | Observation::BytesIn(_)
             | Observation::BytesOut(_)
@@ -362,11 +362,11 @@ impl Stats {
         }
     }
 
-    /// The text format of Prometheus, with the names that each language of this library has.
+    /// The counts in the text format of Prometheus, with the names that each language of this library uses.
     #[must_use]
     pub fn prometheus(&self) -> String {
         let mut page = String::new();
-        // A String takes whatever is written.
+        // A String takes everything.
         let _ = self.write_counters(&mut page);
         let _ = self.write_times(&mut page);
         let _ = self.write_rest(&mut page);
@@ -485,7 +485,7 @@ fn number(page: &mut String, name: &str, help: &str, number: u64) -> fmt::Result
     writeln!(page, "dirwolleu_{name} {number}")
 }
 
-/// The stats of a session, and what is to be told its observer when its lock is open.
+/// The stats of a session, and the observations that its observer gets once the lock is free.
 #[derive(Debug, Default)]
 pub(crate) struct Tally {
     pub(crate) stats: Stats,
@@ -501,7 +501,7 @@ impl Tally {
         }
     }
 
-    /// This many bytes came.
+    /// Counts bytes that came.
     pub(crate) fn note_bytes_in(&mut self, count: usize) {
         self.stats.bytes_in += count as u64;
         if self.is_observed {
@@ -509,7 +509,7 @@ impl Tally {
         }
     }
 
-    /// This many bytes are handed to the connection.
+    /// Counts bytes that go to the connection.
     pub(crate) fn note_bytes_out(&mut self, count: usize) {
         self.stats.bytes_out += count as u64;
         if self.is_observed {
@@ -517,7 +517,7 @@ impl Tally {
         }
     }
 
-    /// A call has ended so, by now.
+    /// Notes how a call ended by now.
     #[inline]
     pub(crate) fn note_call(&mut self, call: &AskedCall<'_>, ending: Ending<'_>, now: Duration) {
         let (kind, outcome, took) = call.came(ending, now);
@@ -527,18 +527,18 @@ impl Tally {
         }
     }
 
-    /// The observer is to be told.
+    /// Keeps an observation for the observer.
     #[cold]
     fn tell(&mut self, seen: Observation) {
         self.seen.push(seen);
     }
 
-    /// Whether the observer is to be told something.
+    /// Whether the observer has something to get.
     pub(crate) fn has_seen(&self) -> bool {
         !self.seen.is_empty()
     }
 
-    /// What the observer is to be told.
+    /// Takes the observations for the observer.
     pub(crate) fn take_seen(&mut self) -> Vec<Observation> {
         mem::take(&mut self.seen)
     }

@@ -14,19 +14,19 @@ use std::sync::{Arc, Mutex, MutexGuard, PoisonError, Weak};
 use std::task::{Context, Poll, Waker};
 use std::time::{Duration, Instant};
 
-/// What has become of a call.
+/// The stage of a call.
 #[derive(Debug, Default)]
 struct Stage {
-    /// How it ends, from its answer until that is taken.
+    /// Its outcome, from its answer until someone takes it.
     ending: Option<CallResult>,
     /// Whether the answer may be taken.
     is_told: bool,
-    /// That of the last poll.
+    /// The waker of the last poll.
     waker: Option<Waker>,
 }
 
 impl Stage {
-    /// The answer, if it may be taken and was not.
+    /// Takes the answer, if that is allowed and nobody has taken it.
     fn take(&mut self) -> Option<CallResult> {
         if self.is_told {
             return self.ending.take();
@@ -35,25 +35,25 @@ impl Stage {
     }
 }
 
-/// How a call ends.
+/// The outcome of a call.
 pub(crate) type CallResult = Result<Answer, Error>;
 
-/// What is noted of that: the zxid of the answer, or why there is none.
+/// What is noted of an outcome: the zxid of the answer, or why there is none.
 pub(crate) type Ending<'a> = Result<i64, &'a ErrorKind>;
 
-/// A call that is asked: what it is about, and when that was.
+/// A call, with its node and its time.
 #[derive(Debug)]
 pub(crate) struct AskedCall<'a> {
     path: Cow<'a, str>,
     has_node: bool,
     kind: CallKind,
     clock: Clock,
-    /// How long the clock had run then.
+    /// The clock's time when the call was made.
     at: Duration,
 }
 
 impl<'a> AskedCall<'a> {
-    /// This call, which is asked now at this path, by the clock of its session.
+    /// A call that is made now, at this path, by the clock of its session.
     #[inline]
     pub(crate) fn now(path: Cow<'a, str>, call: LentCall<'_>, clock: Clock) -> AskedCall<'a> {
         AskedCall {
@@ -65,7 +65,7 @@ impl<'a> AskedCall<'a> {
         }
     }
 
-    /// How the call ends with this outcome, after this search for a server if there was one.
+    /// The call's result with this outcome, after this search for a server if there was one.
     #[inline]
     pub(crate) fn ending(&self, outcome: Outcome, search: Option<&Search>) -> CallResult {
         match outcome {
@@ -74,7 +74,7 @@ impl<'a> AskedCall<'a> {
         }
     }
 
-    /// The error of the call that fails so, after that search.
+    /// The error of a call that fails like this, after that search.
     #[cold]
     pub(crate) fn error(&self, kind: ErrorKind, search: Option<&Search>) -> Error {
         let error = Error::about(self.node(), kind);
@@ -84,7 +84,7 @@ impl<'a> AskedCall<'a> {
         }
     }
 
-    /// What the call was about, what has come of it by this ending, and the time since it was asked. The clock has run for so long.
+    /// The kind of the call, its outcome, and the time since it was made, with the clock at `now`.
     #[inline]
     pub(crate) fn came(
         &self,
@@ -98,7 +98,7 @@ impl<'a> AskedCall<'a> {
         (self.kind, outcome, now.saturating_sub(self.at))
     }
 
-    /// What is observed of the call by that ending.
+    /// The observation of the call.
     #[inline(never)]
     pub(crate) fn observed(&self, ending: Ending<'_>, now: Duration) -> Observation {
         let (kind, outcome, took) = self.came(ending, now);
@@ -122,18 +122,18 @@ impl<'a> AskedCall<'a> {
         &self.path
     }
 
-    /// The path of the node that the call is about. `None` if it is about no node.
+    /// The path of the call's node. `None` if the call is about no node.
     fn node(&self) -> Option<&str> {
         self.has_node.then_some(self.path())
     }
 
-    /// When that was, as the time for which the clock had run.
+    /// The clock's time when the call was made.
     pub(crate) fn at(&self) -> Duration {
         self.at
     }
 }
 
-/// Where the answer to a call is put.
+/// The place for the answer to a call.
 #[derive(Debug)]
 pub(crate) struct Slot {
     call: AskedCall<'static>,
@@ -142,7 +142,7 @@ pub(crate) struct Slot {
 }
 
 impl Slot {
-    /// Of this call, which is asked now at this path, by the clock of its session.
+    /// A place for the answer to a call that is made now, at this path, by the clock of its session.
     pub(crate) fn new(path: String, call: LentCall<'_>, clock: Clock) -> Arc<Slot> {
         Arc::new(Slot {
             call: AskedCall::now(path.into(), call, clock),
@@ -159,13 +159,13 @@ impl Slot {
         self.stage.lock().unwrap_or_else(PoisonError::into_inner)
     }
 
-    /// Puts the answer there, after this search for a server if there was one. Nobody takes it before it is told.
+    /// Puts the answer there, after this search for a server if there was one. Nobody takes it before [`tell`](Slot::tell).
     pub(crate) fn put(&self, outcome: Outcome, search: Option<&Search>) {
         let ending = self.call.ending(outcome, search);
         self.stage().ending = Some(ending);
     }
 
-    /// Looks at the answer that is put there and is not told yet.
+    /// Looks at the answer that was put there and is not yet delivered.
     pub(crate) fn with_ending<R>(&self, look: impl FnOnce(Ending<'_>) -> R) -> Option<R> {
         let stage = self.stage();
         let ending = stage.ending.as_ref()?;
@@ -174,7 +174,7 @@ impl Slot {
         ))
     }
 
-    /// The answer may be taken: wakes who waits for it.
+    /// Delivers the answer: wakes whoever waits for it.
     pub(crate) fn tell(&self) {
         let mut stage = self.stage();
         stage.is_told = true;
@@ -190,12 +190,12 @@ impl Slot {
         self.stage().is_told
     }
 
-    /// The answer, if it was told and not taken.
+    /// Takes the answer, if it is delivered and nobody has taken it.
     pub(crate) fn take(&self) -> Option<CallResult> {
         self.stage().take()
     }
 
-    /// The answer, once it is there. `None` if it is not there by this instant.
+    /// Takes the answer once it is delivered. `None` if it is not by this instant.
     pub(crate) fn wait(&self, until: Option<Instant>) -> Option<CallResult> {
         let mut stage = self.stage();
         loop {
@@ -221,16 +221,16 @@ impl Slot {
     }
 }
 
-/// How long a call is waited for before its session is asked again that is late to tell its limit.
+/// How long to wait for a call before asking its session again, which is late to notice its limit.
 const BETWEEN_LOOKS: Duration = Duration::from_millis(10);
 
-/// Ends calls whose limit has come.
+/// Ends calls that have reached their limit.
 pub(crate) trait ExpireCalls: Send + Sync {
-    /// The limit of a call has come, which was this moment.
+    /// Notes that a call has reached its limit, this moment.
     fn expire_calls(&self, limit: Moment);
 }
 
-/// To which moment a call waits, by the clock of its session.
+/// The moment until which a call waits, by the clock of its session.
 pub(crate) struct CallLimit {
     pub(crate) moment: Moment,
     pub(crate) clock: Clock,
@@ -238,14 +238,14 @@ pub(crate) struct CallLimit {
 }
 
 impl CallLimit {
-    /// The limit, or soon if it has come.
+    /// The limit, or a moment soon if it has come.
     fn next(&self) -> Option<Instant> {
         let now = Instant::now();
         let left = self.moment.saturating_duration_since(self.clock.at(now));
         now.checked_add(left.max(BETWEEN_LOOKS))
     }
 
-    /// Has the session tell what is late.
+    /// Makes the session end the calls that are late.
     fn expire(&self) {
         if let Some(session) = self.session.upgrade() {
             session.expire_calls(self.moment);
@@ -253,13 +253,13 @@ impl CallLimit {
     }
 }
 
-/// A ticket for the answer to a call that was asked by [`Session::ask`](crate::Session::ask).
+/// A ticket for the answer to a call, from [`Session::ask`](crate::Session::ask).
 ///
-/// The call is on its way, or waits for a connection; it happens even if the ticket is let go. Each ticket is answered: as its session
-/// says, by a reply, by an error, or when the connection ends.
+/// The call is on its way, or waits for a connection; it happens even if the ticket is dropped. Each ticket gets its answer: a reply, an
+/// error, or the loss when the connection ends, as its session says.
 ///
-/// A ticket is a future too, of no runtime: the thread of its session wakes who awaits it. That thread may come to the limit of a call late,
-/// by a third of the timeout at most and by an attempt to connect: who waits by [`wait`](Ticket::wait) does not wait for it.
+/// A ticket is also a future, for any runtime: its session's thread wakes whoever awaits it. That thread may notice the limit of a call
+/// late, by at most a third of the timeout and by an attempt to connect; [`wait`](Ticket::wait) does not depend on it.
 ///
 /// ```no_run
 /// use dirwolleu::{Request, Session};
@@ -288,7 +288,7 @@ impl<T> Ticket<T> {
         Ticket { slot, read, limit }
     }
 
-    /// Waits for the answer, or until the limit of the call has come.
+    /// Waits for the answer, or until the call reaches its limit.
     ///
     /// # Errors
     ///
@@ -298,8 +298,8 @@ impl<T> Ticket<T> {
         (self.read)(ending)
     }
 
-    /// Waits for the answer, for so long at most. The call itself goes on, to its own limit: [`Request::within`](crate::Request::within)
-    /// sets that.
+    /// Waits for the answer, at most this long. The call itself goes on, to its own limit: [`Request::within`](crate::Request::within) sets
+    /// that.
     ///
     /// # Errors
     ///
@@ -309,7 +309,7 @@ impl<T> Ticket<T> {
         (self.read)(ending)
     }
 
-    /// How the call ends, or that it has not by this instant.
+    /// The outcome of the call, or a timeout if there is none by this instant.
     fn ending(&self, until: Option<Instant>) -> CallResult {
         loop {
             if let Some(ending) = self.slot.take() {
@@ -326,7 +326,7 @@ impl<T> Ticket<T> {
         }
     }
 
-    /// Whether the answer is there, so that [`wait`](Ticket::wait) does not wait.
+    /// Whether the answer is there, so that [`wait`](Ticket::wait) does not block.
     pub fn is_answered(&self) -> bool {
         self.slot.answered()
     }
@@ -337,7 +337,7 @@ impl<T> Future for Ticket<T> {
 
     /// # Panics
     ///
-    /// Where it is polled again after its answer.
+    /// If polled again after its answer.
     fn poll(self: Pin<&mut Self>, context: &mut Context<'_>) -> Poll<Result<T, Error>> {
         self.slot.poll(context).map(self.read)
     }

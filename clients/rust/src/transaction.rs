@@ -18,7 +18,7 @@ const DELETE: i32 = 2;
 const SET_DATA: i32 = 5;
 const CHECK: i32 = 13;
 
-/// What an operation of a transaction has brought.
+/// The result of an operation of a transaction.
 ///
 /// ```
 /// use dirwolleu::Change;
@@ -35,26 +35,26 @@ const CHECK: i32 = 13;
 #[derive(Clone, Debug, PartialEq, Eq)]
 #[non_exhaustive]
 pub enum Change {
-    /// A node was made: its path, which ends in ten digits more if it is sequential.
+    /// A node was created at this path, to which a sequential create appends ten digits.
     Created(String),
-    /// The data of a node were set: what is known of it.
+    /// The data of a node were set; this is its `Stat`.
     Set(Stat),
     /// A node was deleted.
     Deleted,
-    /// A node has the version that was asked for.
+    /// A node has the version that the check asked for.
     Checked,
 }
 
-/// Adds an operation after those that are there, by `with`.
+/// Appends an operation, by `with`.
 macro_rules! operations {
     () => {
-        /// Checks that a node has this version; [`ANY_VERSION`](crate::ANY_VERSION) asks for no more than that it is there.
+        /// Checks that a node has this version; [`ANY_VERSION`](crate::ANY_VERSION) only checks that it exists.
         pub fn check(self, path: &str, version: i32) -> Self {
             let path = String::from(path);
             self.with(Operation::Check { path, version })
         }
 
-        /// Sets the data of a node that has this version; [`ANY_VERSION`](crate::ANY_VERSION) is that of each node.
+        /// Sets the data of a node if it has this version; [`ANY_VERSION`](crate::ANY_VERSION) matches any.
         pub fn set(self, path: &str, data: &[u8], version: i32) -> Self {
             let (path, data) = (String::from(path), data.to_vec());
             self.with(Operation::Set {
@@ -64,12 +64,12 @@ macro_rules! operations {
             })
         }
 
-        /// Makes a node, with which anybody may do anything.
+        /// Creates a node that is open to everybody.
         pub fn create(self, path: &str, data: &[u8], mode: Mode) -> Self {
             self.create_with_acls(path, data, mode, &[Acl::anyone(Permissions::ALL)])
         }
 
-        /// Makes a node with this ACL.
+        /// Creates a node with this ACL.
         pub fn create_with_acls(self, path: &str, data: &[u8], mode: Mode, acls: &[Acl]) -> Self {
             let (path, data, acls) = (String::from(path), data.to_vec(), acls.to_vec());
             self.with(Operation::Create {
@@ -80,7 +80,7 @@ macro_rules! operations {
             })
         }
 
-        /// Deletes a node that has this version and no children; [`ANY_VERSION`](crate::ANY_VERSION) is that of each node.
+        /// Deletes a node if it has this version and no children; [`ANY_VERSION`](crate::ANY_VERSION) matches any.
         pub fn delete(self, path: &str, version: i32) -> Self {
             let path = String::from(path);
             self.with(Operation::Delete { path, version })
@@ -88,7 +88,7 @@ macro_rules! operations {
     };
 }
 
-/// Operations that happen together or not at all: of [`Session::transaction`].
+/// Operations that happen together or not at all: from [`Session::transaction`].
 ///
 /// ```no_run
 /// use dirwolleu::{ErrorKind, Mode, Session};
@@ -133,12 +133,12 @@ impl<'a> Transaction<'a> {
 
     operations! {}
 
-    /// Asks for all of it, and waits: what each operation has brought, in their order.
+    /// Asks for all of it, waits, and returns the result of each operation, in their order.
     ///
     /// # Errors
     ///
-    /// [`ErrorKind::RolledBack`](crate::ErrorKind::RolledBack) if an operation was refused, and then nothing has happened; and the errors of any call. If it
-    /// [may have happened](Error::may_have_happened), it has as a whole or not at all.
+    /// [`ErrorKind::RolledBack`](crate::ErrorKind::RolledBack) if an operation was refused, and then nothing has happened; and the errors
+    /// of any call. If it [may have happened](Error::may_have_happened), it has as a whole or not at all.
     pub fn commit(self) -> Result<Vec<Change>, Error> {
         self.session.call(Request::transaction(self.operations))
     }
@@ -157,7 +157,7 @@ impl fmt::Debug for Transaction<'_> {
     }
 }
 
-/// Operations that happen together or not at all, for [`Request::transaction`]. [`Session::transaction`] has the same in one.
+/// Operations that happen together or not at all, for [`Request::transaction`]. [`Session::transaction`] does the same in one step.
 ///
 /// ```
 /// use dirwolleu::{Operations, Request};
@@ -172,7 +172,7 @@ pub struct Operations {
 }
 
 impl Operations {
-    /// None.
+    /// No operations.
     pub fn new() -> Operations {
         Operations::default()
     }
@@ -185,7 +185,7 @@ impl Operations {
     operations! {}
 }
 
-/// It tells no data.
+/// Prints no data.
 impl fmt::Debug for Operations {
     fn fmt(&self, f: &mut fmt::Formatter<'_>) -> fmt::Result {
         f.debug_struct("Operations")
@@ -195,7 +195,8 @@ impl fmt::Debug for Operations {
 }
 
 impl Request<Vec<Change>> {
-    /// Operations that happen together or not at all: what each has brought, in their order, or [`ErrorKind::RolledBack`](crate::ErrorKind::RolledBack).
+    /// Makes operations together or not at all. Returns the result of each, in their order, or fails with
+    /// [`ErrorKind::RolledBack`](crate::ErrorKind::RolledBack).
     pub fn transaction(operations: Operations) -> Request<Vec<Change>> {
         let call = Call::from(RawCall::Transaction(operations.list));
         Request::new("/", call, |ending| {
@@ -238,7 +239,7 @@ impl Operation {
         }
     }
 
-    /// The error of a transaction in which it is refused, at this place.
+    /// The error of a transaction in which the operation at this index is refused.
     fn refusal(&self, index: usize, code: Code) -> ErrorKind {
         let path = match self {
             Operation::Create { path, .. } => refused_of_create(code, path),
@@ -278,7 +279,7 @@ impl Operation {
         Ok(())
     }
 
-    /// What it has brought. `None` if that does not read.
+    /// Its result. `None` if the bytes do not parse.
     fn read(&self, reply: &mut Reader<'_>, root: &Chroot) -> Option<Change> {
         Some(match self {
             Operation::Check { .. } => Change::Checked,
@@ -303,8 +304,8 @@ pub(crate) fn spell(
     Ok(())
 }
 
-/// What each operation has brought, or which was refused: the first whose code is not 0, since those before it have that one. `None` if that
-/// does not read.
+/// The result of each operation, or which was refused: the first whose code is not 0, because those before it have code 0. `None` if the
+/// bytes do not parse.
 pub(crate) fn read(
     operations: &[Operation],
     reply: &mut Reader<'_>,
@@ -351,12 +352,12 @@ mod tests {
         Operation::Check { path, version }
     }
 
-    /// What these operations make of a reply with this body.
+    /// The outcome of these operations with this body of a reply.
     fn told(operations: &[Operation], body: &[u8]) -> Option<Result<Vec<Change>, ErrorKind>> {
         read(operations, &mut Reader::new(body), &Chroot::default())
     }
 
-    /// The answer of version 3.8.0 to a transaction whose check is refused, of which the operation before and the one after are told too.
+    /// The answer of version 3.8.0 to a transaction whose check is refused. It also has the operations before and after.
     #[test]
     fn the_operation_that_was_refused_is_told() {
         let mut body = Vec::new();

@@ -1,4 +1,4 @@
-//! Look-ups of one moment.
+//! Look-ups at one moment.
 
 use crate::cache::{Children, DataAnswer, Kept, Mark};
 use crate::engine::Engine;
@@ -11,7 +11,7 @@ use std::borrow::Cow;
 use std::fmt;
 use std::time::Duration;
 
-/// What a session knows at one moment: nothing happens between two look-ups of one view. So answers that are all good are what the
+/// A session's knowledge at one moment: nothing happens between two look-ups of one view. So answers that are all good are what the
 /// servers' history has at one zxid, that of [`last_zxid`](View::last_zxid).
 ///
 /// ```no_run
@@ -39,8 +39,7 @@ impl<'a> View<'a> {
         View { engine }
     }
 
-    /// Looks up at a path of the program's, by that of the servers. If the session is over nothing is kept, even if the machine was not
-    /// told so.
+    /// Looks up one of the program's paths. If the session is over nothing is kept, even if the machine does not know it.
     fn at<T>(
         self,
         path: &str,
@@ -52,21 +51,21 @@ impl<'a> View<'a> {
     }
 }
 
-/// Look-ups ask nobody. Those of a path fail with [`Fault::NotPath`] and [`Fault::NoMemory`].
+/// Look-ups send nothing. Those of a path fail with [`Fault::NotPath`] and [`Fault::NoMemory`].
 impl View<'_> {
-    /// The greatest zxid seen, not below 0, that of a transaction's reply too. A good answer is what the servers' history has at it.
+    /// Returns the greatest zxid seen, at least 0, also in a transaction's reply. Good answers are what the servers' history has at it.
     pub fn last_zxid(&self) -> i64 {
         self.engine.machine().last_zxid()
     }
 
-    /// The timeout of the session: the one that a server granted last, or the one to ask for.
+    /// Returns the session's timeout: the one a server granted last, or else the one to ask for.
     pub fn timeout(&self) -> Duration {
         self.engine.machine().timeout()
     }
 
-    /// How long ago a server was heard last, on any connection, or `None` if it was not heard yet. What is kept and good was so on the
-    /// server when it sent that, or later. It goes by [`Instant`](std::time::Instant), which on Linux stands still while the machine is suspended: that time
-    /// is not counted.
+    /// Returns how long ago a server was last heard, on any connection, or `None` if it was not heard yet. Good answers were true at the
+    /// server when it sent that, or later. The clock is [`Instant`](std::time::Instant), which on Linux stands still while the computer is
+    /// suspended: that time does not count.
     pub fn age(&self) -> Option<Duration> {
         self.engine.age()
     }
@@ -76,25 +75,25 @@ impl View<'_> {
         self.age().is_some_and(|age| age <= within)
     }
 
-    /// The number of the session, which its ephemeral nodes have as their owner: 0 before a server has admitted it.
+    /// Returns the session's id, which owns its ephemeral nodes: 0 until a server has admitted it.
     ///
     /// # Errors
     ///
-    /// [`Fault::NoMemory`] alone.
+    /// Only [`Fault::NoMemory`].
     pub fn id(&self) -> Result<i64, Fault> {
         Ok(self.saved()?.id().unwrap_or_default())
     }
 
-    /// The session, to be taken up by another one.
+    /// Returns the session, for another one to take up.
     ///
     /// # Errors
     ///
-    /// [`Fault::NoMemory`] alone.
+    /// Only [`Fault::NoMemory`].
     pub fn saved(&self) -> Result<SavedSession, Fault> {
         self.engine.machine().saved()
     }
 
-    /// What is kept about the data of a path that was read with a watch, with its mark, or `None` if nothing is. The data are copied.
+    /// Returns the kept data of a path that was read with a watch, with their mark, or `None` if nothing is kept. It copies the data.
     ///
     /// # Errors
     ///
@@ -103,7 +102,7 @@ impl View<'_> {
         self.at(path, Machine::peek_data)
     }
 
-    /// The session with which a node goes that is kept, if one is.
+    /// The session that owns a kept node, if there is one.
     pub(crate) fn owner(self, path: &str) -> Option<i64> {
         match self.peek(path).ok()??.answer {
             DataAnswer::Known(stat) | DataAnswer::Full { stat, .. } => Some(stat.ephemeral_owner),
@@ -111,12 +110,12 @@ impl View<'_> {
         }
     }
 
-    /// The token by which the contender of this ticket holds.
+    /// The token with which the contender of this ticket holds.
     pub(crate) fn held(self, ticket: u64) -> Option<i64> {
         self.engine.held(ticket)
     }
 
-    /// The last rival before a contender, if there is one. The names alone say that, even if the session is over.
+    /// The last rival before a contender, if there is one. The names alone decide that, even if the session is over.
     pub(crate) fn rival(self, contender: &Contender<'_>) -> Result<Option<String>, Fault> {
         let outer = self.engine.chroot().outer(contender.directory)?;
         let contender = Contender {
@@ -129,7 +128,7 @@ impl View<'_> {
         })
     }
 
-    /// The mark of what is kept about the data of a path, or `None` if nothing is. It copies no data.
+    /// Returns the mark of a path's kept data, or `None` if nothing is kept. It copies no data.
     ///
     /// # Errors
     ///
@@ -138,8 +137,8 @@ impl View<'_> {
         self.at(path, Machine::data_mark)
     }
 
-    /// What is kept about the children of a path that were read with a watch, with its mark, or `None` if nothing is. The names are
-    /// copied.
+    /// Returns the kept names of a path's children that were read with a watch, with their mark, or `None` if nothing is kept. It copies
+    /// the names.
     ///
     /// # Errors
     ///
@@ -148,7 +147,7 @@ impl View<'_> {
         self.at(path, Machine::peek_children)
     }
 
-    /// The mark of what is kept about the children of a path, or `None` if nothing is. It copies no names.
+    /// Returns the mark of a path's kept children, or `None` if nothing is kept. It copies no names.
     ///
     /// # Errors
     ///
@@ -157,12 +156,12 @@ impl View<'_> {
         self.at(path, Machine::children_mark)
     }
 
-    /// What is kept of these nodes, and of the names below these parents, all of it of one moment; `None` if some of it is not kept, or
-    /// not good: then read that again, with a watch. Of a node that is not there, [`watch`](crate::Session::watch) has its absence kept.
+    /// Returns these nodes and the names below these parents, all of one moment, or `None` if some of them are not kept, or not good: then
+    /// read those again, with a watch. For a node that does not exist, [`watch`](crate::Session::watch) keeps its absence.
     ///
     /// # Errors
     ///
-    /// As [`peek`](View::peek), of the first of them that is no path.
+    /// As [`peek`](View::peek), for the first of them that is no path.
     pub fn snapshot(&self, nodes: &[&str], parents: &[&str]) -> Result<Option<Snapshot>, Fault> {
         let chroot = self.engine.chroot();
         let outer = |paths: &[&str]| -> Result<Vec<String>, Fault> {
