@@ -1,4 +1,4 @@
-//! A number that clients change together. Tested, and not proved.
+//! A number that clients change together. Tested, not proved.
 
 use crate::error::{Error, ErrorKind};
 use crate::fault::Code;
@@ -7,8 +7,8 @@ use crate::session::Session;
 
 /// A whole number, changed by compare and set, in the node of kazoo's `Counter`, which is created if it is missing.
 ///
-/// Each change happens once, whoever else changes the number. If an answer is lost, the counter finds out whether the change happened, and makes
-/// it again if not; if that cannot be told, the error [may have happened](Error::may_have_happened).
+/// Each change happens once, whoever else changes the number. If an answer is lost, the counter finds out whether the change happened, and
+/// makes it again if not; if it cannot find out, the error [may have happened](Error::may_have_happened).
 ///
 /// ```no_run
 /// use dirwolleu::{Counter, Session};
@@ -100,7 +100,7 @@ impl<'a> Counter<'a> {
         }
     }
 
-    /// Whether the data of this version were changed.
+    /// Sets the data at this version. Returns whether it did.
     fn is_set(&self, data: &str, version: i32) -> Result<bool, Error> {
         let set = Request::set(&self.path, data.as_bytes(), version);
         match self.session.call(set) {
@@ -116,7 +116,7 @@ impl<'a> Counter<'a> {
         }
     }
 
-    /// Whether a set may have happened whose answer was lost. After a `sync` it can't happen any more.
+    /// Whether a set whose answer was lost may have happened. After a `sync` it can no longer happen.
     fn is_open(&self, data: &str, version: i32) -> Result<bool, Error> {
         self.session.sync(&self.path)?;
         let found = match self.session.get(&self.path) {

@@ -1,4 +1,4 @@
-//! A node that is followed.
+//! A followed node.
 
 use crate::engine::Engine;
 use crate::error::Error;
@@ -9,7 +9,7 @@ use std::fmt;
 use std::iter::FusedIterator;
 use std::task::{Context, Poll};
 
-/// What is kept of a followed node.
+/// The kept content of a followed node.
 ///
 /// ```no_run
 /// use dirwolleu::{KeptNode, Session};
@@ -27,7 +27,7 @@ use std::task::{Context, Poll};
 /// ```
 #[derive(Clone, Debug, PartialEq, Eq)]
 pub struct KeptNode {
-    /// The data: `None` if they are null, which is another thing than no bytes.
+    /// The data: `None` if they are null, which differs from no bytes.
     pub data: Option<Vec<u8>>,
     /// The fields of the node's `Stat` that change only with its data.
     pub stat: DataStat,
@@ -116,7 +116,7 @@ impl<'a> Follow<'a> {
     ///
     /// # Errors
     ///
-    /// As the iterator: [`Session::follow`] says which.
+    /// Those of the iterator: see [`Session::follow`].
     pub fn poll_next(&mut self, context: &mut Context<'_>) -> Poll<Option<FollowedNode>> {
         if self.is_over {
             return Poll::Ready(None);

@@ -1,4 +1,4 @@
-//! A lock of a session without a thread: a contender of its machine, as each lock.
+//! A lock of a session without a thread: a contender of its machine, like each lock.
 
 use crate::contention::Naming;
 use crate::engine::Engine;
@@ -12,17 +12,17 @@ use std::fmt;
 use std::sync::{Arc, Weak};
 use std::time::Duration;
 
-/// A lock of a [`LocalSession`], from when it is contended for until it is let go or lost: of [`LocalSession::contend`]. It does not
-/// borrow the session, and goes on within its functions alone. [`Event::LockChanged`](crate::Event::LockChanged) says when to look at it
-/// again. It is a [`Lock`](crate::Lock) otherwise.
+/// A lock of a [`LocalSession`], from [`LocalSession::contend`] until it is released or lost. It does not borrow the session, and goes on
+/// only within the session's functions. [`Event::LockChanged`](crate::Event::LockChanged) says when to look at it again. Otherwise it is a
+/// [`Lock`](crate::Lock).
 ///
-/// Held means: at the last zxid that the session has seen, the lock was this one's. While there is no connection it stays so, and while
-/// the program does not come to its session; another one may hold by now. So ask [`check`](LocalLock::check) before each part of the work,
-/// and hand the token on with each request to what is protected, which refuses one below the greatest that it has seen.
+/// *Held* means that this lock came first at the last zxid the session has seen. Without a connection it stays so, and while the program
+/// does not come to its session, although another one may hold by now. So ask [`check`](LocalLock::check) before each part of the work, and
+/// pass the token with each request to the protected resource, which refuses any token below the greatest it has seen.
 ///
-/// One that is lost after it was said to be held is given up, and so is one of which [`held`](LocalLock::held) fails: contend again. To drop
-/// it gives it up, too, and does not wait: within its functions the session deletes its node, again on each connection, until there is none
-/// or the session is over.
+/// A lock that is lost after it was held gives up by itself, and so does one whose [`held`](LocalLock::held) fails: contend again. Dropping
+/// the lock gives it up, too, without waiting: within its functions the session deletes the lock's node, on as many connections as it
+/// takes, until no node is left or the session is over.
 ///
 /// ```no_run
 /// use dirwolleu::{LocalSession, LockOptions};
@@ -50,7 +50,7 @@ pub struct LocalLock {
 }
 
 impl LocalLock {
-    /// One that contends by this naming.
+    /// Contends with this naming.
     pub(crate) fn by(
         naming: Naming,
         session: &Arc<Shared>,
@@ -66,25 +66,25 @@ impl LocalLock {
         })
     }
 
-    /// Looks at the engine, if its session is there still.
+    /// Looks at the engine, if its session still exists.
     fn look<R>(&self, look: impl FnOnce(&mut Engine) -> R) -> Option<R> {
         let session = self.session.upgrade()?;
         Some(session.note(look))
     }
 
-    /// The path that it contends for.
+    /// The path of the lock.
     pub fn path(&self) -> &str {
         &self.path
     }
 
-    /// The token by which the lock is held at the [last zxid](LocalSession::last_zxid), and none while it waits: the zxid at which its place
-    /// was made, and that of each later holder is greater. It asks nobody.
+    /// The token with which the lock is held at the [last zxid](LocalSession::last_zxid), or `None` while it waits: the zxid that created
+    /// its place. Each later holder has a greater one. Sends nothing.
     ///
     /// # Errors
     ///
-    /// Why it is given up: [`ErrorKind::LockLost`](crate::ErrorKind::LockLost),
-    /// [`ErrorKind::MixedNames`](crate::ErrorKind::MixedNames) if a place has other names,
-    /// [`ErrorKind::NumbersUsedUp`](crate::ErrorKind::NumbersUsedUp), those of calls that do not pass, and why the session is over.
+    /// Why it gave up: [`ErrorKind::LockLost`](crate::ErrorKind::LockLost), [`ErrorKind::MixedNames`](crate::ErrorKind::MixedNames) if a
+    /// place has other names, [`ErrorKind::NumbersUsedUp`](crate::ErrorKind::NumbersUsedUp), an error of a call that trying again will not
+    /// mend, and why the session is over.
     pub fn held(&self) -> Result<Option<i64>, Error> {
         let held = self.look(|engine| engine.look_for_token(self.ticket));
         let held = held.unwrap_or(Err(NoReply::SessionClosed.into()));
@@ -94,7 +94,7 @@ impl LocalLock {
         })
     }
 
-    /// Whether the lock is held at the last zxid, and a server was heard within this time. It asks nobody.
+    /// Whether the lock is held at the last zxid and a server was heard within this time. Sends nothing.
     #[must_use]
     pub fn check(&self, within: Duration) -> bool {
         let checked = self.look(|engine| {
@@ -104,14 +104,14 @@ impl LocalLock {
         checked.unwrap_or(false)
     }
 
-    /// Whether another one is known to be before it. It asks nobody.
+    /// Whether another contender is known to be before it. Sends nothing.
     #[must_use]
     pub fn is_behind(&self) -> bool {
         self.look(|engine| engine.is_behind(self.ticket))
             .unwrap_or(false)
     }
 
-    /// The path of its place, or `None` if that is not known: [`exists`](LocalSession::exists) of it asks a server.
+    /// The path of its place, or `None` if that is not known. [`exists`](LocalSession::exists) of it asks a server.
     #[must_use]
     pub fn place(&self) -> Option<String> {
         self.look(|engine| engine.place(self.ticket)).flatten()
@@ -123,8 +123,8 @@ impl LocalLock {
         }
     }
 
-    /// Lets the lock of this session go, or its place in the line, and waits until its node is gone: for twice the timeout of the session at
-    /// most. To drop it does not wait.
+    /// Releases this session's lock, or its place in the line, and waits until its node is gone, at most twice the session's timeout.
+    /// Dropping the lock does not wait.
     ///
     /// # Errors
     ///

@@ -535,13 +535,13 @@ pub struct Election<'a> {
     acls: Vec<Acl>,
 }
 
-/// The markers of candidates.
+/// The markers of candidates' places.
 const OF_CANDIDATES: Markers<'_> = Markers {
     own: "__lock__",
     against: &["__lock__", "lock-", "latch-"],
 };
 
-/// No place has a greater number than this name.
+/// A name whose number is above that of any place.
 const AFTER_ALL: &str = "__lock__9999999999";
 
 impl<'a> Election<'a> {
@@ -630,7 +630,7 @@ pub(crate) fn candidates(session: &mut impl Caller, path: &str) -> Result<Vec<Ve
     Ok(candidates)
 }
 
-/// Those of these names that are candidates' places, in their order, as the core says: it has the one before each.
+/// Those of these names that are candidates' places, in order. The core says which one is before each.
 fn in_order(
     session: &impl Caller,
     path: &str,

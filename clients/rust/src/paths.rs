@@ -1,4 +1,4 @@
-//! Nodes with all that are above them, or below.
+//! Nodes with all nodes above or below them.
 
 use crate::acl::Acl;
 use crate::error::Error;
@@ -7,10 +7,10 @@ use crate::node::ANY_VERSION;
 use crate::request::Request;
 use crate::session_methods::Caller;
 
-/// How often a request is asked again whose answer was lost: to make, or to delete, what is so already does no harm.
+/// How often a request is repeated whose answer was lost. Creating or deleting a node twice does no harm.
 const MOST_LOSSES: usize = 8;
 
-/// Asks, and again if the answer is lost.
+/// Makes a request, and repeats it if the answer is lost.
 fn surely<T>(session: &mut impl Caller, request: &Request<T>) -> Result<T, Error> {
     for _ in 0..MOST_LOSSES {
         match session.answer(request.clone()) {
@@ -21,7 +21,7 @@ fn surely<T>(session: &mut impl Caller, request: &Request<T>) -> Result<T, Error
     session.answer(request.clone())
 }
 
-/// The path of the node of this name below another one.
+/// The path of the child with this name.
 pub(crate) fn child_of(directory: &str, name: &str) -> String {
     let directory = directory.strip_suffix('/').unwrap_or(directory);
     format!("{directory}/{name}")
@@ -36,7 +36,7 @@ pub(crate) fn parent_of(path: &str) -> Option<&str> {
     }
 }
 
-/// Makes a node without data, and those above it, as far as they are not there, with this ACL: without an entry everybody has every right.
+/// Creates a node without data, and those above it, as far as they are missing, with this ACL. An empty list gives everybody every right.
 pub(crate) fn ensure(session: &mut impl Caller, path: &str, acls: &[Acl]) -> Result<(), Error> {
     let mut missing = Vec::new();
     let mut next = Some(path);
@@ -61,7 +61,7 @@ pub(crate) fn ensure(session: &mut impl Caller, path: &str, acls: &[Acl]) -> Res
     Ok(())
 }
 
-/// Deletes a node and all that are below it, from below: how many.
+/// Deletes a node and everything below it, bottom up, and returns how many nodes it deleted.
 pub(crate) fn delete_all(session: &mut impl Caller, path: &str) -> Result<usize, Error> {
     let mut left = vec![String::from(path)];
     let mut count = 0;

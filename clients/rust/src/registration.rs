@@ -16,8 +16,8 @@ use std::time::{Duration, Instant};
 /// The pause after a refusal that may pass, before the next try.
 const BETWEEN_REFUSALS: Duration = Duration::from_secs(1);
 
-/// A registration: an ephemeral node of these data, which a thread makes, and makes again if it has gone, as with a session that has
-/// [renewed](crate::SessionOptions::renews) itself. It is given up with [`end`](Registration::end), or when this is dropped, or the
+/// A registration: an ephemeral node with these data, which a thread creates, and creates again if it is gone, for example with a session
+/// that has [renewed](crate::SessionOptions::renews) itself. It ends with [`end`](Registration::end), when this is dropped, or when the
 /// session is over.
 ///
 /// If a process restarts before its old session has expired, that session's node is still there: the registration waits until it is gone.
@@ -149,7 +149,7 @@ impl Registrar {
         Ok(())
     }
 
-    /// Deletes the node if it belongs to this session. What is kept may be older than the node.
+    /// Deletes the node if it belongs to this session. The kept answer may be older than the node.
     fn give_up(&self) -> Result<(), Error> {
         if self.session.data_mark(&self.path)? != Some(Mark::Good) {
             match self.session.watch(&self.path) {

@@ -1,4 +1,4 @@
-//! A semaphore: contenders of the session's machine, once the node at its path says how many may hold it. That number is read here.
+//! A semaphore: contenders of the session's machine, once the node at its path has the number of its leases, which this module reads.
 
 use crate::acl::Acl;
 use crate::contention::Naming;
@@ -48,7 +48,7 @@ pub struct Semaphore<'a> {
 pub type Lease<'a> = Lock<'a>;
 
 impl<'a> Semaphore<'a> {
-    /// The semaphore at this node, for at most so many holders, at least one. The node is created if it is missing.
+    /// The semaphore at this node, for at most this many holders, at least one. The node is created if it is missing.
     #[must_use]
     pub fn new(session: &'a Session, path: &str, most: u32) -> Semaphore<'a> {
         Semaphore {
@@ -146,7 +146,7 @@ impl LeaseNumber<'_> {
         Error::about(Some(self.path), kind)
     }
 
-    /// Whether the node is there and has the same limit, or none, as a node that is used for something else too. A missing node is created.
+    /// Whether the node exists and has the same limit, or none, like a node with another use. A missing node is created.
     fn check(&self, session: &mut impl Caller) -> Result<bool, Error> {
         let node = match session.answer(Request::get(self.path).until(self.until)) {
             Err(error) if error.code() == Some(Code::NO_NODE) => {

@@ -1,4 +1,4 @@
-//! Trees that are followed.
+//! Followed trees.
 
 use crate::engine::Engine;
 use crate::error::{Error, ErrorKind};
@@ -12,25 +12,24 @@ use std::sync::Arc;
 use std::task::{Context, Poll};
 use std::time::{Duration, Instant};
 
-/// How many nodes a tree has at most, if a program says nothing else: as many as the core watches.
+/// The default of the most nodes of a tree: as many as the core watches.
 pub(crate) const MOST_NODES: usize = 65_536;
 
 /// News of a tree: a snapshot, or why there is no newer one.
 pub(crate) type SnapshotResult = Result<TreeSnapshot, Error>;
 
-/// All nodes at and below a path, kept as the servers have them: of [`Session::tree`](crate::Session::tree). The session reads all of it
-/// with watches, and reads again what changes, through lost connections and, if it [renews](crate::SessionOptions::renews) itself, new
-/// sessions.
+/// All nodes at and below a path, kept as the servers have them: from [`Session::tree`](crate::Session::tree). The session reads them with
+/// watches, and reads again what changes, through lost connections and, if it [renews](crate::SessionOptions::renews) itself, new sessions.
 ///
 /// Each [`TreeSnapshot`] is of one moment: a transaction that changes several nodes is in it whole or not at all, and no node is left out.
-/// The proved core decides which nodes are read, and judges that; when a snapshot is shown is tested. If nodes change faster than they
-/// are read there is no new one, and [`current`](Tree::current) is none until it settles.
+/// The proved core decides which nodes to read, and judges whether they are of one moment; when a snapshot is shown is tested. If nodes
+/// change faster than the session reads them, there is no new snapshot, and [`current`](Tree::current) is `None` until the tree settles.
 ///
-/// Threads may look at a tree at once. It is followed until it is dropped; then what was read stays kept. A look at a large tree takes a
-/// while, so the next one waits, for ten times as long.
+/// Threads may look at a tree at once. Dropping the tree stops following it; the answers that were read stay kept. A look at a large tree
+/// takes a while, so the next one waits ten times as long.
 ///
-/// At most 960 of its reads are on their way at a time, so that calls go beside them. Each step of a session takes time with the number of
-/// nodes of its trees: give a large tree a session of its own.
+/// At most 960 of its reads are on their way at a time, so that calls find room beside them. Each step of a session takes time that grows
+/// with the number of nodes of its trees: give a large tree a session of its own.
 ///
 /// ```no_run
 /// use dirwolleu::SessionOptions;
@@ -58,7 +57,7 @@ pub struct Tree {
     shown: Arc<TreeView>,
 }
 
-/// What is shown of a tree. It asks nobody, and does not wait for the session.
+/// Look-ups of the shown tree. They send nothing, and do not wait for the session.
 macro_rules! shown_of {
     () => {
         /// The path of the tree.
@@ -66,28 +65,28 @@ macro_rules! shown_of {
             self.shown.root()
         }
 
-        /// The newest snapshot, and none before the first one.
+        /// The newest snapshot, or `None` before the first.
         pub fn latest(&self) -> Option<TreeSnapshot> {
             self.shown.latest()
         }
 
-        /// The newest snapshot, if nothing that was told since has ended it: so it is the servers' tree at the greatest zxid seen too.
+        /// The newest snapshot, unless a later notice has ended it: so it is also the servers' tree at the greatest zxid seen.
         pub fn current(&self) -> Option<TreeSnapshot> {
             self.shown.current()
         }
 
-        /// Why there is no newer snapshot, or `None` if that is only that reads are under way.
+        /// Why there is no newer snapshot, or `None` if reads are merely under way.
         ///
-        /// [`Code::NO_NODE`](crate::Code::NO_NODE): there is no root; its making is waited for. Another code: what a server refused to
-        /// read, which is read again each second. [`Fault::TooManyNodes`](crate::Fault::TooManyNodes): there are more nodes than the tree
-        /// was to have.
+        /// [`Code::NO_NODE`](crate::Code::NO_NODE): there is no root; the session waits for its creation. Another code: a server refused a
+        /// read, which is made again each second. [`Fault::TooManyNodes`](crate::Fault::TooManyNodes): there are more nodes than the tree
+        /// may have.
         pub fn trouble(&self) -> Option<Error> {
             self.shown.trouble()
         }
     };
 }
 
-/// What is shown asks nobody, and does not wait for the session.
+/// Look-ups send nothing, and do not wait for the session.
 impl Tree {
     pub(crate) fn new(session: Arc<Shared>, shown: Arc<TreeView>) -> Tree {
         Tree { session, shown }
@@ -95,20 +94,20 @@ impl Tree {
 
     shown_of! {}
 
-    /// Waits for the first snapshot. If there is one already, it is the newest one.
+    /// Waits for the first snapshot. If there already is one, returns the newest.
     ///
     /// # Errors
     ///
-    /// The [`trouble`](Tree::trouble) that keeps it from coming, and why the session is over.
+    /// The [`trouble`](Tree::trouble) that prevents a snapshot, and why the session is over.
     pub fn wait(&self) -> Result<TreeSnapshot, Error> {
         self.wait_until(None)
     }
 
-    /// The same, for so long at most.
+    /// The same, at most this long.
     ///
     /// # Errors
     ///
-    /// As [`wait`](Tree::wait), and [`ErrorKind::NotWhole`] if the limit has passed: it is read on.
+    /// As [`wait`](Tree::wait), and [`ErrorKind::NotWhole`] if the limit has passed: the session goes on reading.
     pub fn wait_for(&self, limit: Duration) -> Result<TreeSnapshot, Error> {
         self.wait_until(Instant::now().checked_add(limit))
     }
@@ -122,9 +121,9 @@ impl Tree {
         news.unwrap_or_else(|| Err(self.about(NoReply::SessionClosed.into())))
     }
 
-    /// The newest snapshot, and each newer one: an iterator that waits. Of several between two steps of the program the last one is given.
-    /// A [`trouble`](Tree::trouble) is given once, and then what comes after it. It ends if the session is closed, or after an error
-    /// that says why the session is over.
+    /// An iterator that waits: the newest snapshot, and each newer one. Of several between two steps of the program it returns the last. It
+    /// returns a [`trouble`](Tree::trouble) once, and then goes on. It ends if the session is closed, or after an error that says why the
+    /// session is over.
     pub fn snapshots(&self) -> Snapshots<'_> {
         Snapshots {
             tree: self,
@@ -145,8 +144,8 @@ impl fmt::Debug for Tree {
     }
 }
 
-/// The snapshots of a tree as they come: of [`Tree::snapshots`]. It is an iterator, which waits, and by
-/// [`poll_next`](Snapshots::poll_next) a stream of no runtime.
+/// The snapshots of a tree as they come, from [`Tree::snapshots`]: a blocking iterator and, by [`poll_next`](Snapshots::poll_next), a
+/// stream for any runtime.
 ///
 /// ```no_run
 /// use dirwolleu::Session;
@@ -171,7 +170,7 @@ pub struct Snapshots<'a> {
 }
 
 impl Snapshots<'_> {
-    /// What is new, if something is; why the session is over, or `None` if it is closed.
+    /// The news, if there are any; why the session is over, or `None` if it is closed.
     fn take(&mut self, engine: &Engine) -> Poll<Option<SnapshotResult>> {
         if let Some((number, news)) = self.tree.shown.news_after(self.told) {
             self.told = number;
@@ -185,7 +184,7 @@ impl Snapshots<'_> {
         Poll::Ready(why.map(|kind| Err(self.tree.about(kind))))
     }
 
-    /// The next one, for which it waits for so long at most.
+    /// Waits for the next snapshot, at most this long.
     ///
     /// ```no_run
     /// use dirwolleu::{ErrorKind, Session};
@@ -208,7 +207,7 @@ impl Snapshots<'_> {
     ///
     /// # Errors
     ///
-    /// As the iterator gives them, and [`ErrorKind::NotWhole`] if the limit has passed.
+    /// Those of the iterator, and [`ErrorKind::NotWhole`] if the limit has passed.
     pub fn next_within(&mut self, limit: Duration) -> Option<SnapshotResult> {
         self.next_until(Instant::now().checked_add(limit))
     }
@@ -227,8 +226,8 @@ impl Snapshots<'_> {
         }
     }
 
-    /// The next one, if there is one. Else the waker of this context is woken when it is to be polled again: by the thread of the
-    /// session, so it serves under each runtime, or without one.
+    /// The next snapshot, if there is one. Otherwise the session's thread wakes the waker of this context when it is time to poll again, so
+    /// this works with any runtime, or with none.
     ///
     /// ```no_run
     /// use dirwolleu::{Session, Tree};
@@ -245,7 +244,7 @@ impl Snapshots<'_> {
     ///
     /// # Errors
     ///
-    /// As the iterator gives them: [`Tree::snapshots`] says which.
+    /// Those of the iterator: see [`Tree::snapshots`].
     pub fn poll_next(&mut self, context: &mut Context<'_>) -> Poll<Option<SnapshotResult>> {
         if self.is_over {
             return Poll::Ready(None);
@@ -277,9 +276,9 @@ impl Iterator for Snapshots<'_> {
 
 impl FusedIterator for Snapshots<'_> {}
 
-/// All nodes at and below a path, kept as the servers have them, for a session without a thread: of
-/// [`LocalSession::tree`](crate::LocalSession::tree). It goes on within the functions of its session alone, and
-/// [`next_snapshot`](crate::LocalSession::next_snapshot) is the one that waits for it. It is a [`Tree`] otherwise.
+/// All nodes at and below a path, kept as the servers have them, for a session without a thread: from
+/// [`LocalSession::tree`](crate::LocalSession::tree). It goes on only within its session's functions, and
+/// [`next_snapshot`](crate::LocalSession::next_snapshot) waits for it. Otherwise it is a [`Tree`].
 ///
 /// ```no_run
 /// use dirwolleu::LocalSession;
@@ -302,7 +301,7 @@ pub struct LocalTree {
     told: u64,
 }
 
-/// What is shown asks nobody, and does not wait for the session.
+/// Look-ups send nothing, and do not wait for the session.
 impl LocalTree {
     pub(crate) fn new(shown: Arc<TreeView>) -> LocalTree {
         LocalTree { shown, told: 0 }
@@ -310,7 +309,7 @@ impl LocalTree {
 
     shown_of! {}
 
-    /// What is new since this was asked.
+    /// The news since the last call of this.
     pub(crate) fn take_news(&mut self) -> Option<SnapshotResult> {
         let (number, news) = self.shown.news_after(self.told)?;
         self.told = number;

@@ -1,4 +1,4 @@
-//! All nodes at and below a path, of one moment, as a program looks at them.
+//! A snapshot of a tree, and how it differs from an earlier one.
 
 use crate::subtree::{Subtree, SubtreeNode};
 use std::cmp::Ordering;
@@ -7,11 +7,10 @@ use std::iter;
 use std::slice;
 use std::sync::Arc;
 
-/// All nodes at and below a path, as the servers' history has them at one zxid: of a [`Tree`](crate::Tree). It never changes, and a clone
-/// of it is the same snapshot.
+/// All nodes at and below a path, as the servers' history has them at one zxid: from a [`Tree`](crate::Tree). It never changes, and its
+/// clones are the same snapshot.
 ///
-/// A path at or below the root that is not in it had no node at that zxid. That is what the proved core says; that this type shows it is
-/// tested.
+/// A path at or below the root that is not in it had no node at that zxid. The proved core says so; that this type shows it is tested.
 ///
 /// ```no_run
 /// use dirwolleu::Session;
@@ -36,8 +35,8 @@ pub struct TreeSnapshot {
     subtree: Arc<Subtree>,
 }
 
-/// The paths of a tree in this order are each before those below it, and a node is followed by all that is below it: a slash is before all
-/// that names have.
+/// The order of a tree's paths: each is before those below it, and everything below a node follows it, because a slash is before all
+/// characters of names.
 fn order(one: &str, other: &str) -> Ordering {
     let rank = |byte: u8| if byte == b'/' { 0 } else { byte };
     one.bytes().map(rank).cmp(other.bytes().map(rank))
@@ -58,7 +57,7 @@ impl TreeSnapshot {
         self.subtree.nodes.iter().map(of).sum()
     }
 
-    /// The nodes at and below this root, in any order.
+    /// A snapshot of the nodes at and below this root, given in any order.
     pub(crate) fn new(root: &str, mut subtree: Subtree) -> TreeSnapshot {
         subtree
             .nodes
@@ -81,7 +80,7 @@ impl TreeSnapshot {
         self.subtree.zxid
     }
 
-    /// How many nodes there are: one at least.
+    /// The number of nodes, at least one.
     #[must_use]
     #[allow(clippy::len_without_is_empty)] // there is a root
     pub fn len(&self) -> usize {
@@ -97,18 +96,18 @@ impl TreeSnapshot {
         self.nodes().binary_search_by(found)
     }
 
-    /// The node of a path, or `None` if none was there.
+    /// The node at a path, or `None` if there was none.
     #[must_use]
     pub fn get(&self, path: &str) -> Option<&SubtreeNode> {
         self.place(path).ok().map(|place| &self.nodes()[place])
     }
 
-    /// Each node, followed by all nodes below it: the children of a node are in the order of the bytes of their names.
+    /// Each node, followed by all nodes below it. The children of a node are in the byte order of their names.
     pub fn iter(&self) -> slice::Iter<'_, SubtreeNode> {
         self.nodes().iter()
     }
 
-    /// The nodes right below a path, in the order of the bytes of their names: none where no node of the path was there.
+    /// The nodes right below a path, in the byte order of their names. There are none if the path had no node.
     pub fn children<'a>(&'a self, path: &'a str) -> impl Iterator<Item = &'a SubtreeNode> + 'a {
         let after = self.place(path).map_or(self.len(), |place| place + 1);
         let mut rest = &self.nodes()[after..];
@@ -123,7 +122,7 @@ impl TreeSnapshot {
         })
     }
 
-    /// What differs from an earlier snapshot of the tree: all nodes are new if there is none.
+    /// The differences from an earlier snapshot of the tree. Without one, all nodes are new.
     #[must_use]
     pub fn changes_since<'a>(&'a self, earlier: Option<&'a TreeSnapshot>) -> TreeChanges<'a> {
         let mut changes = TreeChanges::default();
@@ -157,7 +156,7 @@ impl<'a> IntoIterator for &'a TreeSnapshot {
     }
 }
 
-/// It tells no data.
+/// Prints no data.
 impl fmt::Debug for TreeSnapshot {
     fn fmt(&self, f: &mut fmt::Formatter<'_>) -> fmt::Result {
         f.debug_struct("TreeSnapshot")
@@ -168,7 +167,7 @@ impl fmt::Debug for TreeSnapshot {
     }
 }
 
-/// What differs between two snapshots of a tree: of [`TreeSnapshot::changes_since`].
+/// The differences between two snapshots of a tree, from [`TreeSnapshot::changes_since`].
 ///
 /// ```
 /// use dirwolleu::{SubtreeNode, TreeSnapshot};
@@ -184,11 +183,11 @@ impl fmt::Debug for TreeSnapshot {
 #[derive(Clone, Debug, Default, PartialEq, Eq)]
 #[non_exhaustive]
 pub struct TreeChanges<'a> {
-    /// The nodes that are new, as they are now.
+    /// The new nodes, as they are now.
     pub added: Vec<&'a SubtreeNode>,
     /// The nodes that are gone, as they were.
     pub removed: Vec<&'a SubtreeNode>,
-    /// The nodes that are in both, with other data or another stat, as they are now. Of a node that was deleted and made again, too.
+    /// The nodes in both, with other data or another stat, as they are now. A node that was deleted and created again counts, too.
     pub changed: Vec<&'a SubtreeNode>,
 }
 
@@ -223,7 +222,7 @@ mod tests {
         nodes.into_iter().map(|node| node.path.as_str()).collect()
     }
 
-    /// Names that have what is before a slash, and names that begin with others.
+    /// Names with characters before a slash in byte order, and names that begin with others.
     const MIXED: [&str; 7] = [
         "/t", "/t/a", "/t/a-b", "/t/a/z", "/t/a/b/c", "/t/a/b", "/t/ab",
     ];

@@ -1,8 +1,8 @@
-//! The view of a followed tree: its newest snapshot, or why there is none, and when the tree is copied for the next one.
+//! The view of a followed tree: its newest snapshot, or why there is none, and when to copy the tree for the next one.
 //!
 //! The machine decides which nodes it follows, and says when the tree is complete; the core judges whether it is of one moment. This module
-//! decides how often the tree is copied, and notes why there is nothing newer. The session waits while the tree is copied. The copy is read
-//! without the session's lock, since that takes the longest.
+//! decides how often to copy the tree, and notes why there is nothing newer. The session waits while the tree is copied. The copy is read
+//! without the session's lock, because that takes the longest.
 
 use crate::action::Refusal;
 use crate::cache::{DataAnswer, Kept, Mark};
@@ -26,17 +26,17 @@ const PAUSE_WITHOUT_MEMORY: Duration = Duration::from_secs(1);
 /// The pause after a copy lasts this many times as long as the copy took.
 const PAUSE_FACTOR: u32 = 10;
 
-/// The room for the text of a tree at first.
+/// The first room for the text of a tree.
 const FIRST_ROOM: usize = 4_096;
 
-/// What all handles of a tree show.
+/// The view that all handles of a tree share.
 #[derive(Debug)]
 pub(crate) struct TreeView {
     root: String,
     state: Mutex<ViewState>,
 }
 
-/// Each piece of news has a number, and the next one a greater number.
+/// Each piece of news has a number, greater than those before.
 #[derive(Debug, Default)]
 struct ViewState {
     latest: Option<TreeSnapshot>,
@@ -91,7 +91,7 @@ impl TreeView {
             .finish_non_exhaustive()
     }
 
-    /// The first news after those of this number, and their number.
+    /// The first news after the one with this number, and their number.
     pub(crate) fn news_after(&self, told: u64) -> Option<(u64, Result<TreeSnapshot, Error>)> {
         let state = self.state();
         let shown = state.latest.clone().map(|latest| (state.shown, Ok(latest)));
@@ -108,7 +108,7 @@ impl ViewState {
         self.shown.max(self.troubled).max(self.copied) + 1
     }
 
-    /// The tree is copied: the number of the snapshot that the copy will be.
+    /// Notes a copy of the tree. Returns the number of the snapshot that it becomes.
     fn begin_copy(&mut self) -> u64 {
         self.copied = self.next_number();
         self.is_outdated = false;
@@ -116,7 +116,7 @@ impl ViewState {
         self.copied
     }
 
-    /// Shows the snapshot of this number, unless a later one is shown. It hands back the snapshot that it replaces.
+    /// Shows the snapshot of this number, unless a later one is shown. Returns the snapshot that it replaces.
     fn show(&mut self, number: u64, snapshot: TreeSnapshot) -> Option<TreeSnapshot> {
         if number < self.shown {
             return Some(snapshot);
@@ -126,13 +126,13 @@ impl ViewState {
         self.latest.replace(snapshot)
     }
 
-    /// A change has ended the snapshot that is shown, and the copy that is being read.
+    /// Notes that a change has ended the shown snapshot, and the copy that is being read.
     fn invalidate(&mut self) {
         self.is_current = false;
         self.is_outdated = true;
     }
 
-    /// Whether there is a trouble, and it is another one than before.
+    /// Sets the trouble. Returns whether there is one, and it differs from the last.
     fn set_trouble(&mut self, trouble: Option<Error>) -> bool {
         let is_news = trouble.is_some() && self.trouble != trouble;
         if is_news {
@@ -147,7 +147,7 @@ impl ViewState {
 /// The ticket of troubles that concern the whole tree. The machine follows nothing by it.
 const WHOLE_TREE: u64 = 0;
 
-/// One tree. The path of its root is the one that the servers know.
+/// One tree. Its root's path is the servers'.
 pub(crate) struct FollowedTree {
     shown: Weak<TreeView>,
     ticket: u64,
@@ -155,7 +155,7 @@ pub(crate) struct FollowedTree {
     pub(crate) most: usize,
     /// The paths of its members, as the program knows them, by their tickets.
     paths: HashMap<u64, String>,
-    /// What keeps a newer snapshot from coming, by the tickets of the members that can't be read. The first is shown.
+    /// The troubles that prevent a newer snapshot, by the tickets of the unreadable members. The first one is shown.
     troubles: BTreeMap<u64, Error>,
     must_copy: bool,
     copy_at: Moment,
@@ -163,7 +163,7 @@ pub(crate) struct FollowedTree {
     is_news: bool,
 }
 
-/// Why a read was refused, unless it passes. Only of the root is it news that there is no node, and the kept answer says so.
+/// Why a read was refused, unless that passes. A missing node is news only if it is the root, and the kept answer says that.
 fn kind_of(reason: Refusal) -> Option<ErrorKind> {
     match reason {
         Refusal::Closed | Refusal::Code(Code::NO_NODE) => None,
@@ -197,7 +197,7 @@ impl FollowedTree {
         }
     }
 
-    /// Whether anybody has a handle of it.
+    /// Whether it still has a handle.
     pub(crate) fn is_wanted(&self) -> bool {
         self.shown.strong_count() > 0
     }
@@ -208,16 +208,16 @@ impl FollowedTree {
     }
 }
 
-/// What the machine reports.
+/// The machine's reports.
 impl FollowedTree {
-    /// Another machine follows it, which has reported nothing yet.
+    /// Begins again, for another machine, which has reported nothing yet.
     pub(crate) fn begin_again(&mut self) {
         self.paths.clear();
         self.troubles.clear();
         self.invalidate();
     }
 
-    /// A change has ended the snapshot that is shown. The tree is copied again only after the machine says that it is complete.
+    /// Notes that a change has ended the shown snapshot. The tree is copied again only after the machine says that it is complete.
     pub(crate) fn invalidate(&mut self) {
         self.must_copy = false;
         if let Some(shown) = self.shown.upgrade() {
@@ -225,14 +225,14 @@ impl FollowedTree {
         }
     }
 
-    /// A good answer of a path has ended.
+    /// Notes that a good answer of a path has ended.
     pub(crate) fn note_report(&mut self, path: &str) {
         if path == self.root || is_below(path, &self.root) {
             self.invalidate();
         }
     }
 
-    /// The machine reports a change of its members, of its bound, or that it is complete.
+    /// Takes the machine's report of a change in its members or its bound, or that it is complete.
     pub(crate) fn update(&mut self, news: TreeUpdate) {
         match news {
             TreeUpdate::MemberAdded { ticket, path } => drop(self.paths.insert(ticket, path)),
@@ -247,7 +247,7 @@ impl FollowedTree {
         }
     }
 
-    /// The machine has read a member, or a server has refused the read. Tickets of other subjects count for nothing.
+    /// Takes the machine's report that it read a member, or that a server refused the read. Tickets of other subjects have no effect.
     pub(crate) fn update_member(&mut self, ticket: u64, shows: SubjectUpdate, machine: &Machine) {
         let kind = match shows {
             _ if !self.paths.contains_key(&ticket) => return,
@@ -260,7 +260,7 @@ impl FollowedTree {
         self.note(ticket, kind);
     }
 
-    /// Whether it is known that there is no root.
+    /// Whether the root is known to be missing.
     fn is_absent(&self, machine: &Machine) -> bool {
         matches!(
             machine.peek_data(&self.root),
@@ -271,7 +271,7 @@ impl FollowedTree {
         )
     }
 
-    /// Notes the trouble of a member, or that it is over, and shows the first trouble that is left.
+    /// Notes the trouble of a member, or that it is over, and shows the first remaining trouble.
     fn note(&mut self, ticket: u64, kind: Option<ErrorKind>) {
         let Some(shown) = self.shown.upgrade() else {
             return;
@@ -289,7 +289,7 @@ impl FollowedTree {
     }
 }
 
-/// How it is copied.
+/// Copies of the tree.
 impl FollowedTree {
     /// The moment of the next copy, if the tree is complete.
     pub(crate) fn deadline(&self) -> Option<Moment> {
@@ -341,7 +341,7 @@ impl FollowedTree {
         let Some(spelled) = found else {
             return machine.lacking(&self.root, self.most).map(|_| None);
         };
-        self.troubles.clear(); // what is refused still is not of the tree any more
+        self.troubles.clear(); // reads that are still refused no longer belong to the tree
         Ok(Some((shown.state().begin_copy(), spelled)))
     }
 }
@@ -365,7 +365,7 @@ impl TreeCopy {
         let mut state = self.shown.state();
         state.reading = begun.elapsed();
         let before = state.show(self.number, snapshot);
-        drop(state); // before the nodes that are shown no more
+        drop(state); // before the nodes that are no longer shown
         drop(before);
     }
 }
@@ -385,7 +385,7 @@ mod tests {
 
     const DENIED: SubjectUpdate = SubjectUpdate::Refused(Refusal::Code(Code::NO_AUTH));
 
-    /// A tree by the ticket 1 with two nodes, whose data are followed by the tickets 8 and 9, and a machine that keeps nothing.
+    /// A tree with the ticket 1 and two nodes, whose data have the tickets 8 and 9, and a machine that keeps nothing.
     fn tree() -> (Arc<TreeView>, FollowedTree, Machine) {
         let shown = Arc::new(TreeView::of("/t"));
         let mut tree = FollowedTree::new(Arc::downgrade(&shown), 1, String::from("/app/t"), 10);
