@@ -42,18 +42,18 @@ pub(crate) enum TreeUpdate {
     Complete,
 }
 
-/// What is told of a contender.
+/// A change of a contender.
 #[derive(Clone, Copy, Debug, PartialEq, Eq)]
 pub(crate) enum ContenderUpdate {
-    /// Another one is before it.
+    /// Another contender is before it.
     Waits,
     /// It holds, by this token.
     Holds(i64),
-    /// It holds no more.
+    /// It no longer holds.
     Lost,
-    /// It does not get on, for this reason, and asks again after a second.
+    /// It cannot get on, for this reason, and asks again after a second.
     Pauses(Refusal),
-    /// It is given up, and no node of it is there.
+    /// It has given up, and has no node left.
     GivenUp,
 }
 
@@ -73,24 +73,24 @@ pub(crate) struct Dispatcher {
     is_news: bool,
 }
 
-/// What one step of a machine changes in its session, and asks for.
+/// What one step of a machine changes in its session and asks for.
 #[derive(Default)]
 pub(crate) struct SessionUpdate {
     /// The new state, if it has changed.
     pub(crate) state: Option<State>,
     /// Whether the session has expired.
     pub(crate) is_expired: bool,
-    /// Whether the connection is to be closed, or the attempt given up.
+    /// Whether to close the connection, or give the attempt up.
     pub(crate) hangs_up: bool,
     /// Why the machine gives the connection up, if it says so.
     pub(crate) cause: Option<ConnectionEnd>,
-    /// Whether it leaves an accepted session without a reason: no answer has come, or a server says that the session is elsewhere.
+    /// Whether it leaves an accepted session without a reason: an answer is missing, or a server says that the session is elsewhere.
     pub(crate) is_left: bool,
-    /// The place of the host that is to be dialled, and within which time.
+    /// The place of the host to dial, and the time to do it in.
     pub(crate) dial: Option<(usize, Duration)>,
-    /// The paths of which something that was good has ended, as the servers know them.
+    /// The paths with something good that has ended, as the servers know them.
     pub(crate) reported: Vec<String>,
-    /// What a server has answered to credentials, by their places.
+    /// The servers' answers to credentials, by their places.
     pub(crate) credentials: Vec<(usize, Code)>,
     /// Updates of subjects, and of members of trees, by their tickets.
     pub(crate) shown: Vec<(u64, SubjectUpdate)>,
@@ -112,7 +112,7 @@ impl SessionUpdate {
     }
 }
 
-/// The event of a connection that is given up. If there is no memory for the words, it has the code instead.
+/// The event of a connection that was given up. It has the code instead if there is no memory for the words.
 fn dropped(given_up: &GivenUp<'_>) -> Event {
     let words = given_up.words();
     Event::Dropped {
@@ -122,7 +122,7 @@ fn dropped(given_up: &GivenUp<'_>) -> Event {
 }
 
 impl Dispatcher {
-    /// Of a session whose nodes are below this path.
+    /// The dispatcher of a session with this chroot.
     pub(crate) fn new(chroot: Chroot) -> Dispatcher {
         Dispatcher {
             chroot,
@@ -130,7 +130,7 @@ impl Dispatcher {
         }
     }
 
-    /// Sorts the actions of a step. The answer to the call of a session that asks one at a time goes where that is waited for.
+    /// Sorts the actions of a step. The answer to a session that asks one call at a time goes to where that call waits.
     pub(crate) fn dispatch(
         &mut self,
         actions: Actions<'_>,
@@ -218,7 +218,7 @@ impl Dispatcher {
         self.update.get_or_insert_with(Box::default)
     }
 
-    /// At this step the machine leaves no server for a missing answer.
+    /// Notes that the machine leaves no server for a missing answer at this step.
     pub(crate) fn lacks_no_answer(&mut self) {
         if let Some(update) = &mut self.update {
             update.is_left = false;
@@ -229,7 +229,7 @@ impl Dispatcher {
         self.answers.push_back((ticket, outcome));
     }
 
-    /// Why a call ends whose limit has come.
+    /// Why a call ends that has reached its limit.
     fn reason_of_timeout(&self, was_sent: bool) -> ErrorKind {
         match self.state {
             _ if was_sent => ErrorKind::TimedOut,
@@ -238,7 +238,7 @@ impl Dispatcher {
         }
     }
 
-    /// The connection is to be closed. Frames that were not yet written are dropped.
+    /// Closes the connection. Frames that are not yet written are dropped.
     fn hang_up(&mut self) {
         let is_left = self.state == Some(State::Connected);
         self.frames.clear();
@@ -273,7 +273,7 @@ impl Dispatcher {
         self.push_event(Event::State(state));
     }
 
-    /// Keeps an event for the caller. If there are too many, the first one is lost.
+    /// Keeps an event for the caller. If there are too many, the oldest is lost.
     pub(crate) fn push_event(&mut self, event: Event) {
         if self.events.len() == MOST_EVENTS {
             self.events.pop_front();

@@ -15,16 +15,16 @@ use std::sync::Arc;
 use std::thread;
 use std::time::Duration;
 
-/// The most bytes that one read is asked for.
+/// The most bytes of one read.
 const PIECE: usize = 65_536;
 
 /// The most reads in a row before the machine gets the moment.
 const MOST_PIECES: usize = 64;
 
-/// The least time of an attempt, even if looking up the name took all of it.
+/// The least time of an attempt, even if the name's look-up took all of it.
 const SHORTEST_DIAL: Duration = Duration::from_millis(1);
 
-/// How long a session waits before it tries again what there was no memory for.
+/// How long a session waits before it tries again after memory ran out.
 const WAIT_FOR_MEMORY: Duration = Duration::from_millis(10);
 
 /// The outcome of a read. Something may have been due before it ended.
@@ -44,7 +44,7 @@ pub(crate) struct Driver {
     addresses: Addresses,
     incoming: Option<Box<dyn Incoming>>,
     room: Vec<u8>,
-    /// How long the clock had run when it was looked at last, after what was waited for.
+    /// The clock's time at the last look, after the last wait.
     looked: Duration,
 }
 
@@ -86,7 +86,7 @@ impl Driver {
         self.execute(now, plan)
     }
 
-    /// Asks a call of a session without a thread, and goes on until it has ended.
+    /// Makes a call of a session without a thread, and goes on until it has ended.
     pub(crate) fn call_alone(&mut self, asking: &Asking<'_>) -> CallResult {
         let clock = self.shared.clock();
         let asked = AskedCall::now(asking.path.into(), asking.call, clock);
@@ -101,7 +101,7 @@ impl Driver {
         }
     }
 
-    /// Asks it, at this time of the clock, once it has caught up. Unless the call has ended by then, it does the next task.
+    /// Makes it at this time of the clock, once the session has caught up. Unless the call has ended by then, does the next task.
     fn ask_alone(&mut self, at: Duration, asking: &Asking<'_>) -> Result<(), Fault> {
         self.looked = at;
         let now = Moment::after(at);
@@ -135,7 +135,7 @@ impl Driver {
         self.execute_rest(now, plan)
     }
 
-    /// Does a task other than to listen.
+    /// Does any task but listening.
     #[cold]
     fn execute_rest(&mut self, now: Moment, plan: Plan) -> Result<(), Fault> {
         match plan {
@@ -148,7 +148,7 @@ impl Driver {
         Ok(())
     }
 
-    /// Dials the server that is to be dialled.
+    /// Dials the server that the machine asks for.
     fn dial(&mut self) -> Result<(), Fault> {
         self.incoming = None;
         let Some(attempt) = self.shared.with(Engine::begin_attempt) else {
@@ -167,7 +167,7 @@ impl Driver {
         }
     }
 
-    /// A connection to a host, and its address.
+    /// Connects to a host. Returns its address and the connection.
     fn connect(&mut self, attempt: &Attempt) -> io::Result<(SocketAddr, Connection)> {
         let address = self.addresses.of(&attempt.host)?;
         let now = self.shared.clock().now();
@@ -178,7 +178,7 @@ impl Driver {
         Ok((address, made))
     }
 
-    /// Hands in what the connection brings next. If something was due before, it catches up.
+    /// Hands in the next bytes of the connection. If something was due before them, catches up.
     fn listen(&mut self, now: Moment, until: Moment) -> Result<(), Fault> {
         let until = until.min(now.saturating_add(LONGEST_WAIT));
         let mut wait = until.saturating_duration_since(now);
@@ -193,7 +193,7 @@ impl Driver {
         }
     }
 
-    /// Hands in all that the connection has, and then the moment before the last read. So a late session does not take a server for silent
+    /// Hands in all that the connection has, and then the moment before the last read, so that a late session does not call a server silent
     /// that has answered.
     #[cold]
     fn catch_up(&mut self) -> Result<(), Fault> {
@@ -213,7 +213,7 @@ impl Driver {
         })
     }
 
-    /// Catches up if something is due already.
+    /// Catches up if something is already due.
     pub(crate) fn catch_up_if_late(&mut self, now: Moment) -> Result<(), Fault> {
         if self.shared.look(|engine| engine.is_late(now)) {
             self.catch_up()?;
@@ -244,7 +244,7 @@ impl Driver {
     }
 }
 
-/// What comes of a read that brings no bytes to an open connection.
+/// The outcome of a read that brings no bytes to an open connection.
 #[cold]
 fn received_no_bytes(
     engine: &mut Engine,
@@ -265,7 +265,7 @@ fn received_no_bytes(
     Ok(Received::End)
 }
 
-/// Ends the session when its thread ends, even by a panic of a dialler or a connection: nobody waits any longer.
+/// Ends the session when its thread ends, even by a panic of a dialler or a connection, so that nobody waits any longer.
 struct StopsSession(Arc<Shared>);
 
 impl Drop for StopsSession {

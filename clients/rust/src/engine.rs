@@ -1,5 +1,5 @@
-//! A session without its reader and timer: a machine, the half of the connection that it writes to, and the callers that wait. The machine
-//! decides; the engine does what it says.
+//! A session without its reader and timer: a machine, the write half of its connection, and the callers that wait. The machine decides; the
+//! engine does what it says.
 
 mod calls;
 mod connection;
@@ -37,10 +37,10 @@ use std::net::SocketAddr;
 use std::sync::Arc;
 use std::time::Duration;
 
-/// How long the admission of a session is waited for at a time: a call that was asked meanwhile may have a limit.
+/// How long to wait at a time for a session's admission: a call made meanwhile may have a limit.
 const LOOK_ROUND: Duration = Duration::from_millis(250);
 
-/// The most reasons in the message that no server was found.
+/// The most reasons that the message about an unfound server has.
 const MOST_REASONS: usize = 16;
 
 /// The driver's next task.
@@ -50,13 +50,13 @@ pub(crate) enum Plan {
     Stop,
     /// Nothing, until this moment or the next change.
     Rest(Moment),
-    /// To tell the moment.
+    /// To hand in the moment.
     Tick,
     /// To dial.
     Dial,
     /// To read the connection, until this moment.
     Listen(Moment),
-    /// To hand in again what there was no memory for.
+    /// To hand in again the bytes that found no memory.
     HandIn,
 }
 
@@ -64,11 +64,11 @@ pub(crate) enum Plan {
 #[derive(Clone, Debug, PartialEq, Eq)]
 enum Phase {
     Running,
-    /// It has expired and does not renew itself, or it is closed. The engine asks the machine nothing more.
+    /// It has expired and does not renew itself, or it is closed. The engine asks the machine for nothing more.
     Ended(State),
     /// The machine has halted: memory ran out within a step, or the library has another version.
     Halted(Fault),
-    /// A server has refused its credentials.
+    /// A server has refused the session's credentials.
     Unauthorized,
     /// Its program has dropped it.
     Stopped,
@@ -76,12 +76,12 @@ enum Phase {
     Panicked,
 }
 
-/// An attempt to connect that the machine has asked for.
+/// An attempt to connect that the machine asked for.
 pub(crate) struct Attempt {
-    /// Each has another number.
+    /// A number that no other attempt has.
     pub(crate) number: u64,
     pub(crate) host: Host,
-    /// When it will be given up.
+    /// When the machine gives it up.
     pub(crate) until: Moment,
 }
 
@@ -98,7 +98,7 @@ pub(crate) struct EngineOptions {
 }
 
 impl EngineOptions {
-    /// The first machine of the session, which takes up the saved one if there is one.
+    /// The first machine of the session, which takes up the saved session if there is one.
     fn machine(&self) -> Result<Machine, Fault> {
         let (timeout, count, limits) = (self.timeout, self.hosts.len(), self.limits);
         match &self.saved {
@@ -108,15 +108,15 @@ impl EngineOptions {
     }
 }
 
-/// What is handed out once the lock of an engine is released.
+/// What goes out once the lock of an engine is released.
 pub(crate) struct News {
-    /// The calls whose answers are to be told.
+    /// The calls whose answers are to be delivered.
     pub(crate) answered: Vec<Arc<Slot>>,
-    /// Whether those that wait for events or updates have something new to look at.
+    /// Whether whoever waits for events or updates has something new to look at.
     pub(crate) wakes_all: bool,
-    /// The copies of trees that are to be read and shown.
+    /// The copies of trees to read and show.
     pub(crate) tree_copies: Vec<TreeCopy>,
-    /// What the observer is to be told.
+    /// The observations for the observer.
     pub(crate) seen: Vec<Observation>,
 }
 
@@ -135,33 +135,33 @@ pub(crate) struct Engine {
     calls: PendingCalls,
     dispatcher: Dispatcher,
     subjects: Subjects,
-    /// The trees that are followed, by the tickets that the machine has for them.
+    /// The followed trees, by the machine's tickets for them.
     trees: BTreeMap<u64, FollowedTree>,
     tree_copies: Vec<TreeCopy>,
-    /// The attempts that the machine has asked for, and the one that is to be begun or is on its way.
+    /// The number of attempts that the machine asked for, and the attempt that is next or under way.
     attempts: u64,
     wanted: Option<Attempt>,
     dialling: Option<u64>,
     /// The host that was dialled last.
     server: Option<Host>,
     outbox: Option<Arc<Outbox>>,
-    /// The one that has frames to write, or has ended: written without the lock.
+    /// The outbox that has frames to write, or has ended: it is written without the lock.
     to_write: Option<Arc<Outbox>>,
-    /// No more bytes than these wait to be written.
+    /// The most bytes that may wait to be written.
     most_unwritten: usize,
     /// The server of the last connection.
     address: Option<SocketAddr>,
     /// Why no server was found since the last accepted session: the last reason of each address.
     reasons: Vec<String>,
-    /// Bytes of the server that there was no memory for.
+    /// Bytes of the server that found no memory.
     inbox: Vec<u8>,
     credentials: Credentials,
     contenders: Contenders,
     tally: Tally,
     recorder: Option<Recorder>,
-    /// Why the connection will be closed, if that is known.
+    /// Why the connection is about to close, if that is known.
     ending: Option<ConnectionEnd>,
-    /// The call that closes the session, if one was asked.
+    /// The ticket of the call that closes the session, if there is one.
     closing: Option<u64>,
     phase: Phase,
 }
@@ -210,13 +210,13 @@ impl Engine {
         Ok(engine)
     }
 
-    /// Has a record written from now on. The session is a new one, unless it takes up a saved one.
+    /// Writes a record from now on, of a new session, unless it takes up a saved one.
     pub(crate) fn record(&mut self, mut recorder: Recorder, saved: Option<&SavedSession>) {
         recorder.begin(self.asked_timeout, saved.map(SavedSession::as_bytes));
         self.recorder = Some(recorder);
     }
 
-    /// Goes on with a new machine: of a new session if this one is over, and else of the same session.
+    /// Goes on with a new machine: of a new session if this one is over, else of the same session.
     pub(crate) fn renew(&mut self) -> Result<(), Fault> {
         if self.phase == Phase::Panicked {
             return Err(Fault::Panicked);
@@ -254,8 +254,8 @@ impl Engine {
         Machine::resume_with_limits(timeout, count, random(), saved, self.limits)
     }
 
-    /// The session that the next machine takes up. After a close, and if credentials were refused, it is another session, which begins at the
-    /// greatest zxid seen. After an expiry the machine has it already.
+    /// The session that the next machine takes up. After a close or refused credentials it is another session, which begins at the greatest
+    /// zxid seen; after an expiry the machine already has it.
     fn saved_for_renewal(&self) -> Result<SavedSession, Fault> {
         let saved = self.machine.saved()?;
         if !matches!(
@@ -273,7 +273,7 @@ impl Engine {
         self.deadline.forget(self.machine.timeout());
     }
 
-    /// Other hosts. Hosts with another chroot are handed back.
+    /// Changes the hosts. Hands hosts with another chroot back.
     pub(crate) fn change_hosts(&mut self, hosts: Hosts) -> Result<(), Hosts> {
         if *hosts.root() != self.chroot {
             return Err(hosts);
@@ -303,21 +303,21 @@ impl Engine {
         self.settle(now, taken)
     }
 
-    /// A session without hosts has nothing to look for.
+    /// A session without hosts searches for nothing.
     fn note_hosts(&mut self) {
         if self.hosts.len() == 0 {
             self.note_attempt(String::from("the session has no host"));
         }
     }
 
-    /// Ends everything, and answers each call. A panic before it is still reported.
+    /// Ends everything, and answers each call. An earlier panic is still reported.
     pub(crate) fn stop(&mut self) {
         if self.phase != Phase::Panicked {
             self.shut_down(Phase::Stopped);
         }
     }
 
-    /// The same, since its dialler or its connection has panicked.
+    /// The same after the dialler or the connection has panicked.
     pub(crate) fn panicked(&mut self) {
         if self.phase != Phase::Stopped {
             self.shut_down(Phase::Panicked);
@@ -331,7 +331,7 @@ impl Engine {
             Phase::Panicked => Fault::Panicked.into(),
             _ => NoReply::NotConnected.into(),
         };
-        // Memory that ran out leaves calls without an answer.
+        // If memory ran out, calls are left without an answer.
         let _ = self.end();
         self.hang_up();
         self.phase = phase;
@@ -353,7 +353,7 @@ impl Engine {
         self.clock
     }
 
-    /// The state, and none if a task is overdue by more than this: then nobody knows.
+    /// The state, or `None` if a task is overdue by more than this: then nobody knows.
     pub(crate) fn state(&self, lateness: Duration) -> Option<State> {
         match self.phase {
             Phase::Ended(state) => return Some(state),
@@ -366,23 +366,23 @@ impl Engine {
         is_served.then(|| self.machine.state())
     }
 
-    /// How long ago the server sent something, if it has.
+    /// How long ago the server sent something, if it ever did.
     pub(crate) fn age(&self) -> Option<Duration> {
         let heard_at = self.machine.heard_at()?;
         Some(self.clock.now().saturating_duration_since(heard_at))
     }
 
-    /// Whether nothing more happens before it is renewed.
+    /// Whether nothing more happens until the session is renewed.
     pub(crate) fn is_over(&self) -> bool {
         !matches!(self.phase, Phase::Running)
     }
 
-    /// Whether a server has accepted the session, so that calls are sent.
+    /// Whether a server has accepted the session, so that calls go out.
     pub(crate) fn is_connected(&self) -> bool {
         self.machine.state() == State::Connected && !self.is_over()
     }
 
-    /// Why no server has accepted the session, after a wait of so long. None if one has.
+    /// Why no server has accepted the session after this wait. `None` if one has.
     pub(crate) fn fault_of_opening(&self, waited: Duration) -> Option<Error> {
         if self.is_connected() {
             return None;
@@ -437,7 +437,7 @@ impl Engine {
         self.dispatcher.next_event()
     }
 
-    /// Whether something may have to be handed out without the lock.
+    /// Whether something may have to go out without the lock.
     #[inline]
     pub(crate) fn may_have_news(&self) -> bool {
         let is_followed = !self.trees.is_empty() || self.subjects.has_updates();
@@ -446,7 +446,7 @@ impl Engine {
         is_followed || is_told || is_answered || !self.tree_copies.is_empty()
     }
 
-    /// What is to be handed out without the lock.
+    /// Takes what has to go out without the lock.
     pub(crate) fn take_news(&mut self) -> News {
         News {
             wakes_all: self.wakes_all(),
@@ -456,14 +456,14 @@ impl Engine {
         }
     }
 
-    /// Whether those that wait for events or updates have something new to look at.
+    /// Whether whoever waits for events or updates has something new to look at.
     fn wakes_all(&mut self) -> bool {
         let is_news = self.takes_tree_news() | self.subjects.takes_updates();
         let is_news = self.contenders.takes_news() | is_news;
         self.dispatcher.takes_news() | is_news | self.is_over()
     }
 
-    /// The calls whose answers are to be told.
+    /// Takes the calls whose answers are to be delivered.
     fn take_answered(&mut self) -> Vec<Arc<Slot>> {
         let answered = self.calls.take_answered();
         if !answered.is_empty() {
@@ -475,30 +475,30 @@ impl Engine {
         answered
     }
 
-    /// Whether the call has ended that a session without a thread has asked.
+    /// Whether the call of a session without a thread has ended.
     #[inline]
     pub(crate) fn has_ended_alone(&self) -> bool {
         self.calls.has_ended_alone()
     }
 
-    /// Notes that call, which has ended by now.
+    /// Notes that this call has ended by now.
     #[inline]
     pub(crate) fn note_alone(&mut self, call: &AskedCall<'_>, now: Duration) {
         self.tally.note_call(call, self.calls.ending_alone(), now);
     }
 
-    /// How it has ended. It is taken once.
+    /// Takes the outcome of that call, once.
     #[inline]
     pub(crate) fn take_alone(&mut self, call: &AskedCall<'_>) -> CallResult {
         self.calls.take_alone(call)
     }
 
-    /// The session has an observer.
+    /// Notes that the session has an observer.
     pub(crate) fn is_observed(&mut self) {
         self.tally.is_observed = true;
     }
 
-    /// The counts of the session, and what it holds.
+    /// The session's counts, and what it holds.
     pub(crate) fn stats(&self) -> Stats {
         let mut stats = self.tally.stats.clone();
         let trees = self.trees.values().filter_map(FollowedTree::latest);
@@ -509,7 +509,7 @@ impl Engine {
         stats
     }
 
-    /// A moment before which nothing is due. It is after this one, unless something is due by then.
+    /// A moment before which nothing is due. It is after `now`, unless something is due by then.
     #[inline]
     fn due(&self, now: Moment) -> Moment {
         let due = self.deadline.at(now, &self.machine);
@@ -519,7 +519,7 @@ impl Engine {
         due.min(self.credentials.deadline())
     }
 
-    /// Whether something is due on the connection already.
+    /// Whether something is already due on the connection.
     pub(crate) fn is_late(&self, now: Moment) -> bool {
         self.outbox.is_some() && self.due(now) <= now
     }
@@ -535,7 +535,7 @@ impl Engine {
         (outbox.waiting() > 0).then(|| Arc::clone(outbox))
     }
 
-    /// The connection that is to be written to, or to be closed.
+    /// Takes the outbox that has frames to write, or has ended.
     pub(crate) fn take_to_write(&mut self) -> Option<Arc<Outbox>> {
         self.to_write.take()
     }
@@ -552,7 +552,7 @@ impl Engine {
         self.calls.wait_for(Some(Search { hosts, last }));
     }
 
-    /// A server was found, or another one is looked for.
+    /// Forgets how attempts ended: a server was found, or another search begins.
     fn forget_attempts(&mut self) {
         self.reasons.clear();
         self.calls.wait_for(None);
@@ -561,7 +561,7 @@ impl Engine {
 
 /// Tasks and moments.
 impl Engine {
-    /// The driver's next task at this moment, until another one at most.
+    /// The driver's next task at this moment, which lasts at most until another one.
     #[inline]
     pub(crate) fn plan(&self, now: Moment, until: Moment) -> Plan {
         if self.is_over() {
@@ -587,7 +587,7 @@ impl Engine {
         }
     }
 
-    /// Until when the connection is read, before something else is to be looked at.
+    /// The moment until which to read the connection, before something else needs a look.
     #[inline]
     fn listens_until(&self, now: Moment, until: Moment) -> Moment {
         let until = until.min(self.tree_deadline());
@@ -597,19 +597,19 @@ impl Engine {
         until.min(now.saturating_add(LOOK_ROUND))
     }
 
-    /// Hands the present moment in.
+    /// Hands in the present moment.
     pub(crate) fn tick(&mut self) -> Result<(), Fault> {
         self.tick_at(self.clock.now())
     }
 
-    /// Hands in a moment, up to which all bytes were handed in.
+    /// Hands in a moment. All bytes up to it are already handed in.
     pub(crate) fn tick_at(&mut self, now: Moment) -> Result<(), Fault> {
         self.step(now, Machine::tick)?;
         self.expire_credential_calls(now);
         Ok(())
     }
 
-    /// The limit of a call has come. The machine gets it, unless something was due on the connection before: that is for its reader.
+    /// The limit of a call has come. The machine gets it, unless something was due on the connection before: then the reader comes first.
     pub(crate) fn expire_calls(&mut self, limit: Moment) {
         let now = self.clock.now();
         if self.is_over() || now < limit {

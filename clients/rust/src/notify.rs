@@ -4,16 +4,16 @@ use std::sync::atomic::{AtomicUsize, Ordering};
 use std::sync::{Condvar, MutexGuard, PoisonError};
 use std::time::Duration;
 
-/// Wakes the threads that wait for a change of what a lock guards. If none waits, it makes no system call.
+/// Wakes threads that wait for a change of what a lock guards. It makes no system call if none waits.
 #[derive(Debug, Default)]
 pub(crate) struct Notify {
     changed: Condvar,
-    /// How many wait. Each thread counts itself before it releases the lock, so the next holder knows.
+    /// How many threads wait. Each counts itself before it releases the lock, so the next holder knows.
     waiting: AtomicUsize,
 }
 
 impl Notify {
-    /// Releases the lock until the next `notify_all`, for so long at most, or without a limit.
+    /// Releases the lock until the next `notify_all`, at most this long, or without a limit.
     pub(crate) fn wait<'a, T>(
         &self,
         guard: MutexGuard<'a, T>,
@@ -36,7 +36,7 @@ impl Notify {
         guard
     }
 
-    /// Wakes all threads that wait. The caller has held the lock since the change.
+    /// Wakes all waiting threads. The caller has held the lock since the change.
     pub(crate) fn notify_all(&self) {
         if self.waiting.load(Ordering::Relaxed) > 0 {
             self.changed.notify_all();
@@ -52,7 +52,7 @@ mod tests {
     use std::thread;
     use std::time::{Duration, Instant};
 
-    /// How long what is awaited may take.
+    /// How long a test waits for something.
     const PATIENCE: Duration = Duration::from_secs(10);
 
     #[test]

@@ -6,10 +6,10 @@ use std::mem;
 use std::sync::{Arc, Mutex, MutexGuard, PoisonError};
 use std::time::Duration;
 
-/// The most pieces that a passing thread writes, since other threads may put frames there all the while.
+/// The most pieces that a passing thread writes: meanwhile others may put more frames there.
 const MOST_PIECES: usize = 16;
 
-/// The half of a connection that is written, and the bytes that were taken for it, of which the first ones are written.
+/// The write half of a connection, and the bytes taken for it, the first of which are written.
 struct Line {
     outgoing: Box<dyn Outgoing>,
     taken: Vec<u8>,
@@ -21,7 +21,7 @@ impl Line {
         self.taken.len() - self.written
     }
 
-    /// Writes some of what was taken.
+    /// Writes some of the bytes taken.
     fn write(&mut self, wait: Duration) -> io::Result<()> {
         match self.outgoing.write(&self.taken[self.written..], wait)? {
             0 => Err(io::ErrorKind::WriteZero.into()),
@@ -33,15 +33,15 @@ impl Line {
     }
 }
 
-/// What the lock of an outbox guards. It is never held while something is written.
+/// What the lock of an outbox guards. No thread holds it while it writes.
 struct Held {
-    /// None while a thread writes, and once it is closed.
+    /// `None` while a thread writes, and once it is closed.
     line: Option<Box<Line>>,
-    /// How many bytes of the line are not written.
+    /// How many bytes of the line are unwritten.
     left: usize,
     /// Whole frames, after those bytes.
     frames: Vec<u8>,
-    /// Whether a helper writes: no other thread does then.
+    /// Whether a helper writes: then no other thread does.
     is_helped: bool,
     is_over: bool,
 }
@@ -52,12 +52,12 @@ impl Held {
         self.left + self.frames.len()
     }
 
-    /// Whether nothing is to be written, nor to be closed.
+    /// Whether there is nothing to write or close.
     fn is_done(&self) -> bool {
         self.waiting() == 0 && !self.is_over
     }
 
-    /// How the writes have ended if something is left to be done, unless this thread writes on.
+    /// How the writes ended, if something is left to do, unless this thread goes on writing.
     #[cold]
     fn written(&mut self, writer: Writer, done: io::Result<()>, is_last: bool) -> Option<Written> {
         let is_full = done.is_err() || self.left > 0 || is_last;
@@ -77,14 +77,14 @@ impl Held {
     }
 }
 
-/// Which thread writes.
+/// The kind of thread that writes.
 #[derive(Clone, Copy, Debug, PartialEq, Eq)]
 pub(crate) enum Writer {
-    /// A thread that has something else to do: a helper writes what there is no room for.
+    /// A thread with something else to do: a helper writes what finds no room.
     Passing,
     /// The same in a session without helpers.
     Alone,
-    /// A thread that only writes.
+    /// A thread that does nothing but write.
     Helper,
 }
 
@@ -95,7 +95,7 @@ pub(crate) enum Written {
     All,
     /// There was no room in time, and something waits.
     Some,
-    /// The same, and a helper has to begin.
+    /// The same, and a helper has to start.
     WantsHelper,
     /// The write failed: the connection is over.
     Failed,
@@ -128,7 +128,7 @@ impl Outbox {
         self.held.lock().unwrap_or_else(PoisonError::into_inner)
     }
 
-    /// These frames are to be written, after those that wait. They are copied only if some do. How many bytes wait then.
+    /// Adds these frames after those that wait, and copies them only if some do. Returns how many bytes wait then.
     #[inline]
     pub(crate) fn put(&self, frames: &mut Vec<u8>) -> usize {
         let mut held = self.held();
@@ -145,12 +145,12 @@ impl Outbox {
         self.held().waiting()
     }
 
-    /// The connection is over: who writes next closes it.
+    /// Notes that the connection is over: the next writer closes it.
     pub(crate) fn end(&self) {
         self.held().is_over = true;
     }
 
-    /// Writes what waits, and closes what is over. It waits for room once, for so long at most.
+    /// Writes what waits, and closes what is over. It waits for room once, at most this long.
     pub(crate) fn write(&self, writer: Writer, wait: Duration) -> Written {
         let mut pieces = 0;
         loop {
@@ -166,7 +166,7 @@ impl Outbox {
         }
     }
 
-    /// Takes what is to be written, if nobody else writes.
+    /// Takes what is to be written, unless another thread writes.
     fn begin(&self, writer: Writer) -> Option<Box<Line>> {
         let mut held = self.held();
         if held.is_helped && writer != Writer::Helper {
@@ -191,7 +191,7 @@ impl Outbox {
         Some(line)
     }
 
-    /// Another thread may write. How the writes have ended, unless this thread writes on.
+    /// Lets another thread write. Returns how the writes ended, unless this thread goes on writing.
     fn put_back(
         &self,
         line: Box<Line>,
@@ -209,7 +209,7 @@ impl Outbox {
         held.written(writer, done, is_last)
     }
 
-    /// No helper writes any more.
+    /// Notes that the helper has stopped.
     pub(crate) fn is_unhelped(&self) {
         self.held().is_helped = false;
     }
@@ -223,14 +223,14 @@ mod tests {
     use std::sync::{Arc, Mutex};
     use std::time::Duration;
 
-    /// What a line was handed, and whether it was closed.
+    /// The bytes that a line got, and whether it was closed.
     #[derive(Default)]
     struct Seen {
         bytes: Vec<u8>,
         is_closed: bool,
     }
 
-    /// A line that does these things in turn, and then takes all.
+    /// A line that does these things in turn, and then takes everything.
     struct Scripted {
         turns: Vec<Result<usize, ErrorKind>>,
         seen: Arc<Mutex<Seen>>,

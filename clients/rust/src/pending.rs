@@ -1,4 +1,4 @@
-//! The pending calls of a session, and those that are answered until they are told so.
+//! The pending calls of a session, and the answered ones until their answers are delivered.
 
 use crate::answer::{Answer, Outcome};
 use crate::chroot::Chroot;
@@ -11,7 +11,7 @@ use std::hash::{BuildHasherDefault, Hasher};
 use std::mem;
 use std::sync::Arc;
 
-/// A call that waits.
+/// A waiting call.
 struct PendingCall {
     /// Where its answer goes.
     slot: Arc<Slot>,
@@ -19,12 +19,12 @@ struct PendingCall {
     raw: Option<Arc<RawCall>>,
 }
 
-/// The call of a session without a thread, which asks one at a time: it takes no place in a table, and its answer has one here.
+/// The call of a session without a thread, which makes one at a time: it takes no place in a table, and its answer is kept here.
 struct CallAlone {
-    /// Its ticket, as long as it waits.
+    /// Its ticket, while it waits.
     ticket: Option<u64>,
     raw: Option<Arc<RawCall>>,
-    /// How it ends, once it waits no more.
+    /// Its outcome, once it no longer waits.
     outcome: Outcome,
 }
 
@@ -44,7 +44,7 @@ impl CallAlone {
     }
 }
 
-/// The answer of a call that the core does not read. Whether it parses: if not, the call may have happened.
+/// The answer to a call that the core does not read, and whether it parses: if not, the call may have happened.
 fn read(call: &RawCall, outcome: Outcome, root: &Chroot) -> (Outcome, bool) {
     let Ok(found) = &outcome else {
         return (outcome, true);
@@ -55,7 +55,7 @@ fn read(call: &RawCall, outcome: Outcome, root: &Chroot) -> (Outcome, bool) {
     (read.unwrap_or_else(lost), parses)
 }
 
-/// A hash for tickets: no one outside chooses them.
+/// A hash for tickets. Nobody outside chooses them.
 #[derive(Default)]
 struct TicketHasher(u64);
 
@@ -75,7 +75,7 @@ impl Hasher for TicketHasher {
     }
 }
 
-/// The calls that wait, by their tickets. The one that began while no other waited is kept aside: it takes no place in a table.
+/// The waiting calls, by their tickets. A call that began while no other waited is kept apart, so that it takes no place in a table.
 #[derive(Default)]
 struct Waiting {
     first: Option<(u64, PendingCall)>,
@@ -119,7 +119,7 @@ impl Waiting {
     }
 }
 
-/// The calls of a session, which wait in its machine, and those whose answers were not told yet.
+/// The calls of a session, which wait in its machine, and those whose answers are not yet delivered.
 #[derive(Default)]
 pub(crate) struct PendingCalls {
     last_ticket: u64,
@@ -130,7 +130,7 @@ pub(crate) struct PendingCalls {
 }
 
 impl PendingCalls {
-    /// Why calls wait for a connection: this search for a server, if there is one.
+    /// Sets why calls wait for a connection: this search for a server, if there is one.
     pub(crate) fn wait_for(&mut self, search: Option<Search>) {
         self.search = search;
     }
@@ -146,14 +146,14 @@ impl PendingCalls {
         self.last_ticket
     }
 
-    /// The ticket of a call that is asked now.
+    /// The ticket of a new call.
     pub(crate) fn begin(&mut self, slot: Arc<Slot>) -> u64 {
         let ticket = self.next_ticket();
         self.waiting.insert(ticket, PendingCall { slot, raw: None });
         ticket
     }
 
-    /// The same, of the one that asks one at a time. An answer to the call before it is nobody's from now on.
+    /// The same for a session that makes one call at a time. From now on the last call's answer belongs to nobody.
     #[inline]
     pub(crate) fn begin_alone(&mut self) -> u64 {
         let ticket = self.next_ticket();
@@ -162,7 +162,7 @@ impl PendingCalls {
         ticket
     }
 
-    /// This call will read the answer to the call of this ticket.
+    /// Lets this call read the answer to the one with this ticket.
     pub(crate) fn is_read_by(&mut self, ticket: u64, call: Arc<RawCall>) {
         if self.alone.waits(ticket) {
             self.alone.raw = Some(call);
@@ -171,13 +171,13 @@ impl PendingCalls {
         }
     }
 
-    /// Whether the call of this ticket has no answer yet.
+    /// Whether the call of this ticket is still unanswered.
     pub(crate) fn waits(&self, ticket: u64) -> bool {
         self.alone.waits(ticket) || self.waiting.has(ticket)
     }
 
-    /// Where the answer to the call of this ticket goes, if the one has asked it that asks one at a time, and the core has read it. The
-    /// call has ended: the answer is put there at once.
+    /// Ends the call of this ticket if its session makes one at a time and the core has read its answer. Returns the place for the answer,
+    /// which goes there at once.
     #[inline]
     pub(crate) fn end_alone(&mut self, ticket: u64) -> Option<&mut Outcome> {
         if !self.alone.waits(ticket) || self.alone.raw.is_some() {
@@ -187,7 +187,7 @@ impl PendingCalls {
         Some(&mut self.alone.outcome)
     }
 
-    /// A call is answered. If the core has not read the answer, the call reads it. Whether it parses: if not, the call may have happened.
+    /// Answers a call. If the core has not read the answer, the call does. Returns whether it parses: if not, the call may have happened.
     pub(crate) fn read(&mut self, ticket: u64, outcome: Outcome, root: &Chroot) -> bool {
         let raw = if self.alone.waits(ticket) {
             self.alone.raw.take()
@@ -202,7 +202,7 @@ impl PendingCalls {
         parses
     }
 
-    /// A call ends so.
+    /// Ends a call with this outcome.
     pub(crate) fn end(&mut self, ticket: u64, outcome: Outcome) {
         if self.alone.waits(ticket) {
             self.alone.ticket = None;
@@ -217,7 +217,7 @@ impl PendingCalls {
         self.answered.push(slot);
     }
 
-    /// All calls have this answer, also those that were not sent yet.
+    /// Ends all calls with this error, also those that are not yet sent.
     pub(crate) fn end_all(&mut self, kind: &ErrorKind) {
         if let Some(ticket) = self.alone.ticket {
             self.end(ticket, Err(kind.clone()));
@@ -227,19 +227,19 @@ impl PendingCalls {
         }
     }
 
-    /// Whether the call of the one that asks one at a time has ended.
+    /// Whether the call of a session that makes one at a time has ended.
     #[inline]
     pub(crate) fn has_ended_alone(&self) -> bool {
         self.alone.ticket.is_none()
     }
 
-    /// What is noted of how that call has ended.
+    /// How that call ended, as it is noted.
     #[inline]
     pub(crate) fn ending_alone(&self) -> Ending<'_> {
         self.alone.outcome.as_ref().map(|found| found.zxid)
     }
 
-    /// How that call has ended. It is taken once.
+    /// Takes the outcome of that call, once.
     #[inline]
     pub(crate) fn take_alone(&mut self, call: &AskedCall<'_>) -> CallResult {
         match &mut self.alone.outcome {
@@ -248,12 +248,12 @@ impl PendingCalls {
         }
     }
 
-    /// Whether answers are to be told.
+    /// Whether there are answers to deliver.
     pub(crate) fn has_answered(&self) -> bool {
         !self.answered.is_empty()
     }
 
-    /// The calls whose answers are to be told.
+    /// Takes the calls whose answers are to be delivered.
     pub(crate) fn take_answered(&mut self) -> Vec<Arc<Slot>> {
         mem::take(&mut self.answered)
     }

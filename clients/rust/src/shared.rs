@@ -1,4 +1,4 @@
-//! The engine and its lock, as the threads of a session share them, and the threads and futures that wait for it.
+//! The engine and its lock, which the threads of a session share, and the threads and futures that wait for it.
 
 use crate::engine::{Engine, News, Plan};
 use crate::events::Event;
@@ -21,10 +21,10 @@ use std::time::{Duration, Instant};
 /// The longest wait of one read, and of one rest: an hour.
 pub(crate) const LONGEST_WAIT: Duration = Duration::from_secs(3_600);
 
-/// How long a helper waits for room at a time, and a session without helpers while something waits to be written.
+/// How long a helper waits for room at a time, as does a session without helpers while something waits to be written.
 pub(crate) const WAIT_FOR_ROOM: Duration = Duration::from_millis(20);
 
-/// The wakers of those that poll, by their keys.
+/// The wakers of polled futures, by their keys.
 #[derive(Default)]
 struct Wakers {
     last: u64,
@@ -34,20 +34,20 @@ struct Wakers {
 /// An engine that threads share.
 pub(crate) struct Shared {
     engine: Mutex<Engine>,
-    /// A look-up that waits for the engine holds this for reading. The next bytes wait for it: the lock of the engine is not fair.
+    /// A look-up that waits for the engine holds this for reading. The next bytes wait for it, because the engine's lock is not fair.
     looks: RwLock<()>,
     clock: Clock,
     changed: Notify,
     wakers: Mutex<Wakers>,
     observer: Option<Observer>,
-    /// Which thread writes what there is no room for at once: a helper, or the driver's own.
+    /// The kind of thread that writes what finds no room at once: a helper, or the driver's own.
     writer: Writer,
-    /// Whether there was no room for all at the last write.
+    /// Whether the last write found too little room.
     is_full: AtomicBool,
     own: Weak<Shared>,
 }
 
-/// Its lock, and what happens once it is released.
+/// Its lock, and the work after it is released.
 impl Shared {
     pub(crate) fn new(
         mut engine: Engine,
@@ -74,13 +74,13 @@ impl Shared {
         self.clock
     }
 
-    /// Locks the engine. Whoever changes it goes on by [`release`](Shared::release).
+    /// Locks the engine. Whoever changes it then calls [`release`](Shared::release).
     #[inline]
     pub(crate) fn lock(&self) -> MutexGuard<'_, Engine> {
         self.engine.lock().unwrap_or_else(PoisonError::into_inner)
     }
 
-    /// The same for bytes, of which a step may take long: after the look-ups that wait by now, so that none waits for two such steps.
+    /// The same for bytes, whose step may take long: it comes after the look-ups that already wait, so that none waits for two such steps.
     #[inline]
     pub(crate) fn lock_after_looks(&self) -> MutexGuard<'_, Engine> {
         drop(self.looks.write());
@@ -95,7 +95,7 @@ impl Shared {
         result
     }
 
-    /// How the call has ended, by now, that a session without a thread has asked.
+    /// Takes the outcome of the call of a session without a thread, which has ended by now.
     #[inline]
     pub(crate) fn take_alone<'a>(
         &'a self,
@@ -125,7 +125,7 @@ impl Shared {
         }
     }
 
-    /// The same if there may be something to be told.
+    /// The same if there may be something to hand out.
     #[inline(never)]
     fn hand_out(&self, mut engine: MutexGuard<'_, Engine>, outbox: Option<Arc<Outbox>>) {
         let news = engine.take_news();
@@ -142,7 +142,7 @@ impl Shared {
         }
     }
 
-    /// Wakes those that wait for news.
+    /// Wakes whoever waits for news.
     fn tell(&self, news: News) {
         for slot in news.answered {
             slot.tell();
@@ -157,7 +157,7 @@ impl Shared {
         }
     }
 
-    /// Tells the observer. Its panic goes on once all else is handed out, for which others wait.
+    /// Calls the observer. A panic of it goes on once everything else is handed out, because others wait for that.
     fn observe(&self, seen: &[Observation]) -> thread::Result<()> {
         let Some(observer) = &self.observer else {
             return Ok(());
@@ -166,13 +166,13 @@ impl Shared {
         catch_unwind(AssertUnwindSafe(tell))
     }
 
-    /// Wakes all threads that wait and all futures that were polled.
+    /// Wakes all waiting threads and all polled futures.
     pub(crate) fn notify_all(&self) {
         self.changed.notify_all();
         let mut wakers = self.wakers();
         if !wakers.waiting.is_empty() {
             let waiting = mem::take(&mut wakers.waiting);
-            drop(wakers); // without the lock: what is woken may poll
+            drop(wakers); // without the lock: whatever wakes may poll
             waiting.into_values().for_each(Waker::wake);
         }
     }
@@ -181,7 +181,7 @@ impl Shared {
         self.wakers.lock().unwrap_or_else(PoisonError::into_inner)
     }
 
-    /// A poller of its own for a future.
+    /// A new poller for a future.
     pub(crate) fn poller(&self) -> Poller {
         let mut wakers = self.wakers();
         wakers.last += 1;
@@ -191,18 +191,18 @@ impl Shared {
         }
     }
 
-    /// Has all threads that wait look again. It takes the lock first, so that none of them is between its look and its wait.
+    /// Makes all waiting threads look again. It takes the lock first, so that none of them is between its look and its wait.
     pub(crate) fn wake(&self) {
         drop(self.lock());
         self.notify_all();
     }
 
-    /// Waits until something is changed, for so long at most.
+    /// Waits until something changes, at most this long.
     fn rest<'a>(&self, engine: MutexGuard<'a, Engine>, wait: Duration) -> MutexGuard<'a, Engine> {
         self.changed.wait(engine, Some(wait.min(LONGEST_WAIT)))
     }
 
-    /// Writes what waits for a connection, and closes one that is over. Whether something waits for room still.
+    /// Writes what waits for a connection, and closes one that is over. Returns whether something still waits for room.
     fn write(&self, outbox: &Arc<Outbox>, writer: Writer, wait: Duration) -> bool {
         let mut guard = PanicGuard {
             shared: self,
@@ -215,7 +215,7 @@ impl Shared {
         is_full
     }
 
-    /// A write has not written all. Whether something waits for room still.
+    /// Deals with a write that left something. Returns whether something still waits for room.
     #[cold]
     fn is_filled(&self, outbox: &Arc<Outbox>, written: Written) -> bool {
         match written {
@@ -229,7 +229,7 @@ impl Shared {
         }
     }
 
-    /// A thread of its own writes what there is no room for, until nothing waits. If the system makes none, the connection is over.
+    /// Starts a thread that writes what finds no room, until nothing waits. If the system makes none, the connection is over.
     fn begin_to_help(&self, outbox: &Arc<Outbox>) -> bool {
         let Some(shared) = self.own.upgrade() else {
             return false;
@@ -244,7 +244,7 @@ impl Shared {
         true
     }
 
-    /// Writes on for a while, in a session without helpers. Whether something waits for room still.
+    /// Goes on writing for a while, in a session without helpers. Returns whether something still waits for room.
     #[inline]
     pub(crate) fn writes_on(&self) -> bool {
         self.writer == Writer::Alone && self.is_full.load(Ordering::Relaxed) && self.goes_on()
@@ -256,7 +256,7 @@ impl Shared {
         unwritten.is_some_and(|outbox| self.write(&outbox, Writer::Alone, WAIT_FOR_ROOM))
     }
 
-    /// Looks at the engine, which goes no further.
+    /// Looks at the engine, which stands still meanwhile.
     pub(crate) fn look<R>(&self, look: impl FnOnce(&Engine) -> R) -> R {
         let waits = self.looks.read();
         let engine = self.lock();
@@ -264,12 +264,12 @@ impl Shared {
         look(&engine)
     }
 
-    /// The same, and notes that it was looked at: nothing is to be handed out.
+    /// The same for a look that the engine notes: there is nothing to hand out.
     pub(crate) fn note<R>(&self, look: impl FnOnce(&mut Engine) -> R) -> R {
         look(&mut self.lock())
     }
 
-    /// Waits while this holds, until this instant at most.
+    /// Waits while this holds, at most until this instant.
     pub(crate) fn wait_while(&self, until: Option<Instant>, holds: impl Fn(&Engine) -> bool) {
         let mut engine = self.lock();
         while holds(&engine) {
@@ -293,7 +293,7 @@ impl Shared {
         plan
     }
 
-    /// The next event: one that waits, or the first that comes until this instant. None if none has come, or the session is over.
+    /// Returns the next event. If none waits, it waits for one until this instant. `None` if none has come, or the session is over.
     pub(crate) fn next_event(&self, until: Option<Instant>) -> Result<Option<Event>, Fault> {
         let mut engine = self.lock();
         loop {
@@ -318,7 +318,7 @@ pub(crate) struct Poller {
 }
 
 impl Poller {
-    /// Looks. If it finds nothing, the next change wakes the waker of this context, which another thread may do at once.
+    /// Looks. If it finds nothing, the next change wakes the waker of this context, maybe at once, from another thread.
     pub(crate) fn poll<R>(
         &self,
         context: &Context<'_>,
@@ -329,7 +329,7 @@ impl Poller {
         };
         let waker = context.waker().clone();
         let before = shared.wakers().waiting.insert(self.key, waker);
-        drop(before); // without the lock: what it holds may poll too
+        drop(before); // without the lock: whatever it holds may poll too
         shared.note(look)
     }
 }
@@ -364,7 +364,7 @@ impl ExpireCalls for Shared {
     }
 }
 
-/// Asks a request of a session: the ticket for its answer.
+/// Makes a request of a session, and returns the ticket for its answer.
 pub(crate) fn ask<T>(shared: &Arc<Shared>, mut request: Request<T>) -> Ticket<T> {
     let path = mem::take(&mut request.path);
     let asking = request.lend().asking;

@@ -10,23 +10,23 @@ use crate::ticket::Slot;
 use std::sync::Arc;
 use std::time::Duration;
 
-/// The longest wait of a close for a server that accepts the session. Without it the session ends by its timeout.
+/// The longest wait of a close for a server that accepts the session. Without one the session ends by its timeout.
 const LONGEST_CLOSE: Duration = Duration::from_secs(1);
 
-/// The most unwritten bytes of a connection at which a new call is taken.
+/// The most unwritten bytes of a connection with which it takes a new call.
 const MOST_UNWRITTEN: usize = 16 * 1_048_576;
 
 /// The limit of a call, and whether the driver has to wake.
 #[derive(Clone, Copy, Debug)]
 pub(crate) struct Wait {
-    /// To which moment it waits.
+    /// The moment until which it waits.
     pub(crate) until: Moment,
     /// Whether the driver rests, and has to look again.
     pub(crate) is_to_wake: bool,
 }
 
 impl Engine {
-    /// Asks a call, at the moment that its slot was made. Its answer comes there.
+    /// Makes a call, at the moment at which its slot was made. The answer goes there.
     pub(crate) fn ask(&mut self, now: Moment, asking: &Asking<'_>, slot: &Arc<Slot>) -> Wait {
         let ticket = self.calls.begin(Arc::clone(slot));
         let is_to_wake = self.outbox.is_none();
@@ -34,13 +34,13 @@ impl Engine {
         Wait { until, is_to_wake }
     }
 
-    /// The same, of a session that asks one call at a time. Its answer waits to be taken.
+    /// The same for a session that makes one call at a time. Its answer waits for its caller.
     pub(crate) fn ask_alone(&mut self, now: Moment, asking: &Asking<'_>) {
         let ticket = self.calls.begin_alone();
         self.ask_by(now, ticket, asking);
     }
 
-    /// Asks a call by this ticket. To which moment it waits.
+    /// Makes a call with this ticket. Returns the moment until which it waits.
     fn ask_by(&mut self, now: Moment, ticket: u64, asking: &Asking<'_>) -> Moment {
         let until = self.limit_of(asking, now);
         let put = match self.refusal(asking.call) {
@@ -53,7 +53,7 @@ impl Engine {
         until
     }
 
-    /// Why this call is refused. None, without a look at the reasons, if all is as it mostly is.
+    /// Why this call is refused. Mostly `None`, without a look at the reasons.
     #[inline]
     fn refusal(&self, call: LentCall<'_>) -> Option<ErrorKind> {
         if !self.is_over() && self.most_unwritten <= MOST_UNWRITTEN {
@@ -63,7 +63,7 @@ impl Engine {
         self.refusal_of_all().or_else(of_backlog)
     }
 
-    /// Why no call is asked while a server reads slowly. To end the session always may be.
+    /// Why no call is taken while a server reads slowly. A call that ends the session always is.
     #[cold]
     fn refusal_of_backlog(&self, call: LentCall<'_>) -> Option<ErrorKind> {
         let waiting = self.outbox.as_ref().map_or(0, |outbox| outbox.waiting());
@@ -71,8 +71,8 @@ impl Engine {
         is_refused.then_some(ErrorKind::QueueFull)
     }
 
-    /// The limit of a call: its own, else the session's, else the timeout. A close waits for a second at most while no server has accepted
-    /// the session.
+    /// The limit of a call: its own, else the session's, else the timeout. A close waits at most a second while no server has accepted the
+    /// session.
     fn limit_of(&self, asking: &Asking<'_>, now: Moment) -> Moment {
         let after = |limit: Duration| now.saturating_add(limit.saturating_add(UNCOUNTED));
         let limit = asking.limit.or(self.limit);
@@ -124,7 +124,7 @@ impl Engine {
         Ok(())
     }
 
-    /// Whether a call waits that closes the session.
+    /// Whether a call that closes the session is waiting.
     pub(super) fn is_closing(&self) -> bool {
         self.closing.is_some_and(|ticket| self.calls.waits(ticket))
     }

@@ -1,4 +1,4 @@
-//! The connection: attempts to make one, what it brings, and its end.
+//! The connection: attempts to make one, its bytes, and its end.
 
 use super::{Attempt, Engine, Phase, NEVER};
 use crate::connection::Outgoing;
@@ -12,7 +12,7 @@ use std::mem;
 use std::net::SocketAddr;
 
 impl Engine {
-    /// The attempt to connect that the driver begins now.
+    /// Takes the attempt to connect that the driver begins now.
     pub(crate) fn begin_attempt(&mut self) -> Option<Attempt> {
         let attempt = self.wanted.take()?;
         self.dialling = Some(attempt.number);
@@ -20,14 +20,14 @@ impl Engine {
         Some(attempt)
     }
 
-    /// Whether the machine still wants this attempt. It is over, however it went.
+    /// Ends this attempt, and returns whether the machine still wants it.
     fn takes_attempt(&mut self, number: u64) -> bool {
         let is_wanted = self.dialling == Some(number) && !self.is_over();
         self.dialling = self.dialling.filter(|dialling| *dialling != number);
         is_wanted
     }
 
-    /// The attempt of this number has failed.
+    /// Notes that the attempt of this number has failed.
     pub(crate) fn has_failed(&mut self, number: u64, fault: &io::Error) -> Result<(), Fault> {
         self.note_attempt(fault.to_string());
         let why = fault.to_string();
@@ -38,7 +38,7 @@ impl Engine {
         Ok(())
     }
 
-    /// The attempt of this number has made a connection to this address. It is closed if the machine has given the attempt up.
+    /// Notes that the attempt of this number has made a connection to this address. It is closed if the machine has given the attempt up.
     pub(crate) fn opened(
         &mut self,
         number: u64,
@@ -64,7 +64,7 @@ impl Engine {
         self.step(now, Machine::opened)
     }
 
-    /// Hands in bytes that came from the server by now, after those that there was no memory for.
+    /// Hands in bytes that came from the server by now, after those that found no memory.
     #[inline]
     pub(crate) fn hand_in(&mut self, now: Moment, bytes: &[u8]) -> Result<(), Fault> {
         if !bytes.is_empty() {
@@ -106,14 +106,14 @@ impl Engine {
         self.tally.note(Observation::Connected { server, session });
     }
 
-    /// Notes why a connection is given up whose session was accepted.
+    /// Notes why a connection with an accepted session is given up.
     pub(super) fn note_unanswered(&mut self) {
         if let Some(address) = self.address {
             self.note_attempt(format!("{address}: an answer did not come"));
         }
     }
 
-    /// The connection is over, if there is one.
+    /// Ends the connection, if there is one.
     pub(crate) fn end(&mut self) -> Result<(), Fault> {
         if self.outbox.is_none() {
             return Ok(());

@@ -1,4 +1,4 @@
-//! The contenders of a session, which its machine has. It decides all about them: here is noted what it tells.
+//! The contenders of a session, which its machine has. The machine decides everything about them; this module notes its reports.
 
 use super::Engine;
 use crate::acl::Acl;
@@ -10,7 +10,7 @@ use std::collections::BTreeMap;
 use std::mem;
 use std::task::Poll;
 
-/// A contender as the machine is handed it, which another machine may be too.
+/// A contender as the machine gets it, and any later machine.
 #[derive(Clone, Debug)]
 pub(crate) struct Entry {
     /// The directory, as the servers know it.
@@ -34,13 +34,13 @@ impl Entry {
     }
 }
 
-/// A contender that has joined, and what was told of it last.
+/// A contender that has joined, and the last report of it.
 struct Joined {
     entry: Entry,
-    /// The path by which an event tells that it stands otherwise, if events do.
+    /// The path for its events, if it has any.
     told_as: Option<String>,
     update: Option<ContenderUpdate>,
-    /// The token by which someone relies on it. If it no longer holds by this one, it is given up.
+    /// The token on which someone relies. If it no longer holds with this one, it gives up.
     token: Option<i64>,
     /// Why the machine that took the session up did not take it.
     fault: Option<Fault>,
@@ -48,7 +48,7 @@ struct Joined {
 }
 
 impl Joined {
-    /// The token by which it holds, as was told last.
+    /// The token with which it holds, by the last report.
     fn holds(&self) -> Option<i64> {
         match self.update {
             Some(ContenderUpdate::Holds(token)) if !self.is_given_up => Some(token),
@@ -56,7 +56,7 @@ impl Joined {
         }
     }
 
-    /// Why it does not get on, for a reason that does not pass.
+    /// Why it cannot get on, for a reason that does not pass.
     fn refusal(&self) -> Option<ErrorKind> {
         match (&self.fault, self.update) {
             (Some(fault), _) => Some(fault.clone().into()),
@@ -67,7 +67,7 @@ impl Joined {
         }
     }
 
-    /// Whether someone relies on a token by which it holds no more.
+    /// Whether someone relies on a token with which it no longer holds.
     fn is_lost(&self) -> bool {
         self.token.is_some() && self.holds() != self.token && !self.is_given_up
     }
@@ -81,12 +81,12 @@ pub(crate) struct Contenders {
 }
 
 impl Contenders {
-    /// Whether something was told since `takes_news` was asked.
+    /// Whether there was a report since the last call of `takes_news`.
     pub(crate) fn is_news(&self) -> bool {
         self.is_news
     }
 
-    /// Whether something was told since this was asked.
+    /// Whether there was a report since the last call of this.
     pub(crate) fn takes_news(&mut self) -> bool {
         mem::take(&mut self.is_news)
     }
@@ -95,7 +95,7 @@ impl Contenders {
         self.all.is_empty()
     }
 
-    /// Notes what is told of the contender of this ticket: the path by which an event is to tell it, if one is.
+    /// Notes a report of the contender with this ticket. Returns the path for its event, if there is to be one.
     pub(crate) fn update(&mut self, ticket: u64, update: ContenderUpdate) -> Option<String> {
         self.is_news = true;
         if matches!(update, ContenderUpdate::GivenUp) {
@@ -108,13 +108,13 @@ impl Contenders {
         told_as.filter(|_| is_other && !one.is_given_up)
     }
 
-    /// The session is over, and its places with it.
+    /// Forgets all, because the session is over, and its places with it.
     pub(crate) fn clear(&mut self) {
         self.is_news |= !self.all.is_empty();
         self.all.clear();
     }
 
-    /// The machine has none of them: none holds.
+    /// Notes that the machine has none of them: none holds.
     pub(crate) fn begin_again(&mut self) {
         self.is_news |= !self.all.is_empty();
         self.all.values_mut().for_each(|one| one.update = None);
@@ -131,7 +131,7 @@ impl Contenders {
 pub(crate) type Hold = (i64, String);
 
 impl Engine {
-    /// Contends: the ticket of the contender, of which events tell by this path, or none do.
+    /// Contends, with events for this path, if there are to be any. Returns the contender's ticket.
     pub(crate) fn contend(
         &mut self,
         entry: &Entry,
@@ -153,7 +153,7 @@ impl Engine {
             },
         );
         if let Err(fault) = self.join(ticket, entry, false) {
-            self.contenders.all.remove(&ticket); // nobody has it, and no request of it was sent
+            self.contenders.all.remove(&ticket); // nobody has it, and it has sent no request
             return Err(fault.into());
         }
         Ok(ticket)
@@ -166,7 +166,7 @@ impl Engine {
         })
     }
 
-    /// Another machine has the contenders of the one before. Their places may be there. Each step gives up those that are lost, also before
+    /// Hands the contenders of the last machine to another one. Their places may exist. Each step gives up those that are lost, even before
     /// the machine has them.
     pub(super) fn contend_again(&mut self) {
         let all = self.contenders.all.iter();
@@ -186,7 +186,7 @@ impl Engine {
         }
     }
 
-    /// The contender of this ticket is given up. Its place is deleted, however long it takes.
+    /// Gives the contender of this ticket up. Its place is deleted, however long that takes.
     pub(crate) fn give_up(&mut self, ticket: u64) {
         let one = self.contenders.all.get_mut(&ticket);
         if let Some(one) = one.filter(|one| !one.is_given_up) {
@@ -210,19 +210,19 @@ impl Engine {
         }
     }
 
-    /// Whether there is nothing to be told yet to one that wants to hold.
+    /// Whether a contender has neither the lock nor a refusal yet.
     pub(crate) fn is_contending(&self, ticket: u64) -> bool {
         let one = self.contenders.all.get(&ticket);
         one.is_some_and(|one| one.holds().is_none() && one.refusal().is_none())
     }
 
-    /// Whether another one is before the contender of this ticket.
+    /// Whether another contender is before the one with this ticket.
     pub(crate) fn is_behind(&self, ticket: u64) -> bool {
         let one = self.contenders.all.get(&ticket);
         one.is_some_and(|one| one.update == Some(ContenderUpdate::Waits))
     }
 
-    /// The token by which the contender of this ticket holds, or why it does not: who gets this relies on it from then on.
+    /// The token with which the contender of this ticket holds, or why it does not. From then on the caller relies on it.
     fn take_token(&mut self, ticket: u64) -> Poll<Result<i64, ErrorKind>> {
         if self.is_over() {
             let closed = NoReply::SessionClosed.into();
@@ -242,13 +242,13 @@ impl Engine {
         Poll::Ready(Ok(token))
     }
 
-    /// The same, with the path of its place.
+    /// The same with the path of its place.
     pub(crate) fn take_hold(&mut self, ticket: u64) -> Poll<Result<Hold, ErrorKind>> {
         let taken = self.take_token(ticket);
         taken.map_ok(|token| (token, self.place(ticket).unwrap_or_default()))
     }
 
-    /// The same of one that asks again: its token at the last zxid, and none while it waits.
+    /// The same for a caller that polls: the token at the last zxid, or `None` while it waits.
     pub(crate) fn look_for_token(&mut self, ticket: u64) -> Result<Option<i64>, ErrorKind> {
         match self.take_token(ticket) {
             Poll::Ready(token) => token.map(|token| self.held(ticket).filter(|it| *it == token)),
@@ -262,19 +262,19 @@ impl Engine {
         Some(self.chroot.inner(place))
     }
 
-    /// The token by which the contender of this ticket holds at the last zxid.
+    /// The token with which the contender of this ticket holds at the last zxid.
     pub(crate) fn held(&self, ticket: u64) -> Option<i64> {
         let held = self.machine.held(ticket);
         held.filter(|_| !self.is_over())
     }
 
-    /// Whether a contender that is given up has a place still, and nothing is to be told of it yet.
+    /// Whether a contender that gave up still has a place, and nothing is known of its end yet.
     pub(crate) fn is_leaving(&self, ticket: u64) -> bool {
         let one = self.contenders.all.get(&ticket);
         one.is_some_and(|one| one.refusal().is_none())
     }
 
-    /// Why the place of a contender that is given up is left. None if it is gone.
+    /// Why the place of a contender that gave up is left. `None` if it is gone.
     pub(crate) fn fault_of_leaving(&self, ticket: u64) -> Option<ErrorKind> {
         let one = self.contenders.all.get(&ticket)?;
         let fault = one.refusal().or_else(|| self.fault_of_end());
@@ -291,7 +291,7 @@ mod tests {
     use crate::engine::{Engine, NEVER};
     use crate::fault::Fault;
 
-    /// Two contenders that hold, each by its token, in a session whose machine then halts.
+    /// Two contenders that hold, each with its token, in a session whose machine then halts.
     fn lost() -> (Engine, [u64; 2]) {
         let mut engine = connected();
         let entry = Entry {
@@ -312,14 +312,14 @@ mod tests {
         (engine, tickets)
     }
 
-    /// The step in which the next machine gets the first one gives the second one up, before the machine has it.
+    /// The step in which the next machine gets the first contender gives the second one up, before the machine has it.
     #[test]
     fn none_that_is_lost_contends_on_by_the_next_machine() {
         let (mut engine, tickets) = lost();
         engine.renew().unwrap();
         engine.tick().unwrap();
         open(&mut engine);
-        engine.hand_in(engine.clock.now(), &response(0, 0)).unwrap(); // it has expired, and no place of it is there
+        engine.hand_in(engine.clock.now(), &response(0, 0)).unwrap(); // it has expired, and so have its places
         assert_eq!(tickets.map(|ticket| engine.is_leaving(ticket)), [false; 2]);
     }
 

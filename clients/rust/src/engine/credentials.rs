@@ -44,7 +44,7 @@ impl Engine {
         all.try_for_each(|credential| self.send_credential(&credential))
     }
 
-    /// A server has answered the credential of this place.
+    /// Notes that a server has answered the credential at this place.
     pub(super) fn credential_answered(&mut self, place: usize, code: Code) {
         if code != Code(0) {
             self.bar();
@@ -55,7 +55,7 @@ impl Engine {
         }
     }
 
-    /// The log-in by SASL on this connection has failed. A refusal ends the session.
+    /// Notes that the log-in by SASL on this connection has failed. A refusal ends the session.
     pub(crate) fn log_in_failed(&mut self, fault: &LogInFault) {
         if let Some(address) = self.address {
             self.note_attempt(format!("{address}: {fault}"));
@@ -65,7 +65,7 @@ impl Engine {
         }
     }
 
-    /// A server does not take a credential: the session is over, nobody is dialled any more, and the credentials are forgotten.
+    /// Ends the session because a server refused a credential: it dials nobody any more, and forgets its credentials.
     fn bar(&mut self) {
         if self.is_over() {
             return;
@@ -77,13 +77,13 @@ impl Engine {
         self.contenders.clear();
         let saved = self.machine.saved();
         if let Ok(other) = saved.and_then(|saved| self.machine_of(&saved)) {
-            self.machine = other; // the one before is freed, with what it knows of the session
+            self.machine = other; // this frees the one before, with all that it knows of the session
             self.deadline.forget(self.machine.timeout());
         }
         self.dispatcher.push_event(Event::CredentialsRefused);
     }
 
-    /// Ends the calls whose limit has come, of those that the machine does not know.
+    /// Ends the calls that have reached their limit and that the machine does not know.
     pub(super) fn expire_credential_calls(&mut self, now: Moment) {
         let late = if self.is_open() {
             ErrorKind::TimedOut

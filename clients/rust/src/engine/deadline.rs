@@ -5,28 +5,28 @@ use crate::moment::Moment;
 use std::cell::Cell;
 use std::time::Duration;
 
-/// The longest time after a step within which nothing is due that the step has brought.
+/// The longest time after a step in which nothing is due because of it.
 const LONGEST_REST: Duration = Duration::from_millis(500);
 
-/// The least limit of a call that has none of its own: that of an attempt to connect.
+/// The least limit of a call without one of its own: that of an attempt to connect.
 const SHORTEST_PATIENCE: Duration = Duration::from_secs(1);
 
-/// What a moment does not count of an instant, and a limit of a duration: less than a millisecond each.
+/// The fractions that a moment drops from an instant, and a limit from a duration: less than a millisecond each.
 pub(super) const UNCOUNTED: Duration = Duration::from_nanos(1_999_999);
 
 /// The moment that never comes.
 pub(crate) const NEVER: Moment = Moment::from_millis(u64::MAX);
 
-/// When something is due, as far as that is known. The machine is asked for it only if it may have come.
+/// When something is due, as far as that is known. The machine is asked only if the time may have come.
 #[derive(Default)]
 pub(super) struct Deadline {
     /// Nothing is due before it.
     first: Cell<Moment>,
     /// Whether something is due at it.
     is_known: Cell<bool>,
-    /// For how long after a plain step nothing is due that this has brought, in milliseconds.
+    /// How long after a plain step nothing is due because of it, in milliseconds.
     rest: u64,
-    /// How long a call waits that has no limit of its own, in milliseconds.
+    /// How long a call without a limit of its own waits, in milliseconds.
     patience: u64,
 }
 
@@ -41,12 +41,12 @@ impl Deadline {
         }
     }
 
-    /// The limit of a call that is asked now, and has none of its own: it waits for the timeout.
+    /// The limit of a call that is made now without one of its own: it waits for the timeout.
     pub(super) fn of_call(&self, now: Moment) -> Moment {
         Moment::from_millis(now.as_millis().saturating_add(self.patience))
     }
 
-    /// A moment before which nothing is due. It is after this one, unless something is due by then.
+    /// A moment before which nothing is due. It is after `now`, unless something is due by then.
     #[inline]
     pub(super) fn at(&self, now: Moment, machine: &Machine) -> Moment {
         if self.first.get() <= now && !self.is_known.get() {
@@ -61,14 +61,14 @@ impl Deadline {
         self.is_known.set(true);
     }
 
-    /// Nothing is known of it, of a session with this timeout.
+    /// Forgets all that is known, in a session with this timeout.
     #[cold]
     pub(super) fn forget(&mut self, timeout: Duration) {
         *self = Deadline::of(timeout);
     }
 
-    /// The machine has made a step that has brought answers and frames alone: what these make due is due after a third of the timeout, and
-    /// what is asked again after a second, or later. At this moment it is the limit of a call.
+    /// Notes a step that led only to answers and frames: whatever these make due is due after a third of the timeout, a repeated call after
+    /// a second, or later, and a call at its `limit`.
     pub(super) fn note_plain_step(&mut self, now: Moment, limit: Moment) {
         let rest = Moment::from_millis(now.as_millis().saturating_add(self.rest));
         let first = self.first.get().min(rest).min(limit);

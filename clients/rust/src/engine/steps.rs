@@ -14,12 +14,12 @@ use crate::tree_view::FollowedTree;
 use std::sync::Arc;
 
 impl Engine {
-    /// The moment of a step whose caller has not read all that the connection has.
+    /// The moment for a step of a caller that has not read all bytes of the connection.
     pub(super) fn now(&self) -> Moment {
         self.before_due(self.clock.now())
     }
 
-    /// The same, at this moment. If something is due by then, it is the last moment before: the server's answer may be there, unread.
+    /// The same for this moment. If something is due by then, it is the last moment before: the server's answer may be there, unread.
     pub(super) fn before_due(&self, now: Moment) -> Moment {
         if self.outbox.is_some() {
             return now.min(self.deadline.at(now, &self.machine).before());
@@ -37,7 +37,7 @@ impl Engine {
         self.settle(now, taken)
     }
 
-    /// The same of a call that waits to this moment at most, or of bytes.
+    /// The same for a call that waits until this moment at most, or for bytes.
     #[inline]
     pub(super) fn plain_step<F>(&mut self, now: Moment, until: Moment, step: F) -> Result<(), Fault>
     where
@@ -51,7 +51,7 @@ impl Engine {
         self.settle(now, taken)
     }
 
-    /// Takes a step, and sorts what the machine says.
+    /// Takes a step, and sorts the machine's actions.
     #[inline]
     pub(super) fn sort<F>(&mut self, now: Moment, step: F) -> Result<(), Fault>
     where
@@ -61,7 +61,7 @@ impl Engine {
         self.dispatcher.dispatch(actions, &mut self.calls)
     }
 
-    /// The machine has taken a call that waits to this moment at most, or bytes.
+    /// Notes that the machine has taken bytes, or a call that waits until this moment at most.
     #[inline]
     pub(super) fn note_plain_step(&mut self, now: Moment, until: Moment) {
         if self.dispatcher.update.is_some() {
@@ -70,21 +70,21 @@ impl Engine {
         self.deadline.note_plain_step(now, until);
     }
 
-    /// Whether a step that has not failed has brought answers and frames alone, and nobody else looks at what it does.
+    /// Whether a step succeeded and led only to answers and frames, and nobody else looks at those.
     #[inline]
     pub(super) fn is_plain(&self) -> bool {
         let is_told = self.dispatcher.update.is_none() && self.recorder.is_none();
         is_told && self.contenders.is_empty() && !self.is_over()
     }
 
-    /// Does what the machine has said at such a step.
+    /// Does what the machine says at such a step.
     #[inline]
     pub(super) fn settle_plain(&mut self) -> Result<(), Fault> {
         self.send();
         self.hand_out_answers()
     }
 
-    /// Does what the machine has said at any step, in its order. It closes the connection if the machine says so, or has halted.
+    /// Does what the machine says at any step, in its order. Closes the connection if the machine says so, or has halted.
     #[cold]
     pub(super) fn settle(&mut self, now: Moment, taken: Result<(), Fault>) -> Result<(), Fault> {
         if let Some(recorder) = &mut self.recorder {
@@ -113,7 +113,7 @@ impl Engine {
         taken
     }
 
-    /// Does what the machine has said of its session.
+    /// Does what the machine says about its session.
     fn take_on(&mut self, now: Moment, update: &mut SessionUpdate) {
         if update.is_left {
             self.note_unanswered();
@@ -125,7 +125,7 @@ impl Engine {
         self.note(now, update);
     }
 
-    /// No call gets an answer any more.
+    /// Ends all calls, because no answer can come any more.
     fn end_calls(&mut self) {
         if let Some(reason) = self.reason_of_end() {
             self.calls.end_all(&reason);
@@ -208,7 +208,7 @@ impl Engine {
         }
     }
 
-    /// Hands out answers. If one does not parse, the connection ends.
+    /// Hands out answers, and ends the connection if one does not parse.
     #[inline]
     fn hand_out_answers(&mut self) -> Result<(), Fault> {
         if !self.dispatcher.answers.is_empty() && self.end_answered() {
@@ -218,7 +218,7 @@ impl Engine {
         Ok(())
     }
 
-    /// Hands out answers. Whether one does not parse, so that the connection has to end: its call may have happened.
+    /// Hands out answers. Returns whether one does not parse, so that the connection has to end: its call may have happened.
     #[inline(never)]
     fn end_answered(&mut self) -> bool {
         let mut is_end = false;
@@ -250,7 +250,7 @@ impl Engine {
         self.dispatcher.frames.clear();
     }
 
-    /// A write to this connection has failed.
+    /// Notes that a write to this connection has failed.
     pub(crate) fn is_broken(&mut self, broken: &Arc<Outbox>) {
         if self
             .outbox

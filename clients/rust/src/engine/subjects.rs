@@ -1,4 +1,4 @@
-//! Nodes that are followed, as subjects of the machine.
+//! Followed nodes, as subjects of the machine.
 
 use super::Engine;
 use crate::cache::{DataAnswer, Kept, Mark};
@@ -29,7 +29,7 @@ impl Subjects {
         self.subjects.insert(ticket, Subject { path, update: None });
     }
 
-    /// Removes the node of this ticket. Whether there was one.
+    /// Removes the node of this ticket. Returns whether there was one.
     pub(crate) fn end(&mut self, ticket: u64) -> bool {
         self.subjects.remove(&ticket).is_some()
     }
@@ -47,7 +47,7 @@ impl Subjects {
         Some(subject.path.as_str())
     }
 
-    /// Records an update of a subject, in place of the one before.
+    /// Records an update of a subject, which replaces the one before.
     pub(crate) fn update(&mut self, ticket: u64, update: SubjectUpdate) {
         if let Some(subject) = self.subjects.get_mut(&ticket) {
             subject.update = Some(update);
@@ -75,11 +75,11 @@ impl Subjects {
     }
 }
 
-/// The content of a followed node, and none if there is no node.
+/// The content of a followed node, or `None` if there is no node.
 pub(crate) type FollowedNode = Result<Option<KeptNode>, ErrorKind>;
 
 impl Engine {
-    /// Follows the data of a node: the ticket of its updates.
+    /// Follows the data of a node. Returns the ticket of its updates.
     pub(crate) fn follow(&mut self, path: &str) -> Result<u64, Fault> {
         let outer = self.chroot.outer(path)?.into_owned();
         let looked = self.machine.data_mark(&outer);
@@ -98,7 +98,7 @@ impl Engine {
         Ok(ticket)
     }
 
-    /// Follows the subject of this ticket no more.
+    /// Stops following the subject of this ticket.
     pub(crate) fn unfollow(&mut self, ticket: u64) {
         if self.subjects.end(ticket) && !self.is_over() {
             // If the machine halts, the next caller gets the fault.
@@ -106,7 +106,7 @@ impl Engine {
         }
     }
 
-    /// How many nodes are followed, and how many bytes their paths and kept data have.
+    /// The number of followed nodes, and the bytes of their paths and kept data.
     pub(super) fn followed_bytes(&self) -> (usize, usize) {
         let followed = self.subjects.all();
         let bytes = followed.iter().map(|(_, path)| {
@@ -135,7 +135,7 @@ impl Engine {
         self.subjects.has_update(ticket)
     }
 
-    /// The update of a subject. None if there is none, or it has passed.
+    /// Takes the update of a subject. `None` if there is none, or it has passed.
     pub(crate) fn take_update(&mut self, ticket: u64) -> Option<FollowedNode> {
         match self.subjects.take_update(ticket)? {
             SubjectUpdate::Good => self.good_node(ticket),
@@ -146,7 +146,7 @@ impl Engine {
         }
     }
 
-    /// The good content of a subject. None if it is no longer good: the machine reads it again, and the next update has it.
+    /// The good content of a subject. `None` if it is no longer good: the machine reads it again, and the next update has it.
     fn good_node(&self, ticket: u64) -> Option<FollowedNode> {
         let kept = self.machine.peek_data(self.subjects.path(ticket)?);
         match kept {

@@ -1,4 +1,4 @@
-//! Tests of an engine by its parts.
+//! Tests of an engine's parts.
 
 use super::{
     DialOrder, Engine, EngineOptions, Error, ErrorKind, Fault, Hosts, NoReply, Plan, Slot, NEVER,
@@ -18,7 +18,7 @@ use std::sync::Arc;
 use std::thread::sleep;
 use std::time::Duration;
 
-/// What a session writes to, where nobody reads it.
+/// A stream that nobody reads.
 struct Nowhere;
 
 impl Outgoing for Nowhere {
@@ -33,7 +33,7 @@ fn address() -> SocketAddr {
     SocketAddr::from(([127, 0, 0, 1], 1))
 }
 
-/// One whose session renews itself.
+/// An engine whose session renews itself.
 pub(crate) fn engine_at(hosts: Hosts) -> Engine {
     Engine::new(EngineOptions {
         timeout: Duration::from_secs(10),
@@ -52,7 +52,7 @@ fn engine() -> Engine {
     engine_at(Hosts::from(address()))
 }
 
-/// A response that admits the session of this number with this timeout. Zeros say that it has expired.
+/// A response that admits the session with this id and this timeout. Zeros say that it has expired.
 pub(super) fn response(timeout_ms: i32, session: i32) -> Vec<u8> {
     let (mut response, mut frame) = (Writer::default(), Writer::default());
     response.int(0).int(timeout_ms).int(0).int(session);
@@ -61,12 +61,12 @@ pub(super) fn response(timeout_ms: i32, session: i32) -> Vec<u8> {
     frame.into_bytes()
 }
 
-/// One of the session of number 7, with a timeout of 3 seconds.
+/// One for the session 7, with a timeout of 3 seconds.
 fn accepted() -> Vec<u8> {
     response(3_000, 7)
 }
 
-/// Makes the connection that is asked for.
+/// Makes the connection that the engine asks for.
 pub(super) fn open(engine: &mut Engine) {
     let attempt = engine.begin_attempt().unwrap();
     let made = engine.opened(attempt.number, address(), Box::new(Nowhere));
@@ -94,7 +94,7 @@ fn ask<T>(engine: &mut Engine, request: &Request<T>) -> Arc<Slot> {
     slot
 }
 
-/// Why a call has failed.
+/// Why a call failed.
 fn fault_of(engine: &mut Engine, slot: &Slot) -> Error {
     engine.take_answered().iter().for_each(|slot| slot.tell());
     slot.take().unwrap().unwrap_err()
@@ -145,7 +145,7 @@ fn what_has_panicked_is_told_after_the_thread_has_ended() {
     assert_eq!(engine.state(Duration::ZERO), None);
 }
 
-/// So it is where as many paths are watched as may be: the read is refused at once.
+/// This happens when as many paths are watched as may be: the read is refused at once.
 #[test]
 fn a_refusal_is_of_the_node_that_is_told_after_it() {
     let mut engine = connected();
@@ -208,7 +208,7 @@ fn an_attempt_that_was_given_up_is_no_connection() {
     engine.tick().unwrap();
     let attempt = engine.begin_attempt().unwrap();
     engine.change_hosts(Hosts::default()).unwrap();
-    engine.hang_up(); // as where the machine gives it up
+    engine.hang_up(); // as when the machine gives it up
     let made = engine.opened(attempt.number, address(), Box::new(Nowhere));
     made.unwrap();
     assert!(!engine.is_open());

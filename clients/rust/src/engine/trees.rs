@@ -109,7 +109,7 @@ impl Engine {
         self.is_connected() && !self.is_closing()
     }
 
-    /// When a tree is to be copied, though nothing comes from the server.
+    /// When a tree is to be copied even if nothing comes from the server.
     #[inline]
     pub(super) fn tree_deadline(&self) -> Moment {
         if self.trees.is_empty() {
