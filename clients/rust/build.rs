@@ -8,16 +8,16 @@ use std::process::{exit, Command};
 
 const LIBRARY: &str = "libdirwolleu.a";
 
-/// The server in memory, which tests take where it is there.
+/// The server in memory, which tests use if it is there.
 const BENCH: &str = "libdirwolleu_bench.a";
 
-/// The folder that the environment names. It is taken at its word: no other one is looked at.
+/// The folder that the environment names. No other is tried then.
 fn named() -> Option<PathBuf> {
     env::var_os("DIRWOLLEU_LIB_DIR").map(PathBuf::from)
 }
 
-/// The folder of a checkout, or of this crate where it was packed, that has the library: what `scripts/client_libraries` made there, else
-/// what comes with it.
+/// The folder with the library in a checkout, or in this packed crate: the one that `scripts/client_libraries` made, or else the one that
+/// comes with it.
 fn beside() -> Option<PathBuf> {
     let here = PathBuf::from(env::var_os("CARGO_MANIFEST_DIR")?);
     [
@@ -42,7 +42,7 @@ fn installed() -> Option<PathBuf> {
     folder.join(LIBRARY).is_file().then_some(folder)
 }
 
-/// The version of the libraries in a folder, by the description that pkg-config has of them, where there is one.
+/// The version of the libraries in a folder, if pkg-config has a description of them there.
 fn version_in(folder: &Path) -> Option<String> {
     let places = [
         folder.join("dirwolleu.pc"),
@@ -57,7 +57,7 @@ fn version_in(folder: &Path) -> Option<String> {
     Some(String::from(version))
 }
 
-/// Ends the build where the library is known to be of another version than this crate.
+/// Ends the build if the library is known to have another version than this crate.
 fn check_version(folder: &Path) {
     let own = env!("CARGO_PKG_VERSION");
     if let Some(version) = version_in(folder).filter(|version| version != own) {

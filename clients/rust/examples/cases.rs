@@ -1,4 +1,4 @@
-//! A session that does what it is told, for the table of cases, `clients/cases`: `cases HOSTS TRIES [RECORD]`.
+//! A session that obeys the lines of the table of cases, `clients/cases`: `cases HOSTS TRIES [RECORD]`.
 
 use dirwolleu::{
     Acl, Follow, Kept, Lock, Mark, Mode, Observation, Permissions, Request, Retry, Session,
@@ -11,7 +11,7 @@ use std::time::Duration;
 
 type Answer = Result<String, Box<dyn Error>>;
 
-/// What a program has to remember between two lines.
+/// The state between two lines.
 struct Told<'a> {
     session: &'a Session,
     followed: Option<Follow<'a>>,
@@ -35,7 +35,7 @@ fn shown(data: Option<Vec<u8>>) -> String {
     String::from_utf8_lossy(&data.unwrap_or_default()).into_owned()
 }
 
-/// What somebody may do, by letters.
+/// Permissions, by letters.
 const LETTERS: [(char, Permissions); 5] = [
     ('r', Permissions::READ),
     ('w', Permissions::WRITE),
@@ -65,7 +65,7 @@ fn shown_acl(acl: &Acl) -> String {
     format!("{}:{}:{letters}", acl.scheme, acl.id)
 }
 
-/// Each node, in the order of the bytes of their paths.
+/// Each node, in the byte order of their paths.
 fn shown_tree(snapshot: &TreeSnapshot) -> String {
     let mut nodes: Vec<&SubtreeNode> = snapshot.iter().collect();
     nodes.sort_by_key(|node| &node.path);
@@ -113,7 +113,7 @@ impl Told<'_> {
         Ok(data.unwrap_or_else(|| String::from("none")))
     }
 
-    /// The next names that are good, where they are others than before: they are read again after each report and each expiry.
+    /// The next good names, if they differ from the last: they are read again after each report and each expiry.
     fn listed(&mut self) -> Answer {
         loop {
             match self.session.peek_children(&self.named)? {
@@ -141,7 +141,7 @@ impl Told<'_> {
         Ok(())
     }
 
-    /// What is told of the tree next, where it is another thing than before.
+    /// The next news of the tree, if they differ from the last.
     fn subtree(&mut self) -> Answer {
         let snapshots = self.tree.as_mut().ok_or("there is no tree")?;
         let mut said = snapshots.map(|news| match news {
@@ -204,7 +204,7 @@ impl Told<'_> {
         Ok(paths.join(" "))
     }
 
-    /// What is asked beside the core, except transactions.
+    /// The calls besides those of the core, except transactions.
     fn ask_beside(&self, words: &[&str]) -> Answer {
         Ok(match words {
             ["sync", path] => {
@@ -234,7 +234,7 @@ impl Told<'_> {
         })
     }
 
-    /// Does what a line says. Nothing is answered where it is to be gone on.
+    /// Does what a line says. Returns `None` for a line without an answer.
     fn obey(&mut self, words: &[&str]) -> Result<Option<String>, Box<dyn Error>> {
         Ok(Some(match words {
             ["follow", path] => {

@@ -1,5 +1,5 @@
-//! Contends for a lock, for tests beside others: `contender HOST:PORT PATH KIND NAMES`. KIND is lock, read, write, election or work, and NAMES is
-//! kazoo or curator. What `clients/cases/README.md` says of contenders it reads and prints, a line each.
+//! Contends for a lock, for tests beside others: `contender HOST:PORT PATH KIND NAMES`. KIND is lock, read, write, election or work, and
+//! NAMES is kazoo or curator. `clients/cases/README.md` has the lines that it reads and prints.
 
 use dirwolleu::{
     Election, Error, ErrorKind, Lock, LockNames, LockOptions, NoReply, Session, SessionOptions,
@@ -11,14 +11,14 @@ use std::sync::mpsc::{channel, Receiver, RecvTimeoutError, Sender};
 use std::time::Duration;
 use std::{env, thread};
 
-/// How long a holder waits before it looks again whether it holds.
+/// How long a holder waits before it looks again whether it still holds.
 const BETWEEN_LOOKS: Duration = Duration::from_millis(200);
 
-/// How long a contender that works waits each third time, and between two writes.
+/// How long a working contender waits each third time, and between two writes.
 const SHORT: Duration = Duration::from_millis(300);
 const BETWEEN_WRITES: Duration = Duration::from_millis(50);
 
-/// What happens to a contender.
+/// An event of a contender.
 enum Happened<'a> {
     Taken(Result<Lock<'a>, Error>),
     Command(String),
@@ -33,7 +33,7 @@ fn say(line: &str) {
 
 /// Ends the session, and the program.
 fn leave(session: &SharedSession, line: &str) -> ! {
-    // Without a server it is left to its timeout.
+    // Without a server the session is left to its timeout.
     let _ = session.close();
     if !line.is_empty() {
         say(line);
@@ -60,7 +60,7 @@ fn contend<'a>(session: &'a Session, words: &[String]) -> Result<Lock<'a>, Error
     }
 }
 
-/// Says by which token it holds and at which zxid, and writes the token through the fence, which takes none below the one that it has.
+/// Prints the token and the zxid, and writes the token through the fence, which takes none below the one that it has.
 fn write_through_fence(session: &Session, fence: &str, lock: &Lock<'_>) -> Result<(), Error> {
     let zxid = session.last_zxid();
     if lock.is_held() && session.last_zxid() == zxid {
@@ -81,7 +81,7 @@ fn write_through_fence(session: &Session, fence: &str, lock: &Lock<'_>) -> Resul
     Ok(())
 }
 
-/// Holds the lock for a while, again and again, and writes meanwhile. Each third time it does not wait for long.
+/// Holds the lock for a while, again and again, and writes meanwhile. Each third time it waits only briefly.
 fn work(session: &Session, words: &[String]) {
     let fence = format!("{}-fence", words[1]);
     for number in 0_u64.. {
@@ -115,7 +115,7 @@ fn read_commands(sender: &Sender<Happened<'_>>) {
     let _ = sender.send(Happened::End);
 }
 
-/// Lets go of what is held, and ends.
+/// Releases what is held, and ends.
 fn release(session: &SharedSession, held: Option<Lock<'_>>, line: &str) -> ! {
     match held.map(Lock::release) {
         Some(Err(error)) => leave(session, &format!("error: {error}")),
@@ -173,7 +173,7 @@ fn main() {
             if works {
                 work(&session, &words);
             } else {
-                // Nobody may listen any more.
+                // Nobody may be listening any more.
                 let _ = sender.send(Happened::Taken(contend(&session, &words)));
             }
         });

@@ -31,7 +31,7 @@ fn tell(number: usize, session: &SharedSession) {
     }
 }
 
-/// Prints what the node holds, at first and at each change.
+/// Prints the node's content, at first and at each change.
 fn follow(number: usize, session: &SharedSession, path: &str) {
     for node in session.follow(path).flatten() {
         let data = node.and_then(|node| node.data);

@@ -1,5 +1,5 @@
-//! Follows a node: `follow HOST:PORT[,HOST:PORT..] PATH` prints what it holds at first, and at each change, whatever the servers do. What a
-//! server refuses is said on standard error, and it goes on.
+//! Follows a node: `follow HOST:PORT[,HOST:PORT..] PATH` prints its content at first, and at each change, whatever the servers do. If a
+//! server refuses a read, it says so on standard error, and goes on.
 
 use dirwolleu::{KeptNode, SessionOptions};
 use std::error::Error;
@@ -7,7 +7,7 @@ use std::io::{stdout, Write};
 use std::process::ExitCode;
 use std::{env, time::Duration};
 
-/// What a node holds, in a line.
+/// A node's content, in a line.
 fn line(path: &str, node: Option<KeptNode>) -> String {
     let Some(node) = node else {
         return format!("{path} is not there");

@@ -1,4 +1,4 @@
-//! A lock, taken again whenever it is lost, with a token to hand on: see `docs/COOKBOOK.md`.
+//! A lock, taken again whenever it is lost, with a token to pass on: see `docs/COOKBOOK.md`.
 
 use dirwolleu::{Error, Lock, Session, SessionOptions, Sharing};
 use std::thread::sleep;

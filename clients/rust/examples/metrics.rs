@@ -1,10 +1,10 @@
-//! What a session does, as Prometheus reads it, and a line for each slow or failed call: see `docs/COOKBOOK.md`.
+//! The counts of a session, as Prometheus reads them, and a line for each slow or failed call: see `docs/COOKBOOK.md`.
 
 use dirwolleu::{CallOutcome, Observation, SessionOptions};
 use std::error::Error;
 use std::time::{Duration, Instant};
 
-/// A line for each call that has failed or was slow, with fields that can be searched.
+/// Prints a line for each call that failed or was slow, with searchable fields.
 fn trace(seen: &Observation) {
     match seen {
         Observation::Answered {

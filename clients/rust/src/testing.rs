@@ -1,4 +1,4 @@
-//! A ZooKeeper server in memory, for the tests of programs that use ZooKeeper. It is there with the feature `testing`:
+//! A ZooKeeper server in memory, for the tests of programs that use ZooKeeper. The feature `testing` has it:
 //!
 //! ```toml
 //! [dev-dependencies]
@@ -21,12 +21,12 @@
 //! # }
 //! ```
 //!
-//! It listens at a port of 127.0.0.1, so any client of ZooKeeper can use it. Each answer to a request of the core is that of a server that is
-//! proved to be one of the model; the loop around it, and the answers to transactions, ACLs, credentials, `sync` and `create2`, are tested.
+//! It listens at a port of 127.0.0.1, so any client of ZooKeeper can use it. Each answer to a request of the core comes from a server that
+//! is proved to follow the model; the loop around it, and the answers to transactions, ACLs, credentials, `sync` and `create2`, are tested.
 //!
-//! What it has not: a disk, TLS, SASL, access control (ACLs are kept, and admit everybody), containers, persistent watches, and time: a
+//! It does not have a disk, TLS, SASL, access control (ACLs are kept, and admit everybody), containers, persistent watches, or time: a
 //! session ends when it is closed or by [`Server::expire`], however long its client is silent. A transaction takes a zxid for each of its
-//! changes. A frame that comes may have 4,194,304 bytes after its length, where servers by default take 1,048,575.
+//! changes. An incoming frame may have 4,194,304 bytes after its length; servers by default take 1,048,575.
 
 #[cfg(not(dirwolleu_bench))]
 compile_error!("the feature `testing` wants libdirwolleu_bench.a beside libdirwolleu.a: run scripts/client_libraries");
@@ -49,7 +49,7 @@ use std::sync::mpsc::{channel, Receiver};
 use std::sync::{Arc, Mutex, MutexGuard, PoisonError};
 use std::thread::{Builder, JoinHandle};
 
-/// How many bytes are read at a time.
+/// How many bytes to read at a time.
 const ROOM: usize = 1 << 16;
 
 /// The servers, which all threads share.
@@ -63,15 +63,15 @@ impl Servers {
     }
 }
 
-/// A ZooKeeper server in memory, at a port of 127.0.0.1. It ends when it is dropped, with its sessions and nodes.
+/// A ZooKeeper server in memory, at a port of 127.0.0.1. Dropping it ends it, with its sessions and nodes.
 ///
-/// It has threads of its own, and any thread may call it: no function waits for a client. When a function returns, what it does is done, and
-/// clients have been sent what they are told of it.
+/// It has threads of its own, and any thread may call it: no function waits for a client. When a function returns, its change is done, and
+/// clients have been sent their notices.
 ///
-/// Each session has a server of its own, and all servers learn each change at once, but in a [`lag`](Server::lag). A session ends when its
-/// client closes it and by [`expire`](Server::expire), never by silence. The clock of its nodes is that of the system.
+/// Each session has a server of its own, and all servers learn each change at once, except in a [`lag`](Server::lag). A session ends when
+/// its client closes it and by [`expire`](Server::expire), never by silence. The clock of its nodes is that of the system.
 ///
-/// A function that takes a session takes its number, [`Session::id`](crate::Session::id), or `None` for all sessions; it fails with
+/// A function that takes a session takes its id, [`Session::id`](crate::Session::id), or `None` for all sessions; it fails with
 /// [`Code::SESSION_EXPIRED`] if there is no such session.
 pub struct Server {
     servers: Arc<Servers>,
@@ -80,20 +80,20 @@ pub struct Server {
 }
 
 impl Server {
-    /// A server at a free port.
+    /// Starts a server at a free port.
     ///
     /// # Errors
     ///
-    /// What the system says when it gives no port or no thread.
+    /// The system has no port or no thread.
     pub fn start() -> io::Result<Server> {
         Server::start_at(0)
     }
 
-    /// A server at this port, or for 0 at a free one.
+    /// Starts a server at this port, or at a free one for 0.
     ///
     /// # Errors
     ///
-    /// What the system says, for instance that the port is taken.
+    /// An error of the system, for example because the port is taken.
     pub fn start_at(port: u16) -> io::Result<Server> {
         let listener = TcpListener::bind((Ipv4Addr::LOCALHOST, port))?;
         let port = listener.local_addr()?.port();
@@ -108,12 +108,12 @@ impl Server {
         })
     }
 
-    /// The port at which it listens.
+    /// The port it listens at.
     pub fn port(&self) -> u16 {
         self.port
     }
 
-    /// What a session takes as its hosts: `127.0.0.1:PORT`.
+    /// The hosts for a session: `127.0.0.1:PORT`.
     pub fn hosts(&self) -> String {
         format!("127.0.0.1:{}", self.port)
     }
@@ -123,26 +123,26 @@ impl Server {
         self.servers.lock().zxid()
     }
 
-    /// The numbers of the sessions that have not ended, in the order in which they began.
+    /// The ids of the sessions that have not ended, in the order of their beginning.
     pub fn sessions(&self) -> Vec<i64> {
         self.servers.lock().numbers()
     }
 
-    /// How many connections have come.
+    /// How many connections it has accepted.
     pub fn connections(&self) -> u64 {
         self.servers.lock().came
     }
 
-    /// Makes a node, as another client does. Answers the zxid of that.
+    /// Creates a node, as another client does. Returns the zxid.
     ///
     /// # Errors
     ///
-    /// [`Code::NODE_EXISTS`]; of the parent [`Code::NO_NODE`] and [`Code::NO_CHILDREN_FOR_EPHEMERALS`]; [`Fault::NotPath`].
+    /// [`Code::NODE_EXISTS`]; for the parent [`Code::NO_NODE`] and [`Code::NO_CHILDREN_FOR_EPHEMERALS`]; [`Fault::NotPath`].
     pub fn create(&self, path: &str, data: &[u8]) -> Result<i64, Error> {
         self.change(path, &Change::Make(data))
     }
 
-    /// Writes the data of a node, as another client does. Answers the zxid of that.
+    /// Sets the data of a node, as another client does. Returns the zxid.
     ///
     /// # Errors
     ///
@@ -151,7 +151,7 @@ impl Server {
         self.change(path, &Change::Write(data))
     }
 
-    /// Deletes a node, as another client does. Answers the zxid of that.
+    /// Deletes a node, as another client does. Returns the zxid.
     ///
     /// # Errors
     ///
@@ -176,7 +176,7 @@ impl Server {
         Ok(())
     }
 
-    /// Ends a session, or all: its ephemeral nodes are deleted and its connection is closed, and its client learns of it when it connects.
+    /// Ends a session, or all: deletes its ephemeral nodes and closes its connection. Its client learns of it at the next connection.
     ///
     /// # Errors
     ///
@@ -189,10 +189,10 @@ impl Server {
         Ok(())
     }
 
-    /// Until what it answers is dropped, the server of a session, or of each session that there is, learns nothing of what others change.
+    /// Until the result is dropped, the server of a session, or of each session that there is, learns nothing of other clients' changes.
     ///
-    /// It answers reads by what it knows. If its client asks for a change or for `sync` it learns all first, as any server of ZooKeeper does,
-    /// and its client is told before it has the answer.
+    /// It answers reads from what it knows. If its client asks for a change or for `sync`, it learns everything first, as any server of
+    /// ZooKeeper does, and its client gets the notices before the answer.
     ///
     /// # Errors
     ///
@@ -254,7 +254,7 @@ impl Drop for Server {
     }
 }
 
-/// Servers of sessions that learn nothing until this is dropped: see [`Server::lag`].
+/// Keeps servers of sessions from learning anything until it is dropped: see [`Server::lag`].
 #[must_use = "where it is dropped, the servers learn all"]
 pub struct Lag<'a> {
     server: &'a Server,
@@ -273,7 +273,7 @@ impl Drop for Lag<'_> {
     }
 }
 
-/// The sessions of this number, or all.
+/// The sessions with this id, or all.
 fn named(ensemble: &Ensemble, session: Option<i64>) -> Result<Vec<i64>, Error> {
     let found = ensemble.named(session);
     found.ok_or_else(|| Error::about(None, Code::SESSION_EXPIRED.into()))
@@ -283,14 +283,14 @@ fn named_thread(name: &str, run: impl FnOnce() + Send + 'static) -> io::Result<J
     Builder::new().name(format!("testing {name}")).spawn(run)
 }
 
-/// Takes connections until the server is over.
+/// Accepts connections until the server is over.
 fn accept(listener: &TcpListener, servers: &Arc<Servers>) {
     for stream in listener.incoming() {
         if servers.lock().is_over {
             return;
         }
         if let Ok(stream) = stream {
-            let _ = begin(stream, servers); // what the system does not give ends this connection alone
+            let _ = begin(stream, servers); // if the system fails, only this connection ends
         }
     }
 }
@@ -320,7 +320,7 @@ fn begin(stream: TcpStream, servers: &Arc<Servers>) -> io::Result<()> {
     begun.map(|_| ())
 }
 
-/// Writes all that is wanted, and ends the stream after that.
+/// Writes all bytes that are wanted, and ends the stream after that.
 fn write(mut stream: TcpStream, wanted: &Receiver<Vec<u8>>) {
     for bytes in wanted {
         if stream.write_all(&bytes).is_err() {

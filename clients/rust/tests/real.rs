@@ -14,10 +14,10 @@ use std::time::{Duration, Instant};
 
 const TIMEOUT: Duration = Duration::from_secs(10);
 
-/// How long what is awaited may take.
+/// How long a test waits for something.
 const PATIENCE: Duration = Duration::from_secs(30);
 
-/// The address of the server, with a chroot of the test's own, which is made.
+/// Creates a chroot for the test. Returns the server's address with it.
 fn place(name: &str) -> Option<String> {
     let Ok(server) = env::var("DIRWOLLEU_SERVER") else {
         println!("skipped: DIRWOLLEU_SERVER names no server");
@@ -88,7 +88,7 @@ fn a_tree_has_all_nodes_of_one_moment() {
     assert_eq!(tree.latest().unwrap().len(), 3);
 }
 
-/// Of what kind the error of a call is.
+/// The kind of a call's error.
 fn kind_of<T: Debug>(ending: Result<T, Error>) -> ErrorKind {
     ending.unwrap_err().into_kind()
 }
@@ -331,7 +331,7 @@ fn a_lock_is_held_by_one_at_a_time() {
     });
 }
 
-/// Kazoo's own locks, of the same node.
+/// kazoo's own locks at the same node.
 const KAZOO: &str = "
 import sys
 from kazoo.client import KazooClient
@@ -373,7 +373,7 @@ fn a_lock_goes_with_those_of_kazoo() {
     );
     thread::scope(|scope| {
         let waits = scope.spawn(|| Lock::acquire(&session, "/lock/b", Sharing::Exclusive, b""));
-        drop(kazoo.stdin.take()); // and kazoo lets it go
+        drop(kazoo.stdin.take()); // and kazoo releases it
         assert!(waits.join().unwrap().is_ok());
     });
     kazoo.wait().unwrap();

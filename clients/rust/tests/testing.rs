@@ -1,4 +1,4 @@
-//! `dirwolleu::testing`: what a program's own tests can do with the server in memory.
+//! `dirwolleu::testing`: how a program's own tests can use the server in memory.
 
 use dirwolleu::testing::Server;
 use dirwolleu::{
@@ -11,10 +11,10 @@ use std::process;
 use std::thread;
 use std::time::{Duration, Instant};
 
-/// Long, so that no busy machine ends a session's connection.
+/// Long, so that even a busy machine ends no session's connection.
 const TIMEOUT: Duration = Duration::from_secs(60);
 
-/// How long what is awaited may take.
+/// How long a test waits for something.
 const PATIENCE: Duration = Duration::from_secs(120);
 
 fn session_at(server: &Server) -> Session {
@@ -22,7 +22,7 @@ fn session_at(server: &Server) -> Session {
     options.open(&*server.hosts()).unwrap()
 }
 
-/// Waits until something is so.
+/// Waits until this is so.
 fn until(what: &str, is_so: impl Fn() -> bool) {
     let last = Instant::now() + PATIENCE;
     while !is_so() {
@@ -31,7 +31,7 @@ fn until(what: &str, is_so: impl Fn() -> bool) {
     }
 }
 
-/// The data of a node, which a call that was lost is asked for again.
+/// The data of a node. A call that was lost is made again.
 fn data(session: &Session, path: &str) -> Vec<u8> {
     let last = Instant::now() + PATIENCE;
     loop {
@@ -236,7 +236,7 @@ fn a_lock_goes_to_the_next_session() {
 
 #[test]
 fn a_port_that_is_taken_is_told() {
-    // below those that a system gives away, so that nobody gets it in between
+    // below the ports that a system gives to clients, so that nobody takes it in between
     let own = 20_000 + u16::try_from(process::id() % 10_000).unwrap();
     let mut ports = (own..30_000).chain(20_000..own);
     let server = ports.find_map(|port| Server::start_at(port).ok()).unwrap();

@@ -1,30 +1,30 @@
-//! The server in memory, which is proved to be one of the model: `libdirwolleu_bench.a`, for tests.
+//! The server in memory, which is proved to follow the model: `libdirwolleu_bench.a`, for tests.
 
 mod ffi;
 
-#[allow(unused_imports)] // one list for all who take from it
+#[allow(unused_imports)] // one list for everyone who uses it
 pub use ffi::{BAD_ARGUMENTS, NODE_EXISTS, NOT_EMPTY, NOT_PATH, NO_NODE, NO_SUCH_SERVER};
 
 use ffi::{Raw, DELETED, MADE, NONE, OK, WRITTEN};
 use std::ptr;
 
-/// What another session does with a node.
+/// Another session's change of a node.
 pub enum Change<'a> {
-    /// It is made with these data, by no session.
+    /// Creates it with these data, for no session.
     Make(&'a [u8]),
-    /// Its data are written.
+    /// Sets its data.
     Write(&'a [u8]),
     Delete,
 }
 
-/// A server in memory for one session. What it is asked is done, or a number says why not.
+/// A server in memory for one session. A function does what it says, or returns a number that says why not.
 pub struct Bench {
     raw: Raw,
-    /// The time of what is written, in milliseconds since 1970.
+    /// The time of writes, in milliseconds since 1970.
     pub now_ms: u64,
 }
 
-/// Whether something was done, when the one other answer is that there was nothing to do.
+/// Whether something was done, if the only other answer is that there was nothing to do.
 fn is_done(result: i32) -> bool {
     assert!(
         result == OK || result == NONE,
@@ -42,18 +42,18 @@ fn done(result: i32) -> Result<(), i32> {
 }
 
 impl Bench {
-    /// A server of the session of this number, with the root alone.
+    /// A server of the session with this id, which has only the root.
     pub fn new(session: i64) -> Bench {
         let mut raw = Raw {
             is_open: false,
             at: ptr::null_mut(),
         };
-        // SAFETY: the handle is all zeros, and is this one's own.
+        // SAFETY: the handle is all zeros, and belongs to this bench.
         assert!(is_done(unsafe { ffi::dw_bench_open(&mut raw, session) }));
         Bench { raw, now_ms: 1 }
     }
 
-    /// Another session changes a node. No server has taken it yet.
+    /// Changes a node as another session. No server has taken the change yet.
     pub fn change(&mut self, path: &str, change: &Change<'_>) -> Result<(), i32> {
         let (kind, data): (i32, &[u8]) = match change {
             Change::Make(data) => (MADE, data),
@@ -76,7 +76,7 @@ impl Bench {
         })
     }
 
-    /// Takes over the next transaction that another server has and this one has not. Whether there is one.
+    /// Takes over the next transaction that the other server has and this one does not. Returns whether there is one.
     pub fn learn(&mut self, other: &mut Bench) -> bool {
         // SAFETY: both handles are open.
         is_done(unsafe { ffi::dw_bench_learn(&mut self.raw, &mut other.raw) })
@@ -88,7 +88,7 @@ impl Bench {
         unsafe { ffi::dw_bench_zxid(&mut self.raw) }
     }
 
-    /// A new connection to a server, 1 to 8.
+    /// Makes a new connection to a server, 1 to 8.
     pub fn connect(&mut self, number: i32) -> Result<(), i32> {
         // SAFETY: the handle is open.
         done(unsafe { ffi::dw_bench_connect(&mut self.raw, number) })
@@ -99,7 +99,7 @@ impl Bench {
         assert!(is_done(unsafe { ffi::dw_bench_cut(&mut self.raw) }));
     }
 
-    /// Bytes that the client sent.
+    /// Hands in bytes that the client sent.
     pub fn hear(&mut self, bytes: &[u8]) {
         // SAFETY: the handle is open, and the pointer is of a slice with this length.
         assert!(is_done(unsafe {
@@ -107,13 +107,13 @@ impl Bench {
         }));
     }
 
-    /// The connected server processes the next whole request. Whether there is one.
+    /// Lets the connected server process the next whole request. Returns whether there is one.
     pub fn process(&mut self) -> bool {
         // SAFETY: the handle is open.
         is_done(unsafe { ffi::dw_bench_process(&mut self.raw, self.now_ms) })
     }
 
-    /// A server takes the next transaction, if there is one.
+    /// Lets a server take the next transaction, if there is one.
     pub fn take(&mut self, number: i32) {
         // SAFETY: the handle is open.
         assert!(is_done(unsafe {
@@ -121,7 +121,7 @@ impl Bench {
         }));
     }
 
-    /// Takes out the first bytes that the server sent, and tells whether it has the connection.
+    /// Takes the first bytes that the server sent. Also returns whether it has the connection.
     pub fn say(&mut self, most: usize) -> (Vec<u8>, bool) {
         let (mut room, mut count) = (vec![0; most], 0);
         // SAFETY: the handle is open, and the pointers are of a slice with this length and of a number.
@@ -132,7 +132,7 @@ impl Bench {
         (room, is_open)
     }
 
-    /// Clients are told that the session has expired, or are admitted again.
+    /// Makes the server answer that the session has expired, or admit clients again.
     pub fn expire(&mut self, is_expired: bool) {
         // SAFETY: the handle is open.
         assert!(is_done(unsafe {
@@ -141,12 +141,12 @@ impl Bench {
     }
 }
 
-// SAFETY: the handle is this one's own, and the library keeps nothing for a thread.
+// SAFETY: the handle belongs to this bench, and the library keeps nothing per thread.
 unsafe impl Send for Bench {}
 
 impl Drop for Bench {
     fn drop(&mut self) {
-        // SAFETY: the handle is this one's own.
+        // SAFETY: the handle belongs to this bench.
         unsafe { ffi::dw_bench_close(&mut self.raw) }
     }
 }

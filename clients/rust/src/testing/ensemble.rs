@@ -1,5 +1,5 @@
-//! The servers in memory at one port: a proved one for each session, which learn from one another what was written. What each of them answers
-//! is proved. Whose session a connection takes up, when servers learn and when a session ends is here, and tested.
+//! The servers in memory at one port: a proved one for each session. They learn each other's writes. Their answers are proved. This module,
+//! which is tested, decides whose session a connection takes up, when servers learn and when a session ends.
 
 use super::bench::{Bench, Change};
 use super::raw::{self, Asking, Listed, Stop};
@@ -12,7 +12,7 @@ use std::time::{SystemTime, UNIX_EPOCH};
 
 /// The number of the first session.
 const FIRST: i64 = 0x1000_0000_0000_0001;
-/// How many bytes are asked of a server at a time.
+/// How many bytes to take from a server at a time.
 const ROOM: usize = 1 << 16;
 /// The flag of a create of an ephemeral node.
 const EPHEMERAL: i32 = 1;
@@ -24,7 +24,7 @@ fn now_ms() -> u64 {
     })
 }
 
-/// What is known beside the proved servers.
+/// What is known besides the proved servers.
 #[derive(Clone, Default)]
 pub(super) struct Notes {
     /// The ACLs of nodes, by path.
@@ -34,7 +34,7 @@ pub(super) struct Notes {
 }
 
 impl Notes {
-    /// Notes which ephemeral nodes and which ACLs there are, by a request that was answered with no error.
+    /// Notes ephemeral nodes and ACLs, by a request that was answered without an error.
     pub(super) fn note(&mut self, session: i64, kind: i32, body: &[u8], reply: &[u8]) {
         let mut fields = Reader::new(body);
         match (kind, fields.text()) {
@@ -57,14 +57,14 @@ impl Notes {
         Some(())
     }
 
-    /// A node is gone.
+    /// Forgets a node that is gone.
     fn forget(&mut self, path: &str) {
         self.acls.remove(path);
         self.owners.remove(path);
     }
 }
 
-/// A session: its server, which has the history that all have. It lasts until it is closed or expires, however long its client is silent.
+/// A session: its server, which has the common history. It lasts until it is closed or expires, however long its client is silent.
 pub(super) struct Session {
     pub(super) number: i64,
     bench: Bench,
@@ -72,7 +72,7 @@ pub(super) struct Session {
     is_open: bool,
     password: Vec<u8>,
     link: Option<u64>,
-    /// Whether its server learns nothing until it is asked for a change, or to catch up.
+    /// Whether its server learns nothing until the client asks for a change, or to catch up.
     is_lagging: bool,
 }
 
@@ -90,19 +90,19 @@ impl Session {
         session
     }
 
-    /// Takes over what another server has more, and tells what was watched.
+    /// Takes over what another server has and this one does not, with the notices for watches.
     fn learn(&mut self, other: &mut Bench) {
         while self.bench.learn(other) {
             self.bench.take(1);
         }
     }
 
-    /// A new connection to its server.
+    /// Makes a new connection to its server.
     fn connect(&mut self) {
         self.is_open = self.bench.connect(1).is_ok();
     }
 
-    /// Hands in a request, and gives what the server sends.
+    /// Hands in a request, and returns what the server sends.
     pub(super) fn answer(&mut self, frame: &[u8]) -> Vec<u8> {
         self.bench.now_ms = now_ms();
         self.bench.hear(frame);
@@ -110,7 +110,7 @@ impl Session {
         self.say()
     }
 
-    /// All that the server sent.
+    /// Takes all that the server sent.
     fn say(&mut self) -> Vec<u8> {
         let mut said = Vec::new();
         loop {
@@ -127,7 +127,7 @@ impl Session {
 /// A connection of a client.
 pub(super) struct Link {
     pub(super) stream: TcpStream,
-    /// What is to be written. If it is let go, the stream ends after that.
+    /// The bytes to write. If it is dropped, the stream ends after them.
     pub(super) out: Sender<Vec<u8>>,
     pub(super) session: Option<i64>,
 }
@@ -140,7 +140,7 @@ impl Link {
     }
 }
 
-/// The servers: the sessions, their connections, and what all have in common, the history of `log`.
+/// The servers: the sessions, their connections, and the history of `log`, which all have in common.
 pub(super) struct Ensemble {
     log: Bench,
     notes: Notes,
@@ -174,21 +174,21 @@ impl Ensemble {
         self.sessions.keys().copied().collect()
     }
 
-    /// A connection has come. Answers its number.
+    /// Adds a connection, and returns its number.
     pub(super) fn open(&mut self, link: Link) -> u64 {
         self.came += 1;
         self.links.insert(self.came, link);
         self.came
     }
 
-    /// Closes a connection at once. What was not written yet is lost.
+    /// Closes a connection at once. Bytes that are not yet written are lost.
     pub(super) fn abort(&mut self, link: u64) {
         if let Some(link) = self.close(link) {
             let _ = link.stream.shutdown(Shutdown::Both);
         }
     }
 
-    /// Lets a connection go, which ends after what was sent.
+    /// Drops a connection, which ends after the bytes that were sent.
     pub(super) fn close(&mut self, number: u64) -> Option<Link> {
         let link = self.links.remove(&number)?;
         let session = link.session.and_then(|it| self.sessions.get_mut(&it));
@@ -205,7 +205,7 @@ impl Ensemble {
         }
     }
 
-    /// A whole frame has come over a connection.
+    /// Takes a whole frame from a connection.
     pub(super) fn hear(&mut self, link: u64, frame: &[u8]) {
         let Some(session) = self.links.get(&link).map(|link| link.session) else {
             return;
@@ -219,7 +219,7 @@ impl Ensemble {
         }
     }
 
-    /// A new session for number 0, else the one of this number and password. One that nobody knows has expired.
+    /// A new session for id 0, else the one with this id and password. An unknown one has expired.
     fn session_of(&mut self, number: i64, password: &[u8]) -> Session {
         if let Some(link) = self.sessions.get(&number).and_then(|known| known.link) {
             if self.sessions[&number].password == password {
@@ -238,7 +238,8 @@ impl Ensemble {
         session
     }
 
-    /// A request to connect. The server admits the client, or says why not, or ends the connection. None if it does not read.
+    /// Takes a request to connect. The server admits the client, or says why not, or ends the connection. `None` if the request does not
+    /// parse.
     fn connect(&mut self, link: u64, frame: &[u8]) -> Option<()> {
         let mut fields = Reader::new(frame.get(4..)?);
         fields.bytes(16)?; // the version of the protocol, a zxid and the timeout
@@ -260,7 +261,7 @@ impl Ensemble {
         is_open.then_some(())
     }
 
-    /// A later request. None if the connection ends after what is sent.
+    /// Takes a later request. `None` if the connection ends after the bytes that were sent.
     fn request(&mut self, link: u64, number: i64, frame: &[u8]) -> Option<()> {
         let mut fields = Reader::new(frame.get(4..)?);
         let (xid, kind) = (fields.int()?, fields.int()?);
@@ -288,7 +289,7 @@ impl Ensemble {
         (goes_on && is_open).then_some(())
     }
 
-    /// The proved server answers.
+    /// Lets the proved server answer.
     fn answer(&mut self, session: &mut Session, kind: i32, frame: &[u8], body: &[u8]) -> bool {
         let said = session.answer(frame);
         let reply = split(&said).last().and_then(|last| Reply::of(last));
@@ -299,7 +300,7 @@ impl Ensemble {
         true
     }
 
-    /// What the model has not is answered. Whether the connection goes on: it ends if credentials are refused.
+    /// Answers what the model does not have. Returns whether the connection goes on: it ends if credentials are refused.
     fn answer_beside(&mut self, session: &mut Session, xid: i32, kind: i32, body: &[u8]) -> bool {
         let trial = self.trial_of(session.number);
         let mut asking = Asking {
@@ -318,7 +319,7 @@ impl Ensemble {
         kind != number::AUTH || code == raw::OK
     }
 
-    /// A session that knows what all know, of which nobody learns, to try changes on.
+    /// A session on which to try changes: it knows what all know, and nobody learns from it.
     fn trial_of(&mut self, number: i64) -> Session {
         let mut trial = Session::new(number, &mut self.log);
         trial.connect();
@@ -329,14 +330,14 @@ impl Ensemble {
         trial
     }
 
-    /// The log learns what a server has more. Whether that is something.
+    /// Lets the log learn what a server has and the log does not. Returns whether that is something.
     fn learn(&mut self, source: &mut Bench) -> bool {
         let before = self.log.zxid();
         while self.log.learn(source) {}
         self.log.zxid() != before
     }
 
-    /// All servers learn what the log has more, and clients are told what they watch.
+    /// Lets all servers learn the log's changes, and sends clients their notices.
     fn spread(&mut self) {
         for session in self.sessions.values_mut() {
             if !session.is_lagging {
@@ -349,7 +350,7 @@ impl Ensemble {
         }
     }
 
-    /// Changes a node, as a session would that is none of these. Answers the zxid of that, or why it is not admitted.
+    /// Changes a node, as a session outside of these would. Returns the zxid, or why the change is not admitted.
     pub(super) fn change(&mut self, path: &str, change: &Change<'_>) -> Result<i64, i32> {
         self.log.now_ms = now_ms();
         self.log.change(path, change)?;
@@ -376,7 +377,7 @@ impl Ensemble {
         self.spread();
     }
 
-    /// The sessions of this number, or all. None if there is none of this number.
+    /// The sessions with this id, or all. `None` if there is none with this id.
     pub(super) fn named(&self, session: Option<i64>) -> Option<Vec<i64>> {
         match session {
             None => Some(self.numbers()),
@@ -407,7 +408,7 @@ impl Ensemble {
         }
     }
 
-    /// From now on the servers of these sessions learn nothing, or all that there is.
+    /// From now on the servers of these sessions learn nothing, or everything.
     pub(super) fn lag(&mut self, sessions: &[i64], is_lagging: bool) {
         for number in sessions {
             if let Some(session) = self.sessions.get_mut(number) {
@@ -419,7 +420,7 @@ impl Ensemble {
 }
 
 impl Session {
-    /// What its server sent, if it has a connection.
+    /// The bytes that its server sent, if it has a connection.
     fn say_to_client(&mut self) -> Vec<u8> {
         if self.link.is_some() {
             self.say()

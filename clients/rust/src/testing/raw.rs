@@ -1,7 +1,8 @@
-//! Six requests that the model of a server has not, and at which the proved server would end the connection: sync, create2, ACLs, credentials and
-//! transactions. What the model has of them, the proved server is asked: each change, whether a node is there, and its Stat. The rest is
-//! tested, and not proved: a transaction is tried on another server that has learned all, and then made by one change after the other, so each
-//! has a zxid of its own; ACLs are kept and admit everybody; `digest` takes any credentials; and sync answers at once.
+//! Six requests that the model of a server does not have, and at which the proved server would end the connection: sync, create2, ACLs,
+//! credentials and transactions. The proved server does as much of them as the model has: each change, whether a node exists, and its
+//! `Stat`. The rest is tested, not proved: a transaction is tried on another server that has learned everything, and then made by one
+//! change after the other, so each has a zxid of its own; ACLs are kept and admit everybody; `digest` takes any credentials; and sync
+//! answers at once.
 
 use super::ensemble::{Notes, Session};
 use super::records::{buffer, framed, header, number, split, Reply};
@@ -14,7 +15,7 @@ const BAD_VERSION: i32 = -103;
 const AUTH_FAILED: i32 = -115;
 const ANY_VERSION: i32 = -1;
 
-/// The lines of a node that was made with nothing said, and the version of its ACL.
+/// The ACL of a node, by default the open one, and its version.
 #[derive(Clone)]
 pub(super) struct Listed {
     pub(super) lines: Vec<Acl>,
@@ -30,17 +31,17 @@ impl Default for Listed {
     }
 }
 
-/// Why a request has no body as its answer.
+/// Why an answer to a request has no body.
 pub(super) enum Stop {
-    /// It is answered by an error code.
+    /// The answer is an error code.
     Refused(i32),
-    /// Its bytes do not read.
+    /// The request does not parse.
     Malformed,
 }
 
 type Body = Result<Vec<u8>, Stop>;
 
-/// Whether a field is there.
+/// A field, which has to be there.
 fn read<T>(field: Option<T>) -> Result<T, Stop> {
     field.ok_or(Stop::Malformed)
 }
@@ -51,7 +52,7 @@ struct Part {
     bytes: Vec<u8>,
 }
 
-/// A session that asks, what is known beside its server, and the notices that go in front of the answer.
+/// A session with a request, what is known besides its server, and the notices before the answer.
 pub(super) struct Asking<'a> {
     pub(super) session: &'a mut Session,
     pub(super) notes: &'a mut Notes,
@@ -65,7 +66,7 @@ pub(super) fn knows(kind: i32) -> bool {
 }
 
 impl Asking<'_> {
-    /// The body of the answer to a request. A transaction is tried by this other session.
+    /// The body of the answer to a request. A transaction is tried with this other session.
     pub(super) fn answer(&mut self, kind: i32, body: &[u8], trial: Session) -> Body {
         let mut fields = Reader::new(body);
         match kind {
@@ -78,7 +79,7 @@ impl Asking<'_> {
         }
     }
 
-    /// Asks the proved server. What else it sends goes to the notices.
+    /// Asks the proved server. Whatever else it sends goes to the notices.
     fn ask(&mut self, kind: i32, body: &[u8]) -> Body {
         let mut request = Writer::default();
         request.int(1).int(kind);
@@ -96,7 +97,7 @@ impl Asking<'_> {
         }
     }
 
-    /// The Stat of a node that is there.
+    /// The `Stat` of an existing node.
     fn stat(&mut self, path: &str) -> Body {
         let mut body = Writer::default();
         body.text(path).boolean(false);
@@ -154,7 +155,7 @@ impl Asking<'_> {
         }
     }
 
-    /// Does an operation of a transaction, and gives its result.
+    /// Does an operation of a transaction, and returns its result.
     fn operate(&mut self, part: &Part) -> Body {
         match part.kind {
             number::CREATE2 => self.create2(&part.bytes),
@@ -184,7 +185,7 @@ impl Asking<'_> {
         Ok(body)
     }
 
-    /// The place of the first operation that is not admitted after those before it, and the code of that.
+    /// The index of the first operation that is not admitted after those before it, and its code.
     fn first_refused(&mut self, parts: &[Part]) -> Result<Option<(usize, i32)>, Stop> {
         for (place, part) in parts.iter().enumerate() {
             match self.operate(part) {
@@ -213,7 +214,7 @@ fn send_credential(fields: &mut Reader<'_>) -> Body {
     }
 }
 
-/// A Stat with this version of the ACL, which is after four numbers of eight bytes and two of four.
+/// A `Stat` with this version of the ACL, which follows four numbers of eight bytes and two of four.
 fn with_version(mut stat: Vec<u8>, version: i32) -> Vec<u8> {
     stat[40..44].copy_from_slice(&version.to_be_bytes());
     stat
@@ -226,7 +227,7 @@ fn put_header(kind: i32, code: i32, is_last: bool) -> Vec<u8> {
     header.into_bytes()
 }
 
-/// The results of a transaction that was refused at this place.
+/// The results of a transaction that was refused at this index.
 fn refused_at(place: usize, code: i32, count: usize) -> Vec<u8> {
     let mut body = Vec::new();
     for one in 0..count {
@@ -257,7 +258,7 @@ fn take_parts(fields: &mut Reader<'_>) -> Result<Vec<Part>, Stop> {
     }
 }
 
-/// Goes past an operation of a transaction. None if it does not read.
+/// Skips an operation of a transaction. `None` if it does not parse.
 fn skip_part(fields: &mut Reader<'_>, kind: i32) -> Option<()> {
     fields.text()?;
     match kind {

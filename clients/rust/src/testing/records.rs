@@ -1,8 +1,8 @@
-//! Frames of the protocol as zookeeper.jute spells them: what the loop has to see of them.
+//! Frames of the protocol as `zookeeper.jute` spells them, as far as the loop has to look at them.
 
 use crate::jute::{Reader, Writer};
 
-/// The greatest length of a frame that is taken: more than real servers take by default, which is 1,048,575.
+/// The greatest length of a frame that it takes: more than real servers take by default, which is 1,048,575.
 pub(super) const LONGEST: usize = 4 << 20;
 
 /// The types of requests, and of the end of a transaction.
@@ -26,7 +26,7 @@ pub(super) mod number {
     pub(crate) const SET_WATCHES: i32 = 101;
     pub(crate) const CLOSE_SESSION: i32 = -11;
 
-    /// The requests that a server answers by what it knows, however far it is from what the others know.
+    /// The requests that a server answers from what it knows, however far that is from what the others know.
     pub(crate) const READS: [i32; 8] = [
         EXISTS,
         GET_DATA,
@@ -46,7 +46,7 @@ pub(super) struct Reply {
 }
 
 impl Reply {
-    /// What a frame has, or none if it is too short.
+    /// The fields of a frame, or `None` if it is too short.
     pub(super) fn of(frame: &[u8]) -> Option<Reply> {
         let mut fields = Reader::new(frame.get(4..)?);
         fields.int()?;
@@ -72,7 +72,7 @@ pub(super) fn put_reply(xid: i32, zxid: i64, code: i32, body: &[u8]) -> Vec<u8> 
     framed(&[&head, &code.to_be_bytes()[..], body].concat())
 }
 
-/// Bytes after their length, or nothing for null ones. None if they do not read.
+/// Bytes after their length, or nothing for null ones. `None` if they do not parse.
 pub(super) fn buffer(fields: &mut Reader<'_>) -> Option<Vec<u8>> {
     match fields.int()? {
         -1 => Some(Vec::new()),
@@ -85,13 +85,13 @@ pub(super) fn header(fields: &mut Reader<'_>) -> Option<(i32, bool, i32)> {
     Some((fields.int()?, fields.boolean()?, fields.int()?))
 }
 
-/// The length of the first frame of these bytes with what is before it, if that is there.
+/// The length of the first frame of these bytes, including the length itself, if it is there.
 pub(super) fn length_in(bytes: &[u8]) -> Option<usize> {
     let length = u32::from_be_bytes(bytes.get(..4)?.try_into().ok()?);
     Some(4 + usize::try_from(length).unwrap_or(usize::MAX - 4))
 }
 
-/// The frames of what a server sent, each with its length.
+/// The frames in a server's bytes, each with its length.
 pub(super) fn split(mut said: &[u8]) -> Vec<Vec<u8>> {
     let mut frames = Vec::new();
     while let Some(length) = length_in(said).filter(|length| *length <= said.len()) {

@@ -1,5 +1,5 @@
-//! A machine at the server in memory, which is proved to be one of the model: no socket and no clock, and bytes are cut where the test says.
-//! It wants `libdirwolleu_bench.a` beside the library.
+//! A machine at the server in memory, which is proved to follow the model: no socket and no clock, and each test says where bytes are cut.
+//! It needs `libdirwolleu_bench.a` beside the library.
 
 use crate::bench::{self, Bench, Change};
 use dirwolleu::{
@@ -23,14 +23,14 @@ struct Pair {
     heard: Heard,
 }
 
-/// What was said to callers, and whether a connection is asked for.
+/// What callers heard, and whether the machine asks for a connection.
 #[derive(Default)]
 struct Heard {
     said: Vec<String>,
     is_dialled: bool,
 }
 
-/// What a machine says to its server, and to its callers.
+/// Notes what a machine reports to callers. Returns what it sends to its server.
 fn read(mut actions: Actions<'_>, heard: &mut Heard) -> Vec<u8> {
     let mut sent = Vec::new();
     let said = &mut heard.said;
@@ -72,7 +72,7 @@ impl Pair {
         }
     }
 
-    /// Hands something to the machine, and moves bytes until none is on its way. Whether the server has the connection then.
+    /// Hands something to the machine, and moves bytes until none is on its way. Returns whether the server has the connection then.
     fn step(&mut self, hand: impl FnOnce(&mut Machine) -> Result<Actions<'_>, Fault>) -> bool {
         let mut sent = read(hand(&mut self.machine).unwrap(), &mut self.heard);
         loop {
@@ -89,7 +89,7 @@ impl Pair {
         }
     }
 
-    /// Connects once that is asked for, after a pause where there is one.
+    /// Connects once the machine asks for it, after a pause if there is one.
     fn connect(&mut self, number: i32) -> bool {
         let _ = read(self.machine.tick(self.now).unwrap(), &mut self.heard);
         while !self.heard.is_dialled {
@@ -107,7 +107,7 @@ impl Pair {
         let _ = read(self.machine.cut(self.now).unwrap(), &mut self.heard);
     }
 
-    /// Another session changes a node, and the first server takes it.
+    /// Changes a node as another session, and lets the first server take the change.
     fn change(&mut self, path: &str, change: &Change<'_>) {
         self.bench.change(path, change).unwrap();
         self.bench.take(1);
@@ -119,7 +119,7 @@ impl Pair {
         assert!(self.step(|machine| machine.get_data(now, ticket, None, path, Watch::Yes)));
     }
 
-    /// Bytes that are on their way come.
+    /// Lets the bytes that are on their way come.
     fn wait(&mut self) {
         let now = self.now;
         assert!(self.step(|machine| machine.tick(now)));
@@ -152,7 +152,7 @@ fn what_is_marked_good_is_what_the_history_has() {
         assert_eq!(pair.take_said(), ["one at 1", changed.as_str(), "two at 2"]);
         pair.cut();
         pair.change("/a", &Change::Write(b"three"));
-        assert!(pair.connect(1)); // which tells what was missed
+        assert!(pair.connect(1)); // which brings the missed notices
         pair.read("/a");
         assert_eq!(pair.take_said(), [changed.as_str(), "three at 3"]);
     }

@@ -1,4 +1,4 @@
-//! A machine with one address: what it says and keeps, to the byte, where it is driven by bytes as `zookeeper.jute` spells them.
+//! A machine with one address: what it says and keeps, to the byte, when bytes drive it as `zookeeper.jute` spells them.
 
 use crate::jute::{self, Record};
 use crate::machine::{connected, sent, SESSION, START, TIMEOUT};
@@ -12,7 +12,7 @@ use std::time::Duration;
 /// Later than any pause before an address is dialled again.
 const LATER: Moment = Moment::from_millis(1_000_010_000);
 
-/// What was said, with all bytes, as text.
+/// The actions as text, with all bytes.
 fn said(mut actions: Actions<'_>) -> Vec<String> {
     let mut lines = Vec::new();
     while let Some(action) = actions.next().unwrap() {
@@ -36,7 +36,7 @@ fn said(mut actions: Actions<'_>) -> Vec<String> {
     lines
 }
 
-/// The reply to the call of this ticket, which is said next.
+/// The next action's reply, to the call of this ticket.
 fn reply_to<'a>(ticket: u64, actions: &'a mut Actions<'_>) -> Reply<'a> {
     match actions.next().unwrap() {
         Some(Action::Answer {
@@ -47,7 +47,7 @@ fn reply_to<'a>(ticket: u64, actions: &'a mut Actions<'_>) -> Reply<'a> {
     }
 }
 
-/// The state, which is said next.
+/// The next action's state.
 fn state(actions: &mut Actions<'_>) -> State {
     match actions.next().unwrap() {
         Some(Action::State(state)) => state,
@@ -55,7 +55,7 @@ fn state(actions: &mut Actions<'_>) -> State {
     }
 }
 
-/// Why the connection is given up, which is said next.
+/// The next action's reason for giving the connection up.
 fn given_up<'a>(actions: &'a mut Actions<'_>) -> GivenUp<'a> {
     match actions.next().unwrap() {
         Some(Action::Drop(given_up)) => given_up,
@@ -63,7 +63,7 @@ fn given_up<'a>(actions: &'a mut Actions<'_>) -> GivenUp<'a> {
     }
 }
 
-/// Asks for data, names or a Stat, with a watch.
+/// Asks for data; below, for names or a `Stat`: all with a watch.
 fn ask_data(machine: &mut Machine, ticket: u64, path: &str) {
     let _ = machine
         .get_data(START, ticket, None, path, Watch::Yes)
@@ -120,7 +120,7 @@ fn a_connection_begins_with_a_connect_request() {
     assert_eq!(actions.machine().timeout(), Duration::from_secs(6));
 }
 
-/// The frame of a request: its header, the path, and what follows.
+/// The frame of a request: its header, the path, and the rest.
 fn request(xid: i32, kind: i32, path: &str) -> Record {
     Record::new().int(xid).int(kind).text(path)
 }
@@ -230,7 +230,7 @@ fn null_data_are_no_empty_data() {
     assert_eq!(data, None);
 }
 
-/// Five answers and two notices: what a server sends to the calls of `pieces`.
+/// Five answers and two notices: a server's bytes for the calls of `pieces`.
 fn stream() -> Vec<u8> {
     let data = Record::reply(1, 5, 0).buffer(&[9; 700]).stat(5, 0, 700, 2);
     let names = Record::reply(2, 5, 0).texts(&["b", "c"]).stat(5, 0, 0, 2);
@@ -247,7 +247,7 @@ fn stream() -> Vec<u8> {
     .concat()
 }
 
-/// All that is said where the stream comes in pieces of this length.
+/// All actions when the stream comes in pieces of this length.
 fn pieces(length: usize) -> Vec<String> {
     let mut machine = connected();
     ask_data(&mut machine, 1, "/a");

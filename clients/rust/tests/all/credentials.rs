@@ -1,4 +1,4 @@
-//! Who a session is, and what servers say to it. At a server that does what each test says, frame by frame.
+//! A session's credentials and servers' answers to them. The server does what each test says, frame by frame.
 
 use crate::jute::{Record, CLOSE_SESSION, GET_CHILDREN_2, GET_DATA};
 use crate::partner::{Partner, Request};
@@ -9,12 +9,12 @@ use dirwolleu::{
 use std::sync::mpsc;
 use std::time::{Duration, Instant};
 
-/// The type of a request that tells credentials, and the xid of it and its answer.
+/// The type of a request with credentials, and the xid of it and its answer.
 const AUTH: i32 = 100;
 const AUTH_XID: i32 = -4;
 
-/// A server that takes each credential and closes each session, except where the connection ends: at a request of this type on the first one. It
-/// tells the number of the connection and the request.
+/// A server that accepts each credential and closes each session, unless the connection ends: at a request of this type on the first one.
+/// It sends the number of the connection and the request to the test.
 fn taking(ends_at: Option<i32>) -> (Partner, mpsc::Receiver<(usize, Request)>) {
     let (sender, told) = mpsc::channel();
     let partner = Partner::start(move |number, mut line| {

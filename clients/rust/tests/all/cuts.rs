@@ -1,5 +1,5 @@
-//! A machine at servers in memory that does the rows of `clients/cases/cuts.txt`: each 61st cut, or each Kth where `DIRWOLLEU_EVERY` is K. It wants
-//! `libdirwolleu_bench.a` beside the library.
+//! A machine at servers in memory that plays the rows of `clients/cases/cuts.txt`: each 61st cut, or each Kth if `DIRWOLLEU_EVERY` is K. It
+//! needs `libdirwolleu_bench.a` beside the library.
 
 use crate::bench::{Bench, Change};
 use crate::jute::{EXISTS, GET_CHILDREN_2, GET_DATA, NOTICE, SET_WATCHES};
@@ -18,7 +18,7 @@ const ADDRESSES: usize = 2;
 const SEED: u64 = 1;
 const NUMBER: i64 = 77;
 
-/// How many bytes come at a time: at last all.
+/// How many bytes come at a time; at last, all of them.
 const PIECES: [usize; 6] = [1, 2, 3, 7, 64, 4096];
 
 /// More steps than a play has.
@@ -35,7 +35,7 @@ struct Counts {
     heard: usize,
 }
 
-/// Of the rows, the first ones are done before those of which connections are cut.
+/// A case. Its first rows are done before those whose connections are cut.
 #[derive(Default)]
 struct Case {
     name: &'static str,
@@ -72,7 +72,7 @@ fn cases() -> Vec<Case> {
     cases
 }
 
-/// What is played, which is told where it fails.
+/// A description of the play, which is printed if the play fails.
 struct Played(String);
 
 impl Drop for Played {
@@ -83,7 +83,7 @@ impl Drop for Played {
     }
 }
 
-/// What the session follows, and its lines when it was told last that it is good, or that the tree is whole.
+/// A subject of the session, and its lines when it was last reported good, or the tree complete.
 struct Subject {
     name: &'static str,
     path: &'static str,
@@ -157,7 +157,7 @@ struct Way {
 }
 
 impl Way {
-    /// How many of these bytes pass, and whether the last one that is to pass is among them.
+    /// How many of these bytes pass, and whether the last one that may pass is among them.
     fn pass(&mut self, count: usize) -> (usize, bool) {
         let left = self.end.map(|end| end - self.passed);
         let is_end = left.is_some_and(|left| count >= left);
@@ -178,25 +178,25 @@ fn long_at(frame: &[u8], at: usize) -> i64 {
     i64::from_be_bytes(frame[at..at + 8].try_into().unwrap())
 }
 
-/// Where the connection is.
+/// The stage of the connection.
 #[derive(Clone, Copy, PartialEq)]
 enum Stage {
     Apart,
     Dialled,
-    /// Nothing was sent to the server yet.
+    /// Nothing is sent to the server yet.
     New,
     Open,
-    /// What was sent comes, and nothing else.
+    /// The bytes that were sent come, and no others.
     Leaving,
 }
 
-/// The connection, the servers, and what the bytes say.
+/// The connection, the servers, and the frames in the bytes.
 struct Link {
     bench: Bench,
     /// How many transactions each server has.
     taken: [i64; 1 + ADDRESSES],
     stage: Stage,
-    /// The server that is dialled or connected, and the one that the session is at, or was last.
+    /// The server that is dialled or connected, and the session's server, or its last one.
     asked_server: usize,
     server: usize,
     is_open: bool,
@@ -204,9 +204,9 @@ struct Link {
     heard: Way,
     was_cut: bool,
     connections: usize,
-    /// What has come of a frame.
+    /// The bytes of a frame that have come.
     frames: Vec<u8>,
-    /// The reads that are under way: each by its xid, with its type and path.
+    /// The reads under way: each by its xid, with its type and path.
     asked: HashMap<i32, (i32, String)>,
     /// The greatest zxid of a reply.
     seen: i64,
@@ -231,7 +231,7 @@ impl Link {
         }
     }
 
-    /// Another client changes the tree.
+    /// Changes the tree as another client.
     fn change(&mut self, path: &str, change: &Change<'_>) {
         self.bench.now_ms = 1_000 * (self.bench.zxid() + 1).unsigned_abs();
         self.bench.change(path, change).unwrap();
@@ -255,7 +255,7 @@ impl Link {
         self.connections += 1;
     }
 
-    /// Nothing more comes, and the connection is to be found over.
+    /// Lets nothing more come: the machine has to find that the connection is over.
     fn leave(&mut self) {
         self.bench.cut();
         if self.is_there() {
@@ -272,7 +272,7 @@ impl Link {
         matches!(self.stage, Stage::New | Stage::Open | Stage::Leaving)
     }
 
-    /// The server admits the session: it is not behind. It takes what it lacks.
+    /// Lets the server admit the session, which it is not behind. It takes the transactions that it does not have.
     fn admit(&mut self) {
         self.server = self.asked_server;
         let taken = self.taken[self.server];
@@ -280,7 +280,7 @@ impl Link {
         self.take_all(self.server);
     }
 
-    /// The session sends a frame.
+    /// Carries a frame of the session.
     fn carry(&mut self, frame: &[u8], subjects: &[Subject]) {
         match self.stage {
             Stage::New => self.greet(frame),
@@ -297,7 +297,7 @@ impl Link {
         }
     }
 
-    /// A `ConnectRequest` has the greatest zxid that was seen. One for another session is admitted.
+    /// Checks a `ConnectRequest`, which has the greatest zxid that was seen. One for another session is admitted.
     fn greet(&mut self, frame: &[u8]) {
         self.stage = Stage::Open;
         assert_eq!(long_at(frame, 8), self.seen, "a server is told another");
@@ -306,7 +306,7 @@ impl Link {
         }
     }
 
-    /// A request. A path has no more reads under way than subjects, and but one of its data and one of its names.
+    /// Checks a request: a path has no more reads under way than subjects, and only one of its data and one of its names.
     fn note(&mut self, frame: &[u8], subjects: &[Subject]) {
         let (xid, kind) = (int_at(frame, 4), int_at(frame, 8));
         if kind == SET_WATCHES {
@@ -322,7 +322,7 @@ impl Link {
         self.asked.insert(xid, (kind, path.into()));
     }
 
-    /// The next bytes that come, at most this many.
+    /// Takes the next bytes that come, at most this many.
     fn take(&mut self, piece: usize) -> Vec<u8> {
         if !self.is_there() {
             return Vec::new();
@@ -338,7 +338,7 @@ impl Link {
         bytes
     }
 
-    /// What is answered is under way no more. The answer to a `ConnectRequest` has no xid, and comes while nothing is asked.
+    /// Ends the reads that are answered. The answer to a `ConnectRequest` has no xid, and comes while no read is under way.
     fn hear(&mut self, bytes: &[u8]) {
         self.frames.extend(bytes);
         while self.frames.len() >= 4 {
@@ -356,14 +356,14 @@ impl Link {
     }
 }
 
-/// What is beside the machine: each subject has its place as its ticket.
+/// The world around the machine: each subject has its place as its ticket.
 struct World {
     link: Link,
     subjects: Vec<Subject>,
     piece: usize,
 }
 
-/// What a machine tells that more is done about than a match says.
+/// An action of a machine that needs more than a match does.
 enum Told {
     Frame(Vec<u8>),
     Shown(u64, bool),
@@ -402,7 +402,7 @@ impl World {
         Told::Other
     }
 
-    /// A subject is good. Of a tree that is told by [`Action::TreeComplete`], and other tickets are of its nodes.
+    /// Notes that a subject is good. For a tree [`Action::TreeComplete`] says so, and other tickets belong to its nodes.
     fn show(&mut self, ticket: u64, is_tree: bool, machine: &Machine) {
         let place = usize::try_from(ticket).unwrap();
         let subject = self.subjects.get_mut(place);
@@ -432,7 +432,7 @@ impl Play {
         }
     }
 
-    /// What is under way goes on by a step. Whether there was something.
+    /// Moves what is under way by a step. Returns whether there was something.
     fn go_on(&mut self) -> bool {
         let (machine, link) = (&mut self.machine, &mut self.world.link);
         let bytes = link.take(self.world.piece);
@@ -492,7 +492,7 @@ impl Play {
         self.world.perform(actions.unwrap());
     }
 
-    /// Nothing is under way, and these lines were shown, and are kept.
+    /// Checks that nothing is under way, and that these lines were shown, and are kept.
     fn expect(&mut self, wanted: &mut [&str]) {
         let steps = (0..MOST_STEPS).find(|_| !self.go_on());
         assert!(steps.is_some(), "it does not end");
@@ -531,7 +531,7 @@ impl Play {
 }
 
 impl Case {
-    /// Plays the rows, where the connection ends after this many bytes that are sent or heard, and they come in pieces.
+    /// Plays the rows. The connection ends after this many bytes that are sent or heard, which come in pieces.
     fn play(&self, sent: Option<usize>, heard: Option<usize>, piece: usize) -> Link {
         let name = self.name;
         let _played = Played(format!("{name}: sent {sent:?}, heard {heard:?}, {piece}"));
@@ -559,7 +559,7 @@ impl Case {
         assert!(link.was_cut && link.connections <= most, "{}", self.name);
     }
 
-    /// Without a cut as many bytes pass as the row says, or fewer in small pieces.
+    /// Plays without a cut: as many bytes pass as the row says, or fewer in small pieces.
     fn play_whole(&self, piece: usize) -> Counts {
         let (link, wanted) = (self.play(None, None, piece), self.counts);
         let counts = Counts {
@@ -579,7 +579,7 @@ impl Case {
     }
 }
 
-/// In pieces of each size: without a cut, and after each byte, of those whose number and that of the size make a multiple.
+/// In pieces of each size: without a cut, and after each byte whose number makes a multiple with that of the size.
 #[test]
 fn what_is_followed_is_shown_whatever_byte_is_the_last() {
     let every = env::var("DIRWOLLEU_EVERY").map_or(EVERY, |every| every.parse().unwrap());

@@ -6,7 +6,7 @@ use crate::{kind_of, PATIENCE, TIMEOUT};
 use dirwolleu::{Fault, NoReply, OpenError, SessionOptions, ANY_VERSION};
 use std::sync::mpsc::{channel, Sender};
 
-/// How many bytes a frame has after its length besides the data: the answer to a get, and a set of `/a`.
+/// How many bytes a frame has besides its length and the data: the answer to a get, and a set of `/a`.
 const OF_ANSWER: usize = 16 + 4 + 68;
 const OF_SET: usize = 8 + 6 + 4 + 4;
 
@@ -17,8 +17,8 @@ fn options() -> SessionOptions {
     SessionOptions::new(TIMEOUT).limit(PATIENCE)
 }
 
-/// Admits a session, and answers each get by a frame with this many bytes after its length, and all else by a Stat. It tells how many bytes
-/// other requests have.
+/// Admits a session, and answers each get with a frame of this many bytes after its length, and any other request with a `Stat`. It sends
+/// the lengths of the other requests to the test.
 fn serve(mut line: Line, size: usize, lengths: &Sender<usize>) {
     line.admit(60_000);
     line.each(|line, request| {
@@ -81,7 +81,7 @@ fn a_request_is_as_long_as_it_may_be() {
     }
 }
 
-/// The first connection is cut once something was asked on it, and on the second the session has expired.
+/// A server that cuts the first connection once something was asked on it, and on the second says that the session has expired.
 fn expiring() -> Partner {
     let lengths = channel().0;
     Partner::start(move |number, mut line| match number {

@@ -18,7 +18,7 @@ fn contend(session: &mut LocalSession) -> LocalLock {
     session.contend(PATH, LockOptions::new()).unwrap()
 }
 
-/// Turns the loop of a session until this is so.
+/// Runs the loop of a session until this is so.
 fn turn_until(session: &mut LocalSession, what: &str, is_so: impl Fn() -> bool) {
     let until = Instant::now() + PATIENCE;
     while !is_so() {
@@ -29,13 +29,13 @@ fn turn_until(session: &mut LocalSession, what: &str, is_so: impl Fn() -> bool) 
     }
 }
 
-/// The token, once it is held.
+/// The token, once the lock is held.
 fn hold(session: &mut LocalSession, lock: &LocalLock) -> i64 {
     turn_until(session, "it is held", || lock.held() != Ok(None));
     lock.held().unwrap().unwrap()
 }
 
-/// Why it is given up. Each change is told by an event.
+/// Why it gave up. Each change comes with an event.
 fn end(session: &mut LocalSession, lock: &LocalLock) -> Error {
     loop {
         if let Err(error) = lock.held() {
@@ -95,16 +95,16 @@ fn one_that_is_given_up_leaves_no_place() {
     assert_eq!(places(&mut first), 1);
     drop(lock);
     assert_eq!(places(&mut first), 0, "it is deleted before the call");
-    drop(contend(&mut second)); // it has asked for a place, and knows of none yet
+    drop(contend(&mut second)); // it has asked for a place, and does not know of one yet
     for _ in 0..2 {
-        second.exists("/").unwrap(); // the first is answered after the place is made, and the second is asked after it is deleted
+        second.exists("/").unwrap(); // the first is answered after the place is created, and the second is asked after it is deleted
     }
     assert_eq!(places(&mut first), 0);
     let next = contend(&mut first);
     assert!(hold(&mut first, &next) > token);
 }
 
-/// It goes beside those of sessions with a thread.
+/// It works beside those of sessions with a thread.
 #[test]
 fn one_whose_place_is_taken_away_is_lost() {
     let Some(server) = started() else { return };
@@ -125,7 +125,7 @@ fn one_whose_place_is_taken_away_is_lost() {
     assert_eq!(lock.release(&mut session), Ok(()));
 }
 
-/// Nobody relies on what was not told: it contends on by another place.
+/// Nobody relies on a token that never came: it goes on contending, with another place.
 #[test]
 fn a_place_that_is_taken_away_before_its_token_is_told_is_made_anew() {
     let Some(server) = started() else { return };
@@ -193,7 +193,7 @@ fn a_lock_goes_with_its_session() {
     assert!(!again.check(PATIENCE) && again.place().is_none());
 }
 
-/// Of two that expire together the one that waits contends on by itself, and the one that held is lost.
+/// Of two that expire together, the one that waits goes on contending by itself, and the one that held is lost.
 #[test]
 fn a_session_that_is_renewed_contends_anew() {
     let Some(mut server) = started() else { return };
@@ -225,7 +225,7 @@ fn those_that_share_hold_together() {
     hold(&mut session, &alone);
 }
 
-/// An error is its end, whether it is dropped or not.
+/// An error ends it, whether it is dropped or not.
 #[test]
 fn one_that_finds_names_of_another_kind_is_given_up() {
     let Some(server) = started() else { return };

@@ -15,7 +15,7 @@ use std::time::{Duration, Instant};
 /// A session lasts for longer than its test.
 const TIMEOUT: Duration = Duration::from_secs(60);
 
-/// How long a contender waits that gives up.
+/// How long a contender waits before it gives up.
 const A_WHILE: Duration = Duration::from_millis(300);
 
 /// Which part of a request and its answer is lost with its connection.
@@ -25,17 +25,17 @@ enum Cut {
     Answer,
 }
 
-/// What a wire does.
+/// The orders of a wire.
 #[derive(Default)]
 struct Orders {
-    /// At which type of request it is cut next.
+    /// The type of the request at which it is cut next.
     next: Option<(i32, Cut)>,
     was_cut: bool,
     /// Whether it makes no connection.
     is_down: bool,
 }
 
-/// What is between a session and its server.
+/// The wire between a session and its server.
 struct Wire {
     address: SocketAddr,
     orders: Arc<Mutex<Orders>>,
@@ -61,7 +61,7 @@ impl Wire {
         wire
     }
 
-    /// The next request of this type, or its answer, is lost with the connection.
+    /// Cuts the connection at the next request of this type, so that it or its answer is lost.
     fn cut_at(&self, kind: i32, cut: Cut) {
         let mut orders = self.orders.lock().unwrap();
         (orders.next, orders.was_cut) = (Some((kind, cut)), false);
@@ -92,7 +92,7 @@ fn connect(client: &TcpStream, server: &TcpStream, orders: &Arc<Mutex<Orders>>) 
     thread::spawn(move || pass(client, server, &orders));
 }
 
-/// Passes answers on, until one of both has ended the connection.
+/// Passes answers on, until either side has ended the connection.
 fn pass_back(mut from: TcpStream, mut to: TcpStream) {
     let mut room = [0; 65_536];
     while let Ok(count @ 1..) = from.read(&mut room) {
@@ -113,7 +113,7 @@ fn frame(from: &mut TcpStream) -> Option<Vec<u8>> {
     Some([&length[..], &rest].concat())
 }
 
-/// Passes requests on, until one is to be cut at. The first frame is no request.
+/// Passes requests on, until one that is to be cut. The first frame is no request.
 fn pass(mut from: TcpStream, mut to: TcpStream, orders: &Mutex<Orders>) {
     let mut is_request = false;
     while let Some(frame) = frame(&mut from) {
@@ -146,11 +146,11 @@ enum Way {
     Panic,
     /// It has waited for long enough.
     GiveUp,
-    /// The same, while it is not known whether it has a place.
+    /// The same, while it is unknown whether it has a place.
     GiveUpUnknown,
 }
 
-/// A lock that others want.
+/// A lock with several contenders.
 struct Scene {
     server: Server,
     wire: Wire,

@@ -1,4 +1,4 @@
-//! Locks and elections, at the server in memory. Where there is no python3, each test says so and passes.
+//! Locks and elections, at the server in memory. Without python3 each test says so and passes.
 
 use crate::runtime::block_on;
 use crate::server::Server;
@@ -12,7 +12,7 @@ use std::sync::{mpsc, Arc};
 use std::thread;
 use std::time::Duration;
 
-/// How long it is seen that something does not happen.
+/// How long a test makes sure that something does not happen.
 const A_WHILE: Duration = Duration::from_millis(300);
 
 fn session_at(server: &Server) -> Session {
@@ -163,7 +163,7 @@ fn a_lock_goes_with_a_session_whose_thread_panics() {
     assert!(read.wait_for(PATIENCE).is_ok(), "the answer had come");
 }
 
-/// Of two that expire together the one that waits contends on by itself, and the one that held has no place any more.
+/// Of two that expire together, the one that waits goes on contending by itself, and the one that held no longer has a place.
 #[test]
 fn a_session_that_is_renewed_contends_anew() {
     let Some(mut server) = started() else { return };
@@ -180,7 +180,7 @@ fn a_session_that_is_renewed_contends_anew() {
     });
 }
 
-/// A holder whose place somebody deletes is told, and does not contend on: nobody would hear that it holds again.
+/// A holder whose place somebody deletes hears of it, and does not go on contending: nobody would hear that it holds again.
 #[test]
 fn a_lock_whose_place_is_taken_away_is_lost() {
     let Some(server) = started() else { return };
@@ -295,7 +295,7 @@ fn contenders() -> impl Iterator<Item = (LockNames, Sharing)> {
     all.flat_map(move |names| kinds.map(|sharing| (names, sharing)))
 }
 
-/// A latch is never shared, and who has other names gives up.
+/// A latch is never shared, and a contender with other names gives up.
 #[test]
 fn those_of_one_path_never_hold_together() {
     let Some(server) = started() else { return };

@@ -1,4 +1,4 @@
-//! The log-in by SASL. At a server that does what each test says, frame by frame.
+//! The log-in by SASL. The server does what each test says, frame by frame.
 
 use crate::jute::{Record, GET_DATA};
 use crate::partner::{Line, Partner};
@@ -11,7 +11,7 @@ use std::time::{Duration, Instant};
 const LOG_IN: i32 = 102;
 const FIRST_XID: i32 = -1001;
 
-/// Sends nothing, then who it is, and wants the server to say that it knows it.
+/// Sends nothing, then its name, and expects the server to say that it knows it.
 fn step(challenge: Option<&[u8]>) -> Result<Option<Vec<u8>>, Box<dyn Error + Send + Sync>> {
     match challenge {
         None => Ok(Some(Vec::new())),
@@ -25,7 +25,7 @@ fn options() -> SessionOptions {
     SessionOptions::new(TIMEOUT).log_in(|| step)
 }
 
-/// The next request is a token, with this xid.
+/// Expects a token as the next request, with this xid.
 fn expect_token(line: &mut Line, xid: i32, token: &[u8]) {
     let request = line.request().unwrap();
     assert_eq!((request.xid, request.kind), (xid, LOG_IN));

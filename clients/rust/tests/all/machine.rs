@@ -15,7 +15,7 @@ fn after(millis: u64) -> Moment {
     START.saturating_add(Duration::from_millis(millis))
 }
 
-/// What was said, as text, without the bytes of frames.
+/// The actions as text, without the bytes of frames.
 fn said(mut actions: Actions<'_>) -> Vec<String> {
     let mut lines = Vec::new();
     while let Some(action) = actions.next().unwrap() {
@@ -40,7 +40,7 @@ fn said(mut actions: Actions<'_>) -> Vec<String> {
     lines
 }
 
-/// The type of a request, by its frame, and `connect` where it has none.
+/// The type of a request, by its frame, or `connect` if it has none.
 fn kind_of(frame: &[u8]) -> String {
     if frame.len() == 4 + 45 {
         return String::from("connect");
@@ -57,12 +57,12 @@ fn answer_of(outcome: Result<Reply<'_>, NoReply>) -> String {
     }
 }
 
-/// What is said as these bytes come.
+/// The actions when these bytes come.
 fn heard(machine: &mut Machine, now: Moment, bytes: &[u8]) -> Vec<String> {
     said(machine.bytes(now, bytes).unwrap())
 }
 
-/// What is said at a moment.
+/// The actions at a moment.
 fn ticked(machine: &mut Machine, now: Moment) -> Vec<String> {
     said(machine.tick(now).unwrap())
 }
@@ -80,7 +80,7 @@ pub fn connected() -> Machine {
     machine
 }
 
-/// Connects again, after a pause that is over for sure.
+/// Connects again, after a pause that is surely over.
 fn connect_again(machine: &mut Machine, now: Moment) -> Vec<String> {
     assert_eq!(ticked(machine, now), ["dial 0 within 3s"]);
     let _ = machine.opened(now).unwrap();
@@ -186,7 +186,7 @@ fn stale_answers_are_forgotten_and_good_ones_stay() {
     let _ = machine.bytes(START, &Record::notice(3, "/a")).unwrap();
     machine.forget_stale();
     assert_eq!(machine.data_mark("/a"), Ok(None));
-    assert_eq!(heard(&mut machine, START, &data(2, 6, "two")), ["7: shown"]); // it is followed still
+    assert_eq!(heard(&mut machine, START, &data(2, 6, "two")), ["7: shown"]); // it is still followed
 }
 
 #[test]
@@ -362,7 +362,7 @@ const READS: [RawOperation; 6] = [
     RawOperation::WhoAmI,
 ];
 
-/// The frames, and the bodies of answers, by their tickets, that were said.
+/// The frames, and the bodies of answers by their tickets, of some steps.
 #[derive(Default)]
 struct RawSaid {
     frames: Vec<Vec<u8>>,
@@ -459,7 +459,7 @@ fn the_answer_to_a_raw_call_comes_in_pieces() {
     }
 }
 
-/// A server that says nothing of it for two thirds of the timeout, whatever else it sends.
+/// The server says nothing about it for two thirds of the timeout, whatever else it sends.
 #[test]
 fn a_connection_is_left_on_which_a_raw_call_waits() {
     let mut machine = connected();
@@ -492,7 +492,7 @@ fn a_server_that_is_behind_a_raw_call_is_asked_for_more() {
     assert_eq!(frames[0][8..16], 50_i64.to_be_bytes());
 }
 
-/// The frames that were said.
+/// The frames among the actions.
 pub fn sent(mut actions: Actions<'_>) -> Vec<Vec<u8>> {
     let mut frames = Vec::new();
     while let Some(action) = actions.next().unwrap() {

@@ -1,4 +1,4 @@
-//! What the machine decides of a session: which calls wait and how long, what becomes of them at a cut, what is followed.
+//! The machine's decisions about a session: which calls wait and how long, what becomes of them at a cut, which nodes are followed.
 
 use crate::jute::{self, EXISTS, GET_DATA, PING, SYNC};
 use crate::partner::{Line, Partner};
@@ -10,7 +10,7 @@ use std::sync::mpsc;
 use std::thread::{self, sleep};
 use std::time::{Duration, Instant};
 
-/// The limit of a call that is sent and not answered: a busy machine takes less to send it.
+/// The limit of a call that is sent and not answered: even a busy machine sends it sooner.
 const LIMIT: Duration = Duration::from_secs(6);
 
 /// A server that admits the session and answers nothing.
@@ -110,7 +110,7 @@ fn a_raw_call_waits_to_its_limit_too() {
     assert_eq!(kind_of(late), ErrorKind::TimedOut);
 }
 
-/// Admits a session, and tells which one was asked for.
+/// Admits a session, and sends to the test which one the client asked for.
 fn admit_and_tell(line: &mut Line, asked: &mpsc::Sender<Vec<u8>>) {
     let request = line.frame().unwrap();
     asked.send(request[16..24].to_vec()).unwrap();
@@ -163,7 +163,7 @@ fn a_session_that_lives_goes_on_with_another_machine() {
     assert_eq!(asked, [vec![0; 8], same]);
 }
 
-/// A server that refuses this many reads of data with this code, and then tells them.
+/// A server that refuses this many reads of data with this code, and then answers them.
 fn refuse_reads(code: Code, mut refusals: i32) -> Partner {
     Partner::answering(move |line, request| {
         if request.kind == GET_DATA && refusals > 0 {
@@ -175,7 +175,7 @@ fn refuse_reads(code: Code, mut refusals: i32) -> Partner {
     })
 }
 
-/// So it is too where nobody knows the code.
+/// The same holds if nobody knows the code.
 #[test]
 fn a_refused_read_of_what_is_followed_is_told_once_and_made_again() {
     for code in [Code::NO_AUTH, Code(-999)] {
@@ -192,8 +192,8 @@ fn a_refused_read_of_what_is_followed_is_told_once_and_made_again() {
     }
 }
 
-/// A server that answers one request, waits until it is told that the answer was seen, then says that the session has expired, and serves
-/// the next one.
+/// A server that answers one request, waits until the test says that it has seen the answer, then says that the session has expired, and
+/// serves the next one.
 fn expiring() -> (Partner, mpsc::Sender<()>) {
     let (seen, is_seen) = mpsc::channel();
     let partner = Partner::start(move |number, mut line| {
@@ -203,7 +203,7 @@ fn expiring() -> (Partner, mpsc::Sender<()>) {
             let request = line.request().unwrap();
             line.answer(&request);
             if number == 0 {
-                let _ = is_seen.recv(); // it fails where the test has failed
+                let _ = is_seen.recv(); // it fails if the test has failed
             } else {
                 line.serve();
             }

@@ -1,4 +1,5 @@
-//! The tests of machines, of sessions and of servers in memory, as one program, which is built once. They mostly wait, so run them on many threads.
+//! The tests of machines, of sessions and of servers in memory, as one program, which is built once. They mostly wait, so run them on many
+//! threads.
 
 #[cfg(dirwolleu_bench)]
 #[path = "../../src/testing/bench.rs"]

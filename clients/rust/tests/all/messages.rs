@@ -1,4 +1,4 @@
-//! What errors print: the reason, the path as the program named it, and what to do.
+//! The text of errors: the reason, the path as the program named it, and what to do.
 
 use crate::{started, TIMEOUT};
 use dirwolleu::{Hosts, Machine, Mode, Moment, Session, SessionOptions, Watch, ANY_VERSION};
@@ -7,7 +7,7 @@ use std::net::{IpAddr, Ipv4Addr, SocketAddr, TcpListener};
 use std::thread;
 use std::time::Duration;
 
-/// What an error prints, also where `main` returns it.
+/// The text of an error, also when `main` returns it.
 fn printed<T, E: Display + Debug>(outcome: Result<T, E>) -> String {
     let Err(error) = outcome else {
         return String::from("no error");
@@ -17,10 +17,10 @@ fn printed<T, E: Display + Debug>(outcome: Result<T, E>) -> String {
     words
 }
 
-/// An address that nobody listens at: no system gives that port away.
+/// An address that nobody listens at: no system gives that port to a client.
 const NOBODY: SocketAddr = SocketAddr::new(IpAddr::V4(Ipv4Addr::LOCALHOST), 1);
 
-/// How long a server is searched for: also on a busy machine each address is dialled by then.
+/// How long to search for a server: even a busy machine dials each address by then.
 const SEARCH: Duration = Duration::from_secs(8);
 
 /// A message about a search for a server, with the seconds that it says.

@@ -1,4 +1,4 @@
-//! What is counted of a session, and told its observer, at the server in memory. Where there is no python3, each test says so and passes.
+//! A session's counts and observations, at the server in memory. Without python3 each test says so and passes.
 
 use crate::{started, wait_until, PATIENCE};
 use dirwolleu::{
@@ -9,11 +9,11 @@ use std::mem;
 use std::sync::{Arc, Mutex, OnceLock};
 use std::time::Duration;
 
-/// A timeout of which no ping comes within a test.
+/// A timeout without a ping during a test.
 const LONG: Duration = Duration::from_secs(600);
 
-/// By the protocol a ConnectRequest has 49 bytes, its answer 40 where the server has no read-only mode; a request without a body 12, a path and a
-/// watch 4 + 2 + 1 more; a header of a reply 20 bytes, a Stat 68, data 4 more than they have.
+/// By the protocol a ConnectRequest has 49 bytes, its answer 40 if the server has no read-only mode; a request without a body 12, a path
+/// and a watch 4 + 2 + 1 more; a header of a reply 20 bytes, a Stat 68, data 4 more than they have.
 #[test]
 fn bytes_and_calls_are_counted() {
     let Some(mut server) = started() else { return };
@@ -73,7 +73,7 @@ fn ends_of_connections_and_what_is_kept_are_counted() {
     assert_eq!(stats.connections, 3);
 }
 
-/// What an observer was told, except bytes.
+/// An observation, except bytes.
 fn shown(seen: &Observation) -> Option<String> {
     match seen {
         Observation::BytesIn(_) | Observation::BytesOut(_) => None,

@@ -1,4 +1,4 @@
-//! Servers that are behind, that never answer, and that stay away; and when a session that asks nothing is heard of.
+//! Servers that are behind, that never answer, and that stay away; and when a session that asks nothing hears something.
 
 use crate::jute::{Record, GET_DATA, PING, PONG, SET_WATCHES, WATCHES_SET};
 use crate::partner::{Line, Partner, Request};
@@ -14,12 +14,12 @@ use std::sync::{mpsc, Arc};
 use std::thread::{self, sleep};
 use std::time::{Duration, Instant};
 
-/// The mark of what is kept of the data of `/a`.
+/// The mark of the kept data of `/a`.
 fn mark(session: &Session) -> Option<Mark> {
     session.data_mark("/a").unwrap()
 }
 
-/// What a `ConnectRequest` says: the greatest zxid that the client has seen, and its session.
+/// The contents of a `ConnectRequest`: the greatest zxid that the client has seen, and its session.
 fn asked(connect_request: &[u8]) -> (i64, i64) {
     let long = |at: usize| i64::from_be_bytes(connect_request[at..at + 8].try_into().unwrap());
     (long(4), long(16))
@@ -43,8 +43,8 @@ fn serve_one_at(line: &mut Line, request: &Request, zxid: i64) -> bool {
     line.send(&frame.framed())
 }
 
-/// The servers of an ensemble in the order in which they are dialled: one that holds zxid 9 and goes, one that refuses who has seen more than
-/// it holds, one that admits all the same, and one that has caught up.
+/// The servers of an ensemble in the order in which they are dialled: one that holds zxid 9 and goes, one that refuses a client that has
+/// seen more than it holds, one that admits all the same, and one that has caught up.
 fn serve_behind(number: usize, mut line: Line, requests: &mpsc::Sender<Vec<u8>>) {
     let request = line.frame().unwrap();
     requests.send(request).unwrap();
@@ -107,7 +107,7 @@ fn a_server_that_accepts_and_never_answers_is_left() {
     assert!(took >= least && took < least + SLACK, "{took:?}");
 }
 
-/// A listener at an address of this process and this test alone: so while it is gone, nobody else gets its port.
+/// A listener at an address that only this process and this test use: nobody else gets its port while it is gone.
 fn own_listener(test: u8) -> TcpListener {
     let [.., high, low] = std::process::id().to_be_bytes();
     TcpListener::bind(SocketAddr::from(([127, test, high, low], 0))).expect("a port is free")
@@ -151,7 +151,7 @@ fn a_server_that_stays_away_is_dialled_until_it_comes() {
     comes.join().unwrap();
 }
 
-/// A server that admits a session for so long, answers its first call, and goes.
+/// A server that admits a session for this long, answers its first call, and goes.
 fn serve_and_go(listener: TcpListener, timeout: i32) {
     let mut line = Line::over(listener.accept().unwrap().0);
     drop(listener);
@@ -180,7 +180,7 @@ fn what_was_read_stays_good_while_a_server_stays_away_and_ends_with_the_session(
     let (sender, requests) = mpsc::channel();
     thread::spawn(move || {
         for stream in listener.incoming().map_while(Result::ok) {
-            let mut line = Line::over(stream); // a session that is told too late on a busy machine asks again
+            let mut line = Line::over(stream); // on a busy machine a session that hears it too late asks again
             if let Some(request) = line.frame() {
                 let _ = sender.send(request);
                 line.send(&Record::expired());

@@ -1,4 +1,4 @@
-//! The forms of no runtime: what is polled, and woken by the thread of the session.
+//! Streams and futures without a runtime: the session's thread wakes whatever polls.
 
 use crate::jute::{Record, EXISTS, GET_DATA, PING, PONG};
 use crate::partner::{Line, Partner};
@@ -41,14 +41,14 @@ fn events_are_told_to_any_runtime() {
     assert_eq!(next(), None);
 }
 
-/// A waker of its own for each poll.
+/// A new waker for each poll.
 struct Flag;
 
 impl Wake for Flag {
     fn wake(self: Arc<Self>) {}
 }
 
-/// How many wakers are kept after a number of polls, each with another one.
+/// How many wakers are kept after this many polls, each with another one.
 fn kept_after(polls: usize, mut poll: impl FnMut(&mut Context<'_>)) -> usize {
     let wakers = (0..polls).map(|_| {
         let flag = Arc::new(Flag);

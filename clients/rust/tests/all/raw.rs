@@ -1,5 +1,5 @@
-//! What a session asks of which the core does not read the records: transactions, ACLs, sync and others. At a server that does what each test
-//! says, frame by frame.
+//! A session's calls whose records the core does not read: transactions, ACLs, sync and others. The server does what each test says, frame
+//! by frame.
 
 use crate::jute::{Record, EXISTS, GET_DATA, PING, PONG};
 use crate::partner::{Line, Partner};
@@ -83,7 +83,7 @@ fn what_a_transaction_made_stale_is_stale_when_its_caller_goes_on() {
     assert_eq!(session.last_zxid(), 6);
 }
 
-/// A server whose last transaction is this one: as one of version 3.8.0, it leaves a client that has seen a later one.
+/// A server with this last transaction. Like one of version 3.8.0, it leaves a client that has seen a later one.
 fn admit_at(zxid: i64, line: &mut Line) -> bool {
     let request = line.frame().unwrap();
     let seen = i64::from_be_bytes(request[4..12].try_into().unwrap());
@@ -156,7 +156,7 @@ fn a_write_is_told_where_the_connection_ends_and_a_read_is_asked_again() {
     assert!(node.wait_for(PATIENCE).is_ok() && acls.wait_for(PATIENCE).is_ok());
 }
 
-/// Also one of no bytes.
+/// Also if it has no bytes.
 #[test]
 fn an_answer_that_does_not_read_ends_the_connection() {
     let partner = Partner::start(|number, mut line| {
@@ -199,8 +199,8 @@ fn calls_that_the_core_reads_and_does_not_read_are_on_their_way_at_once() {
     }
 }
 
-/// How many bytes a request has besides the data of the one node that a transaction sets: its header, two `MultiHeader`s, the path `/a` after
-/// its length, the length of the data, and the version.
+/// How many bytes a request has besides the data of the one node that a transaction sets: its header, two `MultiHeader`s, the path `/a`
+/// after its length, the length of the data, and the version.
 const BESIDE_DATA: usize = 8 + 9 + 9 + 6 + 4 + 4;
 
 /// The most bytes of a request, as servers take them.

@@ -1,4 +1,4 @@
-//! Paths, counters, queues, barriers and semaphores, at the server in memory. Where there is no python3, each test says so and passes.
+//! Paths, counters, queues, barriers and semaphores, at the server in memory. Without python3 each test says so and passes.
 
 use crate::runtime::block_on;
 use crate::server::Server;
@@ -13,13 +13,13 @@ use std::time::{Duration, Instant};
 /// How often the connection ends at another place, and after how many bytes each time.
 const PLACES: std::ops::Range<usize> = 0..14;
 
-/// Has the connection end after some bytes, of those that the server sends or of those that it hears.
+/// Makes the connection end after some of the bytes that the server sends, or that it hears.
 fn cut(server: &mut Server, place: usize, step: usize) {
     let side = ["sent", "heard"][place % 2];
     server.tell(&format!("cut {side} {}", 1 + place * step));
 }
 
-/// Has it end there no more.
+/// Stops cutting.
 fn spare(session: &Session, server: &mut Server) {
     server.tell("cut sent 1"); // so there is one to be spared, and it is told so
     let _ = session.exists("/");
@@ -36,7 +36,7 @@ fn a_path_is_made_with_all_above_it() {
         assert!(session.exists(path).unwrap().is_some());
     }
     let below = Session::open(format!("{}/app", server.address).as_str(), TIMEOUT).unwrap();
-    assert_eq!(below.ensure_path("/x"), Ok(())); // with the chroot, which is not there
+    assert_eq!(below.ensure_path("/x"), Ok(())); // with the chroot, which did not exist
     assert!(session.exists("/app/x").unwrap().is_some());
     session.create("/mine", b"", Mode::Ephemeral).unwrap();
     let refused = session.ensure_path("/mine/x").unwrap_err();

@@ -1,4 +1,4 @@
-//! What a session does where servers go, refuse, and hold it: at a server that does what each test says.
+//! How a session behaves when servers go, refuse, or hold it up. The server does what each test says.
 
 use crate::example;
 use crate::jute::{self, GET_DATA, PING};
@@ -21,7 +21,7 @@ fn session_at(partner: &Partner, timeout: Duration) -> LocalSession {
     LocalSession::open([partner.address], timeout).unwrap()
 }
 
-/// Goes on until the partner is dialled, and says when.
+/// Goes on until the partner is dialled. Returns when.
 fn next_dial(session: &mut LocalSession, partner: &Partner) -> Instant {
     let until = Instant::now() + PATIENCE;
     loop {
@@ -33,7 +33,7 @@ fn next_dial(session: &mut LocalSession, partner: &Partner) -> Instant {
     }
 }
 
-/// Goes on for so long.
+/// Goes on for this long.
 fn go_on(session: &mut LocalSession, time: Duration) {
     let until = Instant::now() + time;
     while session.next_event(Some(until)).unwrap().is_some() {}
@@ -280,8 +280,8 @@ fn a_server_that_dribbles_is_left_while_it_connects() {
     assert!(took >= least && took < least + SLACK, "{took:?}");
 }
 
-/// A server that sends these bytes again and again in place of the answer to the first call, and is well on the next connection. A ping is no call:
-/// one comes before it if the machine is busy.
+/// A server that repeats these bytes instead of answering the first call, and is well on the next connection. A ping is no call: one comes
+/// before it if the machine is busy.
 fn distracted(bytes: Vec<u8>) -> Partner {
     let mut is_well = false;
     Partner::start(move |_, mut line| {
@@ -301,7 +301,7 @@ fn patient() -> Request<()> {
     Request::delete("/a", ANY_VERSION).within(millis(30_000))
 }
 
-/// Whether a call is lost after two thirds of the timeout of nine seconds. A server that is held up for as long loses it before, by a ping.
+/// Checks that a call is lost after two thirds of the timeout of nine seconds. If the server is held up that long, a ping loses it earlier.
 fn is_lost_in_time<T: Debug>(call: impl FnOnce() -> Result<T, Error>) {
     let begun = Instant::now();
     let lost = call();
@@ -355,8 +355,8 @@ fn a_read_that_is_not_answered_is_asked_of_another_server() {
     assert!(partner.dials() >= 2);
 }
 
-/// The ping goes out after a third of the timeout, and may take two thirds. On a machine so busy that the server is silent for as long, its silence
-/// ends the connection, which is sooner.
+/// The ping goes out after a third of the timeout, and may take two thirds. On a machine so busy that the server is silent for as long, its
+/// silence ends the connection, which is sooner.
 #[test]
 fn a_ping_that_is_not_answered_ends_the_connection() {
     let partner = Partner::start(|_, mut line| {

@@ -1,4 +1,4 @@
-//! Registrations, at the server in memory. Where there is no python3, each test says so and passes.
+//! Registrations, at the server in memory. Without python3 each test says so and passes.
 
 use crate::server::Server;
 use crate::{started, wait_until, TIMEOUT};
@@ -10,12 +10,12 @@ fn renewing(server: &Server) -> SharedSession {
     crate::renewing(server).shared()
 }
 
-/// The session whose node it is.
+/// The session that owns the node.
 fn owner(session: &Session) -> Option<i64> {
     Some(session.exists("/host").ok()??.ephemeral_owner)
 }
 
-/// A registration whose node is there.
+/// A registration whose node exists.
 fn registered(session: &SharedSession) -> Registration {
     let registration = Registration::begin(session, "/host", b"one").unwrap();
     wait_until("it is registered", || registration.is_registered());

@@ -1,4 +1,4 @@
-//! Sessions over TCP, at the server in memory. Where there is no python3, each says so and passes.
+//! Sessions over TCP, at the server in memory. Without python3 each test says so and passes.
 
 use crate::example;
 use crate::server::Server;
@@ -17,7 +17,7 @@ fn session_at(server: &Server, timeout_ms: u64) -> Session {
     Session::open([server.address], Duration::from_millis(timeout_ms)).unwrap()
 }
 
-/// The first event of this kind. Those before it are skipped.
+/// The first event of this kind. Earlier ones are skipped.
 pub fn wait_for(session: &Session, is_awaited: impl Fn(&Event) -> bool) -> Event {
     let until = Instant::now() + PATIENCE;
     loop {
@@ -29,7 +29,7 @@ pub fn wait_for(session: &Session, is_awaited: impl Fn(&Event) -> bool) -> Event
     }
 }
 
-/// Takes the events that there are.
+/// Takes the waiting events.
 fn take_events(session: &Session) {
     while session.next_event(Some(Instant::now())).unwrap().is_some() {}
 }
@@ -43,7 +43,7 @@ fn report(path: &str, side: Side, event: NodeEvent) -> Event {
     Event::Report { path, side, event }
 }
 
-/// What is kept of the data of a path.
+/// The kept data of a path.
 fn kept(session: &Session, path: &str) -> Option<(Vec<u8>, Mark)> {
     let kept = session.peek(path).unwrap()?;
     match kept.answer {
@@ -231,7 +231,7 @@ fn a_write_is_lost_with_its_connection() {
 #[test]
 fn an_idle_session_goes_on_by_pings() {
     let Some(server) = started() else { return };
-    let session = session_at(&server, 18_000); // of which two thirds are silent without pings: a busy server may take a third
+    let session = session_at(&server, 18_000); // without pings its silence would end it after two thirds of that: a busy server may take a third
     session.watch("/").unwrap();
     take_events(&session);
     let until = Instant::now() + Duration::from_millis(13_000);
@@ -284,7 +284,8 @@ fn nobody_answers_where_there_is_no_server() {
     assert_eq!(kind_of(nobody), NoReply::NotConnected.into());
 }
 
-/// Asks a server that answers with random bytes. The timeout is short, since calls wait for it, and long enough for a busy server to admit a session.
+/// Asks a server that answers with random bytes. The timeout is short, because calls wait for it, and long enough for a busy server to
+/// admit a session.
 fn try_hostile(seed: &str) {
     let Some(server) = Server::start(&["--hostile", seed]) else {
         return;

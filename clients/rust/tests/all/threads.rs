@@ -1,4 +1,4 @@
-//! Sessions that live by a thread of their own, and calls that are on their way at once.
+//! Sessions with a thread of their own, and calls that are on their way at once.
 
 use crate::jute::{GET_DATA, PING, SET_DATA};
 use crate::memory;
@@ -21,14 +21,14 @@ fn session_at(partner: &Partner, timeout: u64) -> Session {
     Session::open(partner.address, millis(timeout)).unwrap()
 }
 
-/// What a server has counted.
+/// The counts of a server.
 #[derive(Clone, Default)]
 struct Counts {
     expiries: Arc<AtomicUsize>,
     pings: Arc<AtomicUsize>,
 }
 
-/// A server that gives a session up which it has not heard of for its timeout, and then says so to each that asks for it.
+/// A server that gives up a session from which it heard nothing for its timeout, and then says so to each client that asks for it.
 fn expiring(timeout: Duration) -> (TcpListener, Counts) {
     let listener = TcpListener::bind("127.0.0.1:0").unwrap();
     let accepting = listener.try_clone().unwrap();
@@ -63,8 +63,8 @@ fn serve_or_expire(stream: TcpStream, timeout: Duration, counts: &Counts) {
     }
 }
 
-/// The program works for as long as the session has pinged twice, which is two thirds of the timeout. So a busy machine may hold it, or the server,
-/// up for as long as a third.
+/// The program works for as long as the session takes for two pings, which is two thirds of the timeout. So a busy machine may delay it, or
+/// the server, by as much as a third.
 #[test]
 fn a_session_lives_while_its_program_works() {
     let (listener, counts) = expiring(millis(18_000));
@@ -157,7 +157,7 @@ fn a_call_waits_for_a_connection_as_long_as_the_timeout() {
     assert!(took >= millis(1_490) && took < PATIENCE, "{took:?}");
 }
 
-/// With a limit that is longer, too.
+/// Also with a longer limit.
 #[test]
 fn a_close_waits_a_second_for_a_connection() {
     let options = || SessionOptions::new(PATIENCE).limit(PATIENCE);
@@ -258,8 +258,8 @@ fn each_ticket_is_answered_where_the_session_is_let_go() {
     assert_eq!(nobody, NoReply::NotConnected.into());
 }
 
-/// The panic calls no hook: to print a backtrace may take as long as a call waits. This one waits for longer than its test, since on a busy machine
-/// a thread comes to its end later.
+/// The panic calls no hook, because a backtrace may take as long to print as a call waits. This call waits longer than its test, because on
+/// a busy machine a thread ends later.
 #[test]
 fn a_dial_that_panics_leaves_nobody_waiting() {
     let panics = |_: &dirwolleu::Server<'_>, _: Duration| -> io::Result<dirwolleu::Connection> {

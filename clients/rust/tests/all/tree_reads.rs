@@ -1,4 +1,4 @@
-//! How trees are read: at a server that does what each test says.
+//! How trees are read. The server does what each test says.
 
 use crate::jute::{Record, EXISTS, GET_CHILDREN_2, GET_DATA, PING, PONG, SET_WATCHES, WATCHES_SET};
 use crate::partner::{Line, Partner, Request};
@@ -56,7 +56,7 @@ fn a_tree_that_never_settles_has_no_snapshot_until_it_does() {
     assert_eq!(tree.current(), Some(settled));
 }
 
-/// A server that has `/t` with the child `a`, and does what a test says with requests that the test takes.
+/// A server that has `/t` with the child `a`, and does as the test says with requests that the test takes.
 fn serve(line: &mut Line, mut takes: impl FnMut(&mut Line, &Request) -> bool) {
     line.admit(millis(TIMEOUT));
     while let Some(request) = line.request() {
@@ -90,7 +90,7 @@ fn is_below(request: &Request) -> bool {
     request.rest.windows(3).any(|bytes| bytes == b"/t/")
 }
 
-/// The same, where the reads of the child's data are those that the test takes.
+/// The same if the test takes the reads of the child's data.
 fn serve_child(line: &mut Line, mut child: impl FnMut(&mut Line, i32)) {
     serve(line, |line, request| {
         let is_taken = request.kind == GET_DATA && is_below(request);
@@ -101,8 +101,8 @@ fn serve_child(line: &mut Line, mut child: impl FnMut(&mut Line, i32)) {
     });
 }
 
-/// The time between the first two reads of a node whose first read is answered with this code, and what was told. Nothing else wakes the
-/// session meanwhile: its first ping is due after 100 seconds.
+/// The time between the first two reads of a node whose first read is answered with this code, and the news. Nothing else wakes the session
+/// meanwhile: its first ping is due after 100 seconds.
 fn refuse_once(code: i32) -> (Duration, Vec<String>) {
     let (sender, reads) = mpsc::channel();
     let partner = Partner::start(move |_, mut line| {
@@ -155,8 +155,8 @@ fn a_read_that_was_refused_is_made_again_after_a_second() {
     );
 }
 
-/// A read of the data of a node that is not there leaves no watch, and the question whether there is a node does: so that is asked then,
-/// at once, and where there is one by now, its data are read again.
+/// A read of the data of a node that does not exist leaves no watch, and the question whether it exists does. So the machine asks that
+/// then, at once, and reads the data again if there is a node by now.
 #[test]
 fn a_node_that_was_not_there_is_asked_for() {
     let (sender, kinds) = mpsc::channel();
@@ -178,7 +178,7 @@ fn a_node_that_was_not_there_is_asked_for() {
     assert_eq!(kinds, [GET_DATA, EXISTS, GET_DATA]);
 }
 
-/// A server that tells a change of the child before it answers to exists. Then it answers no read of the child, or each.
+/// A server that reports a change of the child before it answers exists. Then it answers each read of the child, or none.
 fn change_once(line: &mut Line, answers: bool) {
     let mut is_changed = false;
     serve(line, |line, request| {
@@ -227,7 +227,7 @@ fn many_names() -> Vec<String> {
     (0..MANY).map(|number| format!("n{number}")).collect()
 }
 
-/// A server of a large tree, which tells a change of one node before it answers to exists.
+/// A server of a large tree, which reports a change of one node before it answers exists.
 fn change_of_many(line: &mut Line) {
     let names = many_names();
     let names: Vec<_> = names.iter().map(String::as_str).collect();
@@ -256,8 +256,8 @@ fn a_large_tree_that_has_just_been_looked_at_is_looked_at_again_after_a_change()
     }
 }
 
-/// A server that has many children, and answers no read of them before a call has come. How many it holds it tells once they are as many
-/// as may be, and when that call comes.
+/// A server with many children, which answers no read of them before a call has come. It sends to the test how many reads it holds, once
+/// they are as many as may be, and when that call comes.
 fn hold_reads(line: &mut Line, holds: &mpsc::Sender<usize>) {
     let names = many_names();
     let names: Vec<_> = names.iter().map(String::as_str).collect();
@@ -299,7 +299,7 @@ fn the_reads_of_a_large_tree_leave_room_for_a_call() {
     assert_eq!(tree.wait_for(PATIENCE).unwrap().len(), MANY + 1);
 }
 
-/// The time from the admission of a session to the read of the child, at which the connection ends.
+/// The time from the admission of a session to the read of the child, which ends the connection.
 fn end_at_the_child(line: &mut Line) -> Option<Duration> {
     line.admit(millis(TIMEOUT));
     let begun = Instant::now();
@@ -348,7 +348,7 @@ fn a_tree_is_read_anew_by_a_renewed_client() {
     assert_eq!((again.len(), tree.current()), (first.len(), Some(again)));
 }
 
-/// No read makes such a tree whole.
+/// No read completes such a tree.
 #[test]
 fn a_name_that_makes_no_path_is_a_trouble() {
     let partner = Partner::start(|_, mut line| {
@@ -387,8 +387,8 @@ fn a_tree_that_nobody_has_is_read_no_more() {
     assert_eq!(reads.try_iter().count(), 0);
 }
 
-/// The child is kept by watched reads of the program, so that nothing of it is lacking when the tree is asked for. A change of it and its
-/// new data come at once.
+/// Watched reads of the program keep the child, so no read is missing when it asks for the tree. A change of the child and its new data
+/// come at once.
 #[test]
 fn what_the_program_itself_has_read_again_is_shown() {
     let partner = Partner::start(|_, mut line| {

@@ -1,4 +1,4 @@
-//! Trees that are followed, at the server in memory. Where there is no python3, each test that wants it says so and passes.
+//! Followed trees, at the server in memory. Without python3 each test that needs it says so and passes.
 
 use crate::runtime::block_on;
 use crate::server::Server;
@@ -30,7 +30,7 @@ fn data<'a>(snapshot: &'a TreeSnapshot, path: &str) -> Option<&'a str> {
     Some(std::str::from_utf8(data).unwrap())
 }
 
-/// The next news that are wanted.
+/// The next news that the test wants.
 fn next(snapshots: &mut Snapshots<'_>, is_wanted: impl Fn(&TreeSnapshot) -> bool) -> TreeSnapshot {
     loop {
         match snapshots.next_within(PATIENCE).expect("the session lives") {
@@ -200,7 +200,7 @@ fn many_trees_and_calls_go_on_at_once() {
     assert_eq!(held.children("/t").count(), 402);
 }
 
-/// The second tree begins where all of it is kept and good already, by the first one.
+/// When the second tree begins, the first one already keeps all of it good.
 #[test]
 fn trees_may_have_the_same_nodes() {
     let Some(mut server) = server() else { return };

@@ -1,4 +1,4 @@
-//! What goes to a server that reads slowly, and writers of a program's own.
+//! Writes to a server that reads slowly, and a program's own writers.
 
 use crate::memory::connection;
 use crate::partner::{Line, Partner};
@@ -69,7 +69,7 @@ fn a_connection_on_which_a_frame_is_not_written_in_time_is_left() {
     let asked: Vec<_> = asked.collect();
     partner.dial();
     for (number, ticket) in asked.into_iter().enumerate() {
-        // A slow machine asks for some when the connection has been left: the next one answers them.
+        // A slow machine asks for some after it has left the connection: the next one answers them.
         let Err(error) = ticket.wait_for(PATIENCE) else {
             assert!(number > 0, "the first one was on its way");
             continue;
@@ -81,7 +81,7 @@ fn a_connection_on_which_a_frame_is_not_written_in_time_is_left() {
     assert!(session.call(Request::get("/a").within(PATIENCE)).is_ok());
 }
 
-/// A writer of a program's own: it does this before each write, and has room for this many bytes every other time.
+/// A program's own writer: it does this before each write, and every other time has room for this many bytes.
 struct Own<F> {
     inner: Box<dyn Outgoing>,
     before: F,
@@ -104,7 +104,7 @@ impl<F: FnMut(&[u8]) + Send> Outgoing for Own<F> {
     }
 }
 
-/// Options of a session at a server in memory, to which this writes.
+/// Options of a session at a server in memory, with this writer.
 fn options<F>(before: F, room: usize) -> SessionOptions
 where
     F: FnMut(&[u8]) + Clone + Send + 'static,
@@ -156,7 +156,7 @@ fn a_writer_may_look_at_its_session_and_ask_it() {
     assert!(session.close().is_ok());
 }
 
-/// Has a writer panic at a read of this node.
+/// Makes a writer panic at a read of this node.
 fn panic_at_a(sender: Sender<()>) -> impl FnMut(&[u8]) + Clone + Send {
     move |bytes| {
         if bytes.windows(2).any(|word| word == b"/a") {

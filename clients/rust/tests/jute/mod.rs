@@ -1,6 +1,6 @@
 //! Frames as `zookeeper.jute` spells them, of which each test takes what it needs.
 #![allow(dead_code)]
-// What a test spells has a few bytes.
+// The texts of tests have a few bytes.
 #![allow(clippy::cast_possible_truncation, clippy::cast_possible_wrap)]
 
 /// Types of requests.
@@ -15,7 +15,7 @@ pub const GET_CHILDREN_2: i32 = 12;
 pub const SET_WATCHES: i32 = 101;
 pub const CLOSE_SESSION: i32 = -11;
 
-/// Xids that are no answer to a call.
+/// Xids of messages that answer no call.
 pub const NOTICE: i32 = -1;
 pub const PONG: i32 = -2;
 pub const WATCHES_SET: i32 = -8;

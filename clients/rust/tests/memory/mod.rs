@@ -6,7 +6,7 @@ use std::io::{self, ErrorKind, Read, Write};
 use std::sync::{Arc, Condvar, Mutex};
 use std::time::{Duration, Instant};
 
-/// How long a server waits for what a session sends.
+/// How long a server waits for bytes of a session.
 const PATIENCE: Duration = Duration::from_secs(120);
 
 #[derive(Default)]
@@ -54,7 +54,7 @@ impl Pipe {
     }
 }
 
-/// What a session has of a connection.
+/// A session's end of a connection.
 struct Half {
     from_server: Pipe,
     to_server: Pipe,
@@ -78,7 +78,7 @@ impl Outgoing for Half {
     }
 }
 
-/// What the server has of it. It ends the connection where it is dropped.
+/// The server's end. Dropping it ends the connection.
 pub struct End {
     from_client: Pipe,
     to_client: Pipe,

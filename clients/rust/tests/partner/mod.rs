@@ -11,7 +11,7 @@ use std::time::{Duration, Instant};
 /// How long an attempt to connect may take to come.
 const PATIENCE: Duration = Duration::from_secs(120);
 
-/// What a connection is over.
+/// The stream under a connection.
 trait Stream: Read + Write + Send {}
 
 impl<T: Read + Write + Send> Stream for T {}
@@ -21,7 +21,7 @@ pub struct Line {
     stream: Box<dyn Stream>,
 }
 
-/// A request: its xid, its type, and what follows.
+/// A request: its xid, its type, and the rest.
 #[derive(Clone)]
 pub struct Request {
     pub xid: i32,
@@ -35,7 +35,7 @@ impl Line {
         Line { stream }
     }
 
-    /// The next frame without its length, and none where the client has ended the connection.
+    /// The next frame without its length, or `None` if the client has ended the connection.
     pub fn frame(&mut self) -> Option<Vec<u8>> {
         let mut length = [0; 4];
         self.stream.read_exact(&mut length).ok()?;
@@ -44,14 +44,14 @@ impl Line {
         Some(frame)
     }
 
-    /// The next byte, and none where the client has ended the connection.
+    /// The next byte, or `None` if the client has ended the connection.
     pub fn byte(&mut self) -> Option<u8> {
         let mut byte = [0];
         self.stream.read_exact(&mut byte).ok()?;
         Some(byte[0])
     }
 
-    /// Sends bytes. Whether the client has not ended the connection.
+    /// Sends bytes. Returns whether the client still has the connection.
     pub fn send(&mut self, bytes: &[u8]) -> bool {
         self.stream.write_all(bytes).is_ok()
     }
@@ -99,7 +99,7 @@ impl Line {
     }
 }
 
-/// How a server answers whose nodes all have the bytes `one`.
+/// A server whose nodes all have the bytes `one`.
 impl Line {
     /// Answers a request of the core.
     pub fn answer(&mut self, request: &Request) -> bool {
@@ -113,14 +113,14 @@ impl Line {
         }
     }
 
-    /// Has each request answered, until the client ends the connection.
+    /// Answers each request, until the client ends the connection.
     pub fn each(&mut self, mut answer: impl FnMut(&mut Line, Request)) {
         while let Some(request) = self.request() {
             answer(self, request);
         }
     }
 
-    /// Answers all that comes, until the client ends the connection.
+    /// Answers everything, until the client ends the connection.
     pub fn serve(&mut self) {
         while let Some(request) = self.request() {
             self.answer(&request);
@@ -150,8 +150,8 @@ impl Partner {
         Partner { address, dials }
     }
 
-    /// A server that admits each session, and has each request answered so. The timeout is a minute: so no ping comes between the calls of a test,
-    /// also on a busy machine.
+    /// A server that admits each session, and answers each request with this. The timeout is a minute, so no ping comes between the calls
+    /// of a test, even on a busy machine.
     pub fn answering(mut answer: impl FnMut(&mut Line, Request) + Send + 'static) -> Partner {
         Partner::start(move |_, mut line| {
             line.admit(60_000);
@@ -159,7 +159,7 @@ impl Partner {
         })
     }
 
-    /// A server that admits each session, with a timeout of a minute, and answers all that comes.
+    /// A server that admits each session, with a timeout of a minute, and answers everything.
     pub fn serving() -> Partner {
         Partner::start(|_, mut line| {
             line.admit(60_000);
@@ -172,12 +172,12 @@ impl Partner {
         self.dials.recv_timeout(PATIENCE).expect("it is dialled")
     }
 
-    /// The same, where one has come.
+    /// The same if one has come.
     pub fn dial_so_far(&self) -> Option<Instant> {
         self.dials.try_recv().ok()
     }
 
-    /// How many attempts came that were not asked for yet.
+    /// How many attempts have come that no test asked for yet.
     pub fn dials(&self) -> usize {
         self.dials.try_iter().count()
     }

@@ -13,13 +13,13 @@ const MAKER: &str = concat!(env!("CARGO_MANIFEST_DIR"), "/../bench/maker.py");
 /// How long a line of the server may take.
 const PATIENCE: Duration = Duration::from_secs(120);
 
-/// What makes the servers of this program, and ends with it.
+/// Makes the servers of this program, and ends with it.
 struct Maker {
     _child: Child,
     address: SocketAddr,
 }
 
-/// None where there is no python3.
+/// `None` without python3.
 fn begin_making() -> Option<Maker> {
     let mut command = Command::new("python3");
     command.arg(MAKER);
@@ -38,22 +38,22 @@ fn begin_making() -> Option<Maker> {
     })
 }
 
-/// The address of the port that a line names after this word.
+/// The address of the port that follows this word in a line.
 fn address_in(line: &str, word: &str) -> SocketAddr {
     let port = line.strip_prefix(word).expect("it listens");
     ([127, 0, 0, 1], port.parse().expect("a port")).into()
 }
 
-/// The server. It ends where it is dropped.
+/// The server. Dropping it ends it.
 pub struct Server {
     stream: TcpStream,
     lines: Receiver<String>,
-    /// Where it listens.
+    /// The address at which it listens.
     pub address: SocketAddr,
 }
 
 impl Server {
-    /// A server with these words, and none where there is no python3, which is said.
+    /// A server with these words. Without python3 it says so and returns `None`.
     pub fn start(words: &[&str]) -> Option<Server> {
         static MAKER: OnceLock<Option<Maker>> = OnceLock::new();
         let Some(maker) = MAKER.get_or_init(begin_making) else {
@@ -61,7 +61,7 @@ impl Server {
             return None;
         };
         let mut stream = TcpStream::connect(maker.address).expect("it makes servers");
-        writeln!(stream, "{words:?}").expect("it makes servers"); // plain words are so in JSON too
+        writeln!(stream, "{words:?}").expect("it makes servers"); // plain words are the same in JSON
         let input = BufReader::new(stream.try_clone().expect("it is open"));
         let (sender, lines) = channel();
         thread::spawn(move || {
@@ -78,7 +78,7 @@ impl Server {
         })
     }
 
-    /// Has it obey a command.
+    /// Makes it obey a command.
     pub fn tell(&mut self, command: &str) {
         writeln!(self.stream, "{command}").expect("it listens to commands");
         let line = self.lines.recv_timeout(PATIENCE).expect("a line comes");

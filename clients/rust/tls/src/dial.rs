@@ -10,13 +10,13 @@ use std::net::{Shutdown, TcpStream};
 use std::sync::{Arc, Mutex, MutexGuard, PoisonError};
 use std::time::{Duration, Instant};
 
-/// The shortest time that the system takes for a bound on a wait.
+/// The system's shortest bound on a wait.
 const SHORTEST_WAIT: Duration = Duration::from_millis(1);
 
-/// How long the end of a connection waits for room, to be told to the server.
+/// How long the end of a connection waits for room in which to tell the server.
 const WAIT_AT_END: Duration = Duration::from_millis(20);
 
-/// The most bytes that are sealed at a time.
+/// The most bytes to seal at a time.
 const PIECE: usize = 65_536;
 
 /// Makes connections over TLS.
@@ -26,7 +26,7 @@ pub struct Tls {
 }
 
 impl Tls {
-    /// Connections by this configuration: whose certificates are trusted, and maybe one of the client's own.
+    /// Connections with this configuration: the trusted certificates, and maybe one of the client's own.
     #[must_use]
     pub fn new(config: Arc<ClientConfig>) -> Tls {
         Tls { config }
@@ -68,7 +68,7 @@ fn broken(fault: impl Error + Send + Sync + 'static) -> io::Error {
     io::Error::new(ErrorKind::Other, fault)
 }
 
-/// How long there is until an instant. It fails where that has passed.
+/// The time until an instant. Fails if that has passed.
 fn left(until: Instant) -> io::Result<Duration> {
     let left = until.checked_duration_since(Instant::now());
     let left = left.filter(|left| !left.is_zero());
@@ -88,7 +88,7 @@ fn shake_hands(
     }
     let state = tls.process_new_packets();
     state.map(drop).map_err(|fault| {
-        // What is said to a server whose bytes do not read may not come to it.
+        // The message to a server whose bytes do not parse may not reach it.
         let _ = flush(tls, stream, until);
         broken(fault)
     })
@@ -107,7 +107,7 @@ fn lock(tls: &Mutex<ClientConnection>) -> MutexGuard<'_, ClientConnection> {
     tls.lock().unwrap_or_else(PoisonError::into_inner)
 }
 
-/// The half that is read. Both halves have the one state of TLS, which neither holds while it waits.
+/// The read half. Both halves share the one state of TLS, which neither holds while it waits.
 struct Reads {
     tls: Arc<Mutex<ClientConnection>>,
     stream: TcpStream,
@@ -122,7 +122,7 @@ impl Reads {
         self.stream.peek(&mut [0]).map(drop)
     }
 
-    /// Takes what the stream has, of which there is something. What TLS has to say to it goes with what is written next.
+    /// Takes what the stream has, which is at least something. TLS's own messages go out with the next write.
     fn take(&mut self) -> io::Result<()> {
         let mut tls = lock(&self.tls);
         tls.read_tls(&mut self.stream)?;
@@ -145,11 +145,11 @@ impl Incoming for Reads {
     }
 }
 
-/// The half that is written: it alone writes to the stream.
+/// The write half. Only it writes to the stream.
 struct Writes {
     tls: Arc<Mutex<ClientConnection>>,
     stream: TcpStream,
-    /// What is written as it is here, how much of that was, and how many bytes it says.
+    /// The sealed bytes, how many of them are written, and how many plain bytes they hold.
     sealed: Vec<u8>,
     written: usize,
     said: usize,
@@ -176,7 +176,7 @@ impl Writes {
         Ok(count)
     }
 
-    /// Writes what is sealed. It fails where there is no room for all of it by this instant.
+    /// Writes the sealed bytes. Fails if there is not room for all of them by this instant.
     fn flush(&mut self, until: Instant) -> io::Result<()> {
         while self.written < self.sealed.len() {
             let wait = until.saturating_duration_since(Instant::now());
@@ -204,7 +204,7 @@ impl Outgoing for Writes {
 
     fn close(&mut self) {
         lock(&self.tls).send_close_notify();
-        // A server that is gone is not told, nor is one that does not read.
+        // A server that is gone, or that does not read, does not hear of it.
         let _ = self.seal(&[]);
         let _ = self.flush(Instant::now() + WAIT_AT_END);
         let _ = self.stream.shutdown(Shutdown::Both);

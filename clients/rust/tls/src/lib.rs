@@ -1,4 +1,4 @@
-//! TLS by [rustls] for sessions of [dirwolleu], with all that dirwolleu has, so that a program which takes this crate by that name wants no
+//! TLS by [rustls] for sessions of [dirwolleu], with everything of dirwolleu, so that a program with this crate under that name needs no
 //! other line: `dirwolleu = { package = "dirwolleu-rustls", path = ".." }`.
 //!
 //! ```no_run
@@ -18,8 +18,8 @@
 //! # }
 //! ```
 //!
-//! The name of each host, as the list of the session has it, has to be in the certificate of the server. This version of rustls verifies
-//! names, and no addresses.
+//! The server's certificate has to have the name of each host, as the session's list has it. This version of rustls verifies names, and no
+//! addresses.
 #![deny(missing_docs, unsafe_code)]
 #![warn(clippy::pedantic)]
 

@@ -1,4 +1,5 @@
-//! Sessions over TLS, at a server of the test's own, in a program that takes the crate by the name of the client. Where there is no openssl to make certificates, each test says so and passes.
+//! Sessions over TLS, at a server of the test's own, in a program that uses the crate under the name of the client. Without openssl, which
+//! makes certificates, each test says so and passes.
 
 #[path = "../../tests/jute/mod.rs"]
 mod jute;
@@ -25,10 +26,10 @@ use std::{env, fs, process};
 
 const TIMEOUT: Duration = Duration::from_secs(10);
 
-/// How long what is awaited may take.
+/// How long a test waits for something.
 const PATIENCE: Duration = Duration::from_secs(30);
 
-/// How long a server that does not read may hold a program up, whose writes wait for a third of the timeout otherwise.
+/// How long a server that does not read may hold a program up. Its writes otherwise wait for a third of the timeout.
 const AT_ONCE: Duration = Duration::from_secs(20);
 
 /// A folder that goes with its test.
@@ -40,7 +41,7 @@ impl Drop for Folder {
     }
 }
 
-/// Runs openssl with these words in a folder. Whether there is an openssl.
+/// Runs openssl with these words in a folder. Returns whether there is an openssl.
 fn openssl(folder: &Path, words: &str) -> bool {
     let command = Command::new("openssl")
         .args(words.split(' '))
@@ -58,13 +59,13 @@ fn openssl(folder: &Path, words: &str) -> bool {
     true
 }
 
-/// What a server and its clients know of each other.
+/// The configurations of a server and its clients, which know each other.
 struct Trust {
     server: Arc<ServerConfig>,
     client: Arc<ClientConfig>,
 }
 
-/// A server whose certificate has this name, and clients that trust who has signed it.
+/// A server whose certificate has this name, and clients that trust its signer.
 fn trust(test: &str, name: &str) -> Option<Trust> {
     let folder = Folder(env::temp_dir().join(format!("dirwolleu-{}-{test}", process::id())));
     fs::create_dir_all(&folder.0).unwrap();
@@ -104,7 +105,7 @@ fn trust(test: &str, name: &str) -> Option<Trust> {
     })
 }
 
-/// A server that has each connection served over TLS, in turn, from number 0 on.
+/// A server that serves each connection over TLS, in turn, from number 0 on.
 fn start(config: Arc<ServerConfig>, serve: impl Fn(usize, Line) + Send + 'static) -> SocketAddr {
     let listener = TcpListener::bind("127.0.0.1:0").unwrap();
     let address = listener.local_addr().unwrap();
@@ -194,7 +195,7 @@ fn a_server_of_another_name_is_not_talked_to() {
     assert!(told.contains("certificate"), "{told}");
 }
 
-/// Begins a record of 16 KiB, and sends of it a byte now and then, until the client ends the connection.
+/// Begins a record of 16 KiB, and sends a byte of it now and then, until the client ends the connection.
 fn drip(mut stream: TcpStream) {
     let mut next = [22, 3, 3, 64, 0].into_iter().chain(repeat(0));
     while next
@@ -223,7 +224,7 @@ fn a_handshake_that_drips_ends_with_its_attempt() {
     assert!(session.call(Request::get("/a").within(PATIENCE)).is_ok());
 }
 
-/// Frames that are written in many pieces, and those that are written in one.
+/// With frames that are written in many pieces, and with those in one.
 #[test]
 fn a_server_that_reads_nothing_holds_nobody_up() {
     let Some(trust) = trust("slow", "localhost") else {

@@ -2,7 +2,8 @@
 //!
 //! `dirwolleu-tokio HOSTS PATH..`
 //!
-//! The client knows nothing of the runtime: its tickets are futures, what it follows is polled, and the session's own thread wakes the tasks.
+//! The client knows nothing of the runtime: its tickets are futures, what it follows is polled, and the session's own thread wakes the
+//! tasks.
 
 use dirwolleu::{Request, SessionOptions, SharedSession};
 use std::env;
@@ -12,7 +13,7 @@ use tokio::runtime::Builder;
 use tokio::task::LocalSet;
 use tokio::time::timeout;
 
-/// Prints what a node holds, at first and at each change. It goes on where a server refuses a read.
+/// Prints a node's content, at first and at each change. It goes on if a server refuses a read.
 async fn follow(session: SharedSession, path: String) {
     let mut nodes = session.follow(&path);
     while let Some(node) = poll_fn(|context| nodes.poll_next(context)).await {
@@ -24,7 +25,7 @@ async fn follow(session: SharedSession, path: String) {
     }
 }
 
-/// Asks for the children of the root, for a second at most. The call may be answered later; nobody waits for it then.
+/// Asks for the children of the root, and waits a second at most. A later answer finds nobody waiting.
 async fn tell_children(session: &SharedSession) {
     match timeout(Duration::from_secs(1), session.ask(Request::children("/"))).await {
         Ok(Ok((names, _))) => println!("{} nodes below the root", names.len()),

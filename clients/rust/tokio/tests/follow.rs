@@ -1,11 +1,11 @@
-//! The example over the server in memory. Where there is no python3, it says so and passes.
+//! The example over the server in memory. Without python3 it says so and passes.
 
 use std::io::{BufRead, BufReader, Lines, Write};
 use std::process::{Child, ChildStdout, Command, Stdio};
 
 const SERVER: &str = concat!(env!("CARGO_MANIFEST_DIR"), "/../../bench/server.py");
 
-/// A process, and the lines that it prints. It ends where it is dropped.
+/// A process, and the lines that it prints. Dropping it ends the process.
 struct Program {
     child: Child,
     lines: Lines<BufReader<ChildStdout>>,
