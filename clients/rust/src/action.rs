@@ -118,14 +118,14 @@ pub enum Action<'a> {
     Send(Bytes<'a>),
     /// The call with this ticket is over.
     Answer {
-        /// The number that the call was given.
+        /// The call's ticket.
         ticket: u64,
         /// The reply of the server, or why there is none.
         outcome: Result<Reply<'a>, NoReply>,
     },
     /// The limit of the call with this ticket has come. It no longer waits.
     TimedOut {
-        /// The number that the call was given.
+        /// The call's ticket.
         ticket: u64,
         /// Whether it was sent: then it may have happened, or still may.
         was_sent: bool,
@@ -148,20 +148,20 @@ pub enum Action<'a> {
     /// The kept answer of the subject with this ticket is good: look it up. Either it was not good before, or its path was reported since,
     /// or the servers held an election, and the subject was read again.
     Shown {
-        /// The number that the subject was given.
+        /// The subject's ticket.
         ticket: u64,
     },
     /// A read of the subject with this ticket was refused. The machine reads it again after a second; with [`Refusal::TooLarge`], each
     /// further read comes after a minute. This comes once for each new reason.
     Refused {
-        /// The number that the subject was given.
+        /// The subject's ticket.
         ticket: u64,
         /// Why.
         reason: Refusal,
     },
     /// The machine follows a side of a node for a tree.
     MemberAdded {
-        /// The number that the tree was given.
+        /// The tree's ticket.
         tree: u64,
         /// The ticket that follows it: that of the tree, or one from 2^63 on.
         ticket: u64,
@@ -172,14 +172,14 @@ pub enum Action<'a> {
     },
     /// The machine no longer follows this for a tree: the node is gone, or the tree is no longer followed.
     MemberRemoved {
-        /// The number that the tree was given.
+        /// The tree's ticket.
         tree: u64,
         /// The ticket that followed it.
         ticket: u64,
     },
     /// A tree has come to exceed its bound, or no longer exceeds it.
     TreeBounded {
-        /// The number that the tree was given.
+        /// The tree's ticket.
         tree: u64,
         /// Whether it exceeds it: then the machine follows no more of it.
         is_bounded: bool,
@@ -187,18 +187,18 @@ pub enum Action<'a> {
     /// A tree is complete again and may have changed since the last such action: look it up by [`subtree`](Machine::subtree), which judges
     /// whether it is of one moment.
     TreeComplete {
-        /// The number that the tree was given.
+        /// The tree's ticket.
         tree: u64,
     },
     /// Another contender is before the one with this ticket, which watches it. This action and those of contenders below come after all
     /// others of a step, and once for each change.
     Waits {
-        /// The number that the contender was given.
+        /// The contender's ticket.
         ticket: u64,
     },
     /// The contender holds.
     Holds {
-        /// The number that the contender was given.
+        /// The contender's ticket.
         ticket: u64,
         /// The zxid that created its place. Whatever the lock protects refuses a token below one that it has seen.
         token: i64,
@@ -206,19 +206,19 @@ pub enum Action<'a> {
     /// The contender no longer holds: its place is gone, or the session has expired, and it goes on contending with another place; or it
     /// gave up.
     Lost {
-        /// The number that the contender was given.
+        /// The contender's ticket.
         ticket: u64,
     },
     /// A call of the contender was refused, or a listing shows an obstacle. The machine asks again after a second.
     Pauses {
-        /// The number that the contender was given.
+        /// The contender's ticket.
         ticket: u64,
         /// Why.
         reason: Refusal,
     },
     /// The contender has given up, or the session is closed, and it has no node left. This is its last action.
     GivenUp {
-        /// The number that the contender was given.
+        /// The contender's ticket.
         ticket: u64,
     },
     /// The server has answered a credential. This comes after all other actions of a step but frames of credentials and

@@ -42,7 +42,7 @@ pub(crate) enum Content {
     Nothing,
     /// The data of a node, or the body of a reply that the core does not read.
     Data(Vec<u8>),
-    /// The path of a node that was made.
+    /// The path of a created node.
     Path(String),
     /// The names of children.
     Names(TextList),

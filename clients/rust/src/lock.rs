@@ -155,7 +155,7 @@ impl<'d> LockOptions<'d> {
         self
     }
 
-    /// Sets the data of its place, which tell others who contends.
+    /// Sets the data of its place, by which others see who contends.
     pub const fn data(mut self, data: &'d [u8]) -> Self {
         self.data = data;
         self

@@ -16,11 +16,11 @@ pub use crate::numbers::{NodeEvent, Side};
 #[repr(C)]
 #[derive(Clone, Copy, Debug, Default, PartialEq, Eq)]
 pub struct Stat {
-    /// The zxid of the transaction that made the node.
+    /// The zxid of the transaction that created the node.
     pub czxid: i64,
     /// The zxid of the transaction that last changed its data.
     pub mzxid: i64,
-    /// When it was made, in milliseconds since 1970, by the server's clock.
+    /// When it was created, in milliseconds since 1970, by the server's clock.
     pub ctime: i64,
     /// When its data last changed, in milliseconds since 1970, by the server's clock.
     pub mtime: i64,
@@ -55,11 +55,11 @@ pub struct Stat {
 #[repr(C)]
 #[derive(Clone, Copy, Debug, Default, PartialEq, Eq)]
 pub struct DataStat {
-    /// The zxid of the transaction that made the node.
+    /// The zxid of the transaction that created the node.
     pub czxid: i64,
     /// The zxid of the transaction that last changed its data.
     pub mzxid: i64,
-    /// When it was made, in milliseconds since 1970, by the server's clock.
+    /// When it was created, in milliseconds since 1970, by the server's clock.
     pub ctime: i64,
     /// When its data last changed, in milliseconds since 1970, by the server's clock.
     pub mtime: i64,
@@ -146,11 +146,11 @@ impl Watch {
 pub enum Mode {
     /// It stays until it is deleted.
     Persistent,
-    /// It goes with the session that makes it.
+    /// It ends with the session that creates it.
     Ephemeral,
     /// It stays, and the server adds a number of ten digits to its name.
     PersistentSequential,
-    /// It goes with the session, and the server adds a number of ten digits to its name.
+    /// It ends with the session, and the server adds a number of ten digits to its name.
     EphemeralSequential,
 }
 

@@ -239,7 +239,7 @@ macro_rules! calls {
             $this.call(Request::sync(path))
         }
 
-        /// Creates a node without data, and its parents, as far as they are missing. Calls that are lost with a connection are made again.
+        /// Creates a node without data, and its parents, as far as they are missing. Calls that are lost with a connection are repeated.
         ///
         /// # Errors
         ///
@@ -262,7 +262,7 @@ macro_rules! calls {
         }
 
         /// Deletes a node and everything below it, bottom up, and returns how many nodes it deleted; there may be none. Nodes that others
-        /// create there meanwhile are deleted too. Calls that are lost with a connection are made again.
+        /// create there meanwhile are deleted too. Calls that are lost with a connection are repeated.
         ///
         /// # Errors
         ///

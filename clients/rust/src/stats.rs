@@ -194,7 +194,7 @@ pub enum Observation {
         code: Option<Code>,
         /// The zxid of its reply: 0 if there is none.
         zxid: i64,
-        /// The time since it was asked.
+        /// The time since the call was made.
         took: Duration,
     },
     /// This many bytes came from the server.
@@ -310,9 +310,9 @@ pub struct Stats {
     pub bytes_out: u64,
     /// How long ago a server was heard, which bounds how old good answers of followed nodes may be. `None` before the first byte.
     pub age: Option<Duration>,
-    /// The nodes that are followed.
+    /// The number of followed nodes.
     pub nodes: usize,
-    /// The trees that are followed.
+    /// The number of followed trees.
     pub trees: usize,
     /// The bytes of the paths and kept data of followed nodes.
     pub kept_bytes: usize,

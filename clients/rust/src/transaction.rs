@@ -143,7 +143,7 @@ impl<'a> Transaction<'a> {
         self.session.call(Request::transaction(self.operations))
     }
 
-    /// Asks for all of it, and goes on.
+    /// Asks for all of it, and goes on: the answer comes by the ticket.
     pub fn ask(self) -> Ticket<Vec<Change>> {
         self.session.ask(Request::transaction(self.operations))
     }

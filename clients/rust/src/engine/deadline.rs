@@ -31,7 +31,7 @@ pub(super) struct Deadline {
 }
 
 impl Deadline {
-    /// Of a session with this timeout.
+    /// The deadline of a session with this timeout.
     pub(super) fn of(timeout: Duration) -> Deadline {
         let patience = timeout.max(SHORTEST_PATIENCE).saturating_add(UNCOUNTED);
         Deadline {
