@@ -1,4 +1,4 @@
-/* What the example programs share: they open a session, print the data of nodes, and end at a signal. */
+/* The code that the example programs share: they open a session, print the data of nodes, and end at a signal. */
 #ifndef EXAMPLE_H
 #define EXAMPLE_H
 
@@ -23,7 +23,7 @@ static inline void wake(int signal_number)
     errno = kept;
 }
 
-/* A session at the hosts of a command, HOSTS PATH. A program that has none says why, and ends. */
+/* Opens a session at the hosts of a command line, HOSTS PATH. If it cannot, the program says why, and ends. */
 static inline dws_session *open_session(const char *program, int argc, char **argv)
 {
     char why[DWS_LONGEST_LINE];
@@ -50,7 +50,7 @@ static inline void print_quoted(const char *bytes, size_t length)
     putchar('"');
 }
 
-/* Writes what was printed. A program that nobody can read ends. With musl a line end writes too, and if that fails fflush has nothing left. */
+/* Flushes the output. A program whose output nobody can read ends. With musl a line end writes too, and if that fails fflush has nothing left. */
 static inline void flush_output(const char *program)
 {
     if (fflush(stdout) != 0 || ferror(stdout)) {
@@ -59,7 +59,7 @@ static inline void flush_output(const char *program)
     }
 }
 
-/* Goes on until the session is over. SIGINT and SIGTERM end it; a second one does not wait for the server's word. */
+/* Goes on until the session is over. SIGINT and SIGTERM end it; a second one does not wait for the server's reply. */
 static inline void turn_until_signal(dws_session *session)
 {
     struct sigaction woken;

@@ -1,10 +1,10 @@
 /* follow HOST:PORT[,HOST:PORT..][/CHROOT] PATH
  *
- * Follows the data of a node of ZooKeeper, through lost connections, restarts of servers and expired sessions. Each change of what is
- * kept is a line on standard output: the path, the mark, the last seen zxid, the data. What happens to connections is told on standard
+ * Follows the data of a node of ZooKeeper, through lost connections, restarts of servers and expired sessions. It prints a line on
+ * standard output for each change of what it keeps: the path, the mark, the last seen zxid, the data. Connection events go to standard
  * error. SIGINT and SIGTERM end the session and the program.
  *   /config good 12 "first"     the servers' history has these data at zxid 12
- *   /config stale 13 "first"    a change was told, and the node is read again
+ *   /config stale 13 "first"    a change was reported, and the node is read again
  *   /config good 14 absent      no node is there
  *   /config unknown 14          nothing is kept: the session is over, or has expired; another one begins, at no server that is behind */
 #define _POSIX_C_SOURCE 200809L

@@ -1,12 +1,12 @@
-/* The heap that the library asks for memory: that of the C library, whose blocks are aligned to 16 bytes, as the library wants.
+/* The heap of the library: that of the C library, whose blocks are aligned to 16 bytes, as the library requires.
  *
- * A program that brings an allocator of its own links the archive of `rt lib` with three functions of these names instead. */
+ * A program with an allocator of its own links the archive of `rt lib` with three functions of these names instead. */
 #include <stdbool.h>
 #include <stddef.h>
 #include <stdint.h>
 #include <stdlib.h>
 
-/* A request for memory: whether it was met, and the block, or some address that is not null. */
+/* The result of a request for memory: whether it was met, and the block, or some address that is not null. */
 struct granted {
     bool is_met;
     void *block;
@@ -24,7 +24,7 @@ struct granted rattle_alloc(size_t size, size_t alignment)
     return granted(malloc(size != 0 ? size : alignment));
 }
 
-/* The same block with another size, maybe elsewhere; it is as it was if the request is not met. */
+/* The same block with another size, maybe at another address; it is unchanged if the request is not met. */
 struct granted rattle_realloc(void *block, size_t kept, size_t size, size_t alignment);
 struct granted rattle_realloc(void *block, size_t kept, size_t size, size_t alignment)
 {

@@ -1,4 +1,4 @@
-/* A registration over session.h: an ephemeral node that is made again when it has gone, as when its session has expired.
+/* A registration over session.h: an ephemeral node that is made again whenever it is gone, as after an expiry of its session.
  *
  *     static dws_registration worker;
  *
@@ -9,8 +9,8 @@
  *
  *     dws_register(session, &worker, "/workers/one", "10.0.0.1:8080", 13, changed);
  *
- * If an earlier process of the name still has the node, since its session has not expired yet, the registration waits for that. It begins as zeros,
- * and lives until the call that dws_withdraw gives is answered, or dws_free. All of this is tested, and not proved. */
+ * If an earlier process of the same name still has the node, because its session has not expired yet, the registration waits for that. A registration
+ * begins as zeros, and lives until the call of dws_withdraw is answered, or dws_free. All of this is tested, not proved. */
 #ifndef DIRWOLLEU_REGISTRATION_H
 #define DIRWOLLEU_REGISTRATION_H
 
@@ -23,8 +23,8 @@ extern "C" {
 typedef struct dws_registration dws_registration;
 
 struct dws_registration {
-    bool is_there;   /* the node is there, and is of this session, as far as it knows */
-    int32_t why;     /* why the node can not be made, as of a call: it is tried no further then */
+    bool is_there;   /* the node is there and this session's own, as far as the session knows */
+    int32_t why;     /* why the node cannot be made, as of a call: then it is not tried again */
     void *context;   /* the program's own */
     /* The registration's own. */
     void (*changed)(dws_session *session, dws_registration *registration);
@@ -35,19 +35,19 @@ struct dws_registration {
     bool is_asked, is_left; /* `call` waits; it is withdrawn */
 };
 
-/* Keeps an ephemeral node of these data there, in this session and in each later one. It calls `changed` when the node is there, when it is there no
- * more, and when it can not be made, as when there is no node above it. It answers what dws_follow does; if that is not DW_OK, nothing is done. */
+/* Keeps an ephemeral node with these data in place, in this session and in each later one. It calls `changed` when the node is there, when it is
+ * gone, and when it cannot be made, as when there is no node above it. Returns what dws_follow does; unless that is DW_OK, nothing is done. */
 enum dw_result dws_register(dws_session *s, dws_registration *registration, const char *path, const char *bytes, size_t length,
                             void (*changed)(dws_session *, dws_registration *));
 
-/* Withdraws a registration, and calls `changed` no more. The call that this gives is answered with 0 once no node of it is there: on a later
- * connection if this one ends. If a server refuses to delete the node, or memory runs out, `why` says so: then another dws_withdraw asks again. */
+/* Withdraws a registration, and no longer calls `changed`. The returned call is answered with 0 once its node is gone: on a later connection if this
+ * one ends. If a server refuses to delete the node, or memory runs out, `why` says so: then another dws_withdraw asks again. */
 dws_call *dws_withdraw(dws_session *s, dws_registration *registration);
 
-/* Writes why the node can not be made, in words: the reason, the path, and what to do. */
+/* Writes why the node cannot be made, in words: the reason, the path, and what to do. */
 void dws_registration_words(dws_session *s, const dws_registration *registration, char *room, size_t size);
 
-/* Frees what a registration holds. It is withdrawn, or was never begun. */
+/* Frees what a registration holds. The registration is withdrawn, or never began. */
 void dws_registration_release(dws_registration *registration);
 
 #ifdef __cplusplus

@@ -1,4 +1,4 @@
-/* Counters of a session, by the hook of its options, and a page of them as Prometheus reads it.
+/* Counters of a session, by the hook of its options, and a page of them for Prometheus.
  *
  *     static dws_stats stats;
  *     static dws_options options;
@@ -9,8 +9,8 @@
  *     char page[65536];
  *     dws_stats_write(session, &stats, page, sizeof page);
  *
- * Stats begin as zeros, and live as long as their session; several sessions may have the same ones. A program with a hook of its own calls dws_count
- * in it. All of this is tested, and not proved. */
+ * Stats begin as zeros, and live as long as their session; several sessions may share them. A program with a hook of its own calls dws_count in it.
+ * All of this is tested, not proved. */
 #ifndef DIRWOLLEU_STATS_H
 #define DIRWOLLEU_STATS_H
 
@@ -20,21 +20,21 @@
 extern "C" {
 #endif
 
-/* Why a connection was over. */
+/* Why a connection ended. */
 enum dws_end {
     DWS_END_ENDED,          /* the server or the network ended it */
-    DWS_END_SILENT,         /* nothing came in time, or not the answer */
-    DWS_END_UNREADABLE,     /* what came does not read */
+    DWS_END_SILENT,         /* nothing came in time, or no answer did */
+    DWS_END_UNREADABLE,     /* the server's bytes cannot be read */
     DWS_END_BEHIND,         /* the server is behind what was seen */
     DWS_END_WATCHES_REFUSED,
     DWS_END_EXPIRED,        /* the session has expired */
-    DWS_END_CLOSED,         /* the session was closed, as it was asked */
+    DWS_END_CLOSED,         /* the session was closed, as asked */
     DWS_END_CREDENTIALS_REFUSED,
     DWS_END_DROPPED,        /* memory ran out */
     DWS_ENDS
 };
 
-/* What a call was about, and what has come of it. */
+/* The kind of a call, and how it ended. */
 enum dws_counted {
     DWS_CALLS_EXISTS, DWS_CALLS_GET, DWS_CALLS_CHILDREN, DWS_CALLS_SET, DWS_CALLS_CREATE, DWS_CALLS_DELETE, DWS_CALLS_TRANSACTION, DWS_CALLS_SYNC,
     DWS_CALLS_ACL, DWS_CALLS_OTHER, DWS_CALLS_CLOSE, DWS_CALL_KINDS
@@ -47,16 +47,16 @@ enum dws_came {
     DWS_CAME_CLOSED,
     DWS_CAME_NOT_CONNECTED, /* its limit came before it was sent */
     DWS_CAME_LATE,          /* its limit came after it was sent */
-    DWS_CAME_NOT_ASKED,     /* it was refused before it was sent, as of a text that is no path, or its answer is too long */
+    DWS_CAME_NOT_ASKED,     /* it was refused before it was sent, as one for a text that is no path, or its answer is too long */
     DWS_CAMES
 };
 
 enum { DWS_BOUNDS = 13 };
 
-/* What a session has counted. */
+/* The counters of a session. */
 typedef struct dws_stats {
-    uint64_t connections;      /* so often has a server accepted the session */
-    uint64_t attempts_failed;  /* attempts of which no connection came */
+    uint64_t connections;      /* how often a server accepted the session */
+    uint64_t attempts_failed;  /* attempts that made no connection */
     uint64_t sessions_lost;    /* sessions that have expired */
     uint64_t ends[DWS_ENDS];
     uint64_t calls[DWS_CALL_KINDS][DWS_CAMES];
@@ -67,18 +67,18 @@ typedef struct dws_stats {
 
 /* What a session follows and keeps, at a moment. */
 typedef struct dws_holdings {
-    int64_t age_ms;            /* since a server was heard: how old what is good may be; -1 before the first word */
+    int64_t age_ms;            /* since a server was heard: how old good answers may be; -1 before the first word */
     size_t nodes, children, trees; /* that are followed */
     size_t bytes;              /* of the paths, data and names that are kept of these */
 } dws_holdings;
 
-/* Counts what is observed: it is `observe` of the options, with stats as the observer. */
+/* Counts an observation: it is `observe` of the options, with stats as the observer. */
 void dws_count(dws_session *s, const dws_observation *seen, void *stats);
 
 /* What a session holds at this moment. */
 dws_holdings dws_hold(dws_session *s);
 
-/* Writes a page of the stats and of what the session holds, in the text format of Prometheus, as far as there is room. It gives how many bytes the
+/* Writes a page of the stats and of what the session holds, in the text format of Prometheus, as far as there is room. Returns how many bytes the
  * page has, without the 0 after it, as snprintf does. A page has less than 65,536. */
 size_t dws_stats_write(dws_session *s, const dws_stats *stats, char *room, size_t size);
 

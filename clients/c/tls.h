@@ -1,12 +1,12 @@
-/* TLS for session.h by OpenSSL, 1.1.1 and later: the two callbacks, tls_read and tls_write, whose context is an SSL_CTX. No part of the
- * library: it wants the headers of OpenSSL, and to be linked with -lssl -lcrypto.
+/* TLS for session.h by OpenSSL, 1.1.1 and later: the two callbacks, tls_read and tls_write, whose context is an SSL_CTX. It is not part of
+ * the library: it needs the headers of OpenSSL, and -lssl -lcrypto when you link.
  *
  *     options.read = tls_read;
  *     options.write = tls_write;
  *     options.context = tls_of_ca("ca.pem");
  *
- * The server's certificate has to be of the name or the address that the connection string has. What the system raises at a write to a closed
- * connection, SIGPIPE, has to be ignored. */
+ * The server's certificate has to be for the name or the address in the connection string. The program has to ignore SIGPIPE, which the
+ * system raises at a write to a closed connection. */
 #ifndef DIRWOLLEU_TLS_H
 #define DIRWOLLEU_TLS_H
 
@@ -20,7 +20,7 @@
 #include <openssl/ssl.h>
 #include <openssl/x509v3.h>
 
-/* What admits servers whose certificates an authority of this file has signed; NULL if the file has none. */
+/* A context that admits servers whose certificates an authority of this file signed; NULL if the file has none. */
 static inline SSL_CTX *tls_of_ca(const char *file)
 {
     SSL_CTX *made = SSL_CTX_new(TLS_client_method());
@@ -40,7 +40,7 @@ static inline void tls_release(void *state)
     SSL_free((SSL *)state);
 }
 
-/* The certificate has to be of this name, or of this address. */
+/* The certificate has to be for this name, or this address. */
 static inline bool tls_expect(SSL *ssl, const char *host)
 {
     unsigned char address[16];
@@ -50,7 +50,7 @@ static inline bool tls_expect(SSL *ssl, const char *host)
     return SSL_set1_host(ssl, host) == 1 && SSL_set_tlsext_host_name(ssl, host) == 1;
 }
 
-/* The connection, which begins with the first call; of what failed before, OpenSSL says nothing more. NULL if it cannot begin. */
+/* The connection, which the first call begins; OpenSSL's earlier errors are cleared. NULL if it cannot begin. */
 static inline SSL *tls_of(dws_wire *wire, void *context)
 {
     if (wire->state == NULL) {
@@ -68,7 +68,7 @@ static inline SSL *tls_of(dws_wire *wire, void *context)
     return (SSL *)wire->state;
 }
 
-/* What a read or a write has answered, as the system would have. */
+/* The result of a read or a write, as the system would return it. */
 static inline ssize_t tls_answer(SSL *ssl, dws_wire *wire, int count)
 {
     int error = count > 0 ? SSL_ERROR_NONE : SSL_get_error(ssl, count);

@@ -10,7 +10,7 @@
  *     /app/host "alpha"
  *     /app/port "80"
  *
- * Why there is no newer one, as that there is no root, and what happens to connections, is told on standard error. */
+ * Standard error says why there is no newer one, as when there is no root, and what happens to connections. */
 #define _POSIX_C_SOURCE 200809L
 #include "session.h"
 #include "example.h"

@@ -1,4 +1,4 @@
-/* A lock, which is waited for again whenever it is lost, with a token to hand on: see docs/COOKBOOK.md. */
+/* A lock that is waited for again whenever it is lost, with a token for each request to what it protects: see docs/COOKBOOK.md. */
 #define _POSIX_C_SOURCE 200809L
 #include "lock.h"
 

@@ -1,4 +1,4 @@
-/* What a session does, as Prometheus reads it, each ten seconds; and a line for each slow or failed call: see docs/COOKBOOK.md. */
+/* A page for Prometheus of what a session does, every ten seconds, and a line for each slow or failed call: see docs/COOKBOOK.md. */
 #define _POSIX_C_SOURCE 200809L
 #include "stats.h"
 
