@@ -1,7 +1,7 @@
 /* Answers of the library: how paths and replies are read out of it and kept in calls. */
 #include "internal.h"
 
-/* Makes room for so much that is to be written. What has become too small is overwritten: there may be credentials in it. */
+/* Makes room for this many unsent bytes. A block that is too small is overwritten before it is freed: it may have credentials. */
 bool dws_reserve_unsent(struct dws_bytes *unsent, size_t wanted)
 {
     struct dws_bytes grown = {NULL, 0, 0, false};
@@ -17,7 +17,7 @@ bool dws_reserve_unsent(struct dws_bytes *unsent, size_t wanted)
     return true;
 }
 
-/* Keeps the frame of the action that was told last until it is written. One of a connection that is over is forgotten. */
+/* Keeps the frame of the last action until it is written. A frame for a connection that is over is dropped. */
 void dws_send_later(dws_session *s, size_t length)
 {
     if (s->wire.socket < 0) {
@@ -32,7 +32,7 @@ void dws_send_later(dws_session *s, size_t length)
     dws_record_frame(s, frame, length);
 }
 
-/* The path that the program knows, of one that the servers know. */
+/* Turns a path of the servers into the program's. */
 const char *dws_inner(const dws_session *s, const char *path)
 {
     size_t length = strlen(s->root);
@@ -42,7 +42,7 @@ const char *dws_inner(const dws_session *s, const char *path)
     return path[length] == 0 ? "/" : path + length;
 }
 
-/* The path that the servers know, of one that the program knows. A text that is no path does not become one. */
+/* Turns a path of the program into the servers'. A text that is no path does not become one. */
 char *dws_outer(const dws_session *s, const char *path)
 {
     size_t root = path[0] == '/' ? strlen(s->root) : 0, length = strcmp(path, "/") == 0 && root > 0 ? 0 : strlen(path);
@@ -55,14 +55,14 @@ char *dws_outer(const dws_session *s, const char *path)
     return outer;
 }
 
-/* What is kept of the data of a node, without them. It is DW_OK if the text is a path that the library takes. */
+/* Looks up what is kept of a node's data, without the data. DW_OK if the library takes the text as a path. */
 enum dw_result dws_peek(dws_session *s, const char *path, dw_kept_data *kept)
 {
     uint8_t none;
     return dw_session_peek_data(&s->machine, path, strlen(path), kept, &none, 0);
 }
 
-/* Has the path that the servers know written of one that the program knows, and says whether it is one. */
+/* Writes the servers' path for one of the program, and returns whether it is a path. */
 enum dw_result dws_find_outer(dws_session *s, const char *path, char **outer)
 {
     dw_kept_data kept;
@@ -91,7 +91,7 @@ static bool dws_keep_text(dws_session *s, dws_call *call, const dw_output *answe
     return true;
 }
 
-/* The names that follow one another in this room, each after its length in four bytes, as texts with a 0 after each. */
+/* Points at the names in this room, each after its length in four bytes, and puts a 0 after each. */
 void dws_point_at_names(char **names, char *at, size_t count)
 {
     for (size_t i = 0; i < count; i++) {
@@ -131,7 +131,7 @@ dws_call *dws_answered(dws_session *s, uint64_t ticket)
     return NULL;
 }
 
-/* Why a call fails when there is no memory for its reply. What it was to change has happened, so it is not told that it was refused. */
+/* Why a call fails when there is no memory for its reply. A change has happened, so its answer is not that it was refused. */
 static int32_t dws_why_not_kept(const dws_call *call)
 {
     return dws_is_read(call) ? DWS_REFUSED - (int32_t)DW_NO_MEMORY : (int32_t)DW_OUTCOME_LOST;

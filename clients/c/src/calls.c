@@ -1,4 +1,4 @@
-/* Calls: how they are asked, asked again, and answered, and those that hear of a change. */
+/* Calls: how they are asked, asked again and answered, and which ones hear of a change. */
 #include "internal.h"
 
 void dws_append(struct dws_line *line, dws_call *call)
@@ -12,7 +12,7 @@ void dws_append(struct dws_line *line, dws_call *call)
     line->count++;
 }
 
-/* Takes the call out of the line at which this points. */
+/* Takes the call that this points at out of the line. */
 dws_call *dws_remove(struct dws_line *line, dws_call **at)
 {
     dws_call *call = *at;
@@ -24,7 +24,7 @@ dws_call *dws_remove(struct dws_line *line, dws_call **at)
     return call;
 }
 
-/* Tells a call its answer. */
+/* Calls a call's `then` with its answer. */
 void dws_call_back(dws_session *s, dws_call *call)
 {
     dws_mark(s);
@@ -61,7 +61,7 @@ bool dws_may_repeat(const dws_session *s, const dws_call *call)
     return why == DW_OUTCOME_EXPIRED || why == DW_OUTCOME_NOT_CONNECTED || dws_is_busy(why);
 }
 
-/* Has a call asked again after a pause, if it is to be, that is safe, and there is time for it. */
+/* Schedules a call to be asked again after a pause, if it has tries left, that is safe, and there is time for it. */
 static bool dws_ask_later(dws_session *s, dws_call *call)
 {
     uint64_t pause_ms = (uint64_t)DWS_PAUSE_MS << (call->tried < 4 ? call->tried : 4);
@@ -75,7 +75,7 @@ static bool dws_ask_later(dws_session *s, dws_call *call)
     return true;
 }
 
-/* Puts calls into the queue whose moment has come. */
+/* Moves calls whose moment has come into the queue. */
 void dws_queue_again(dws_session *s)
 {
     for (dws_call **at = &s->again.first; s->again.count > 0 && *at != NULL;) {
@@ -87,7 +87,7 @@ void dws_queue_again(dws_session *s)
     }
 }
 
-/* When the first call is asked again. */
+/* The first moment at which a call is asked again. */
 uint64_t dws_again_due(const dws_session *s)
 {
     uint64_t first = UINT64_MAX;
@@ -112,7 +112,7 @@ void dws_unwatch(dws_session *s, dws_call *call)
     }
 }
 
-/* A read with a watch is answered: if there is a watch now, the call waits for what it tells. */
+/* A read with a watch is answered: if it left a watch, the call waits for that to fire. */
 void dws_watch(dws_session *s, dws_call *call, int32_t why)
 {
     bool leaves_watch = why == 0 || (why == DW_CODE_NO_NODE && call->kind == DWS_EXISTS);
@@ -123,7 +123,7 @@ void dws_watch(dws_session *s, dws_call *call, int32_t why)
     }
 }
 
-/* A watch of a path is over, or each one if that is NULL: who waits for it is to be told when the step is whole. */
+/* A watch of a path is over, or every watch if the path is NULL: the calls that wait for it are called back at the end of the step. */
 void dws_fire(dws_session *s, const char *path, enum dw_side side, enum dw_event event)
 {
     for (dws_call **at = &s->watching; *at != NULL;) {
@@ -143,7 +143,7 @@ void dws_fire(dws_session *s, const char *path, enum dw_side side, enum dw_event
     }
 }
 
-/* Tells calls that something has changed. One whose answer is not told yet waits for that. */
+/* Calls `changed` of calls whose watch is over. A call without its answer yet waits for that first. */
 static void dws_call_changed(dws_session *s)
 {
     for (dws_call **at = &s->fired; *at != NULL;) {
@@ -161,8 +161,8 @@ static void dws_call_changed(dws_session *s)
     }
 }
 
-/* Answers a call: within a step it is told so at the end. A step is whole before the library says anything of it, so the last zxid is that of all of
- * it, and a mark may end by what is said last. */
+/* Answers a call; within a step the callback comes at the end. The library makes a whole step before it says anything of it, so the last zxid is
+ * already the step's last, and the step's last output may still end a mark. */
 void dws_finish(dws_session *s, dws_call *call, int32_t why)
 {
     call->why = why;
@@ -178,7 +178,7 @@ void dws_finish(dws_session *s, dws_call *call, int32_t why)
     }
 }
 
-/* Tells all calls that a step has answered. */
+/* Calls back all calls that a step has answered. */
 void dws_call_all_back(dws_session *s)
 {
     dws_call_changed(s);
@@ -196,7 +196,7 @@ void dws_finish_all(dws_session *s, struct dws_line *line, int32_t why)
     }
 }
 
-/* The first moment at which the library is to be told the moment. */
+/* The moment at which the library next needs a step. */
 uint64_t dws_deadline(dws_session *s)
 {
     if (!s->is_due_known && dw_session_deadline(&s->machine, &s->due_ms) != DW_OK) {
@@ -206,21 +206,21 @@ uint64_t dws_deadline(dws_session *s)
     return s->due_ms;
 }
 
-/* Whether a read that was refused so may be answered later, for reasons of the server's or of the connection. */
+/* Whether a read that was refused with this code may succeed later, since the reason lies with the server or the connection. */
 bool dws_is_busy(int32_t code)
 {
     enum { THROTTLED = -127 };
     return code == THROTTLED || code == DW_CODE_CONNECTION_LOSS || code == DW_CODE_SESSION_EXPIRED || code == DW_CODE_SESSION_MOVED;
 }
 
-/* How long a call waits, if there is a limit. */
+/* How long a call waits, if it has a limit. */
 uint64_t dws_patience_ms(const dws_session *s, const dws_call *call)
 {
     int32_t said_ms = call->limit_ms > 0 ? call->limit_ms : s->options.patience_ms;
     return said_ms > 0 ? (uint64_t)said_ms : dws_most(1000, (uint64_t)s->options.timeout_ms);
 }
 
-/* A call is asked: it has no answer, and as long as the options say. */
+/* A call is asked: it has no answer yet, and as long to wait as its limit or the options say. */
 void dws_begin_call(const dws_session *s, dws_call *call)
 {
     call->is_answered = false;
@@ -238,7 +238,7 @@ void dws_note_asked(const dws_session *s, dws_call *call)
     call->asked_us = s->options.observe != NULL ? dws_now_us() : 0;
 }
 
-/* Puts a call into the queue that has begun. */
+/* Puts a call that has begun into the queue. */
 void dws_put(dws_session *s, dws_call *call)
 {
     dws_note_asked(s, call);
@@ -249,7 +249,7 @@ void dws_put(dws_session *s, dws_call *call)
     }
 }
 
-/* Asks about a path, with these bytes if they are not NULL. */
+/* Makes a call about a path, with these bytes if they are not NULL. */
 dws_call *dws_ask(dws_session *s, dws_call *call, enum dws_kind kind, const char *path, const char *bytes, size_t length)
 {
     dws_unwatch(s, call);

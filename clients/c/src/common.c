@@ -13,7 +13,7 @@ uint64_t dws_now_ms(void)
     return dws_now_us() / 1000;
 }
 
-/* The same with the time in which the system was suspended, if it has such a clock. */
+/* The same, and the time that the system was suspended, if it has a clock for that. */
 uint64_t dws_elapsed_ms(void)
 {
 #ifdef CLOCK_BOOTTIME
@@ -25,7 +25,7 @@ uint64_t dws_elapsed_ms(void)
     return dws_now_ms();
 }
 
-/* A random number of the system's; if it has none, one of the moment and the process. */
+/* A random number from the system; if it has none, one from the moment and the process. */
 uint64_t dws_chance(const dws_session *s)
 {
     uint64_t number = 0;
@@ -41,7 +41,7 @@ uint64_t dws_chance(const dws_session *s)
     return number * 0x9e3779b97f4a7c15;
 }
 
-/* Makes room for this many bytes in all in the block to which the pointer at this place leads, of whatever type. */
+/* Makes room for this many bytes in all in the block that the pointer at this place points to, of whatever type. */
 bool dws_reserve(void *place, size_t *room, size_t wanted)
 {
     void *block;
@@ -81,7 +81,8 @@ char *dws_path_below(const char *path, const char *name)
     return below;
 }
 
-/* Adds bytes, and has room for one more, so that there is a block even without bytes. Whether there was memory for them. */
+/* Adds bytes, and makes room for one more, so that there is a block even without bytes. Returns whether there was
+ * memory. */
 bool dws_put_bytes(struct dws_bytes *bytes, const void *added, size_t length)
 {
     bool is_there = dws_reserve(&bytes->at, &bytes->room, bytes->length + length + 1);
@@ -96,7 +97,7 @@ bool dws_put_bytes(struct dws_bytes *bytes, const void *added, size_t length)
 /* Overwrites a secret. */
 void dws_wipe(void *at, size_t length)
 {
-    void *(*volatile set)(void *, int, size_t) = memset; /* so that it is not left out */
+    void *(*volatile set)(void *, int, size_t) = memset; /* so that a compiler does not drop it */
     if (length > 0) {
         set(at, 0, length);
     }

@@ -34,8 +34,8 @@ static struct dws_credentials *dws_copy_credentials(const char *scheme, const ch
     return made;
 }
 
-/* Keeps credentials, which the library is handed at the next turn, since no step is made in a callback. What a server answers first is told to the call,
- * if it is not NULL. */
+/* Keeps credentials, which the library gets at the next turn, since no step is made in a callback. A call that is not NULL gets the first answer of a
+ * server. */
 enum dw_result dws_keep_credentials(dws_session *s, const char *scheme, const char *secret, size_t length, dws_call *call)
 {
     struct dws_credentials *made = dws_copy_credentials(scheme, secret, length), **last = &s->credentials;
@@ -59,7 +59,7 @@ bool dws_introduce(dws_session *s, const char *scheme, const char *bytes, size_t
     return dws_keep_credentials(s, scheme, bytes, length, NULL) == DW_OK;
 }
 
-/* Hands credentials to the library. Those that it does not take are forgotten. */
+/* Hands credentials to the library. Those that it refuses are forgotten. */
 static void dws_hand_credentials(dws_session *s, struct dws_credentials **at)
 {
     struct dws_credentials *one = *at;
@@ -80,7 +80,7 @@ static void dws_hand_credentials(dws_session *s, struct dws_credentials **at)
     }
 }
 
-/* Hands all credentials that are new to the library. Callbacks may add others. */
+/* Hands all new credentials to the library. Callbacks may add more. */
 void dws_introduce_new(dws_session *s)
 {
     while (s->must_introduce && !s->is_over) {
@@ -106,7 +106,7 @@ uint64_t dws_credentials_due(const dws_session *s)
     return first;
 }
 
-/* The servers do not take the credentials of the session: it is over, and nothing of it stays. */
+/* The servers refuse the session's credentials: it is over, and nothing of it is kept. */
 void dws_bar(dws_session *s, int32_t code, const char *words)
 {
     s->barred = code;
@@ -118,7 +118,7 @@ void dws_bar(dws_session *s, int32_t code, const char *words)
     dw_session_free(&s->machine);
 }
 
-/* A server has answered the credentials at this place: on each connection that they are told. */
+/* A server has answered the credentials at this place, as it does on each connection. */
 void dws_take_introduction(dws_session *s, size_t place, int32_t code)
 {
     struct dws_credentials *one = s->credentials;

@@ -38,7 +38,7 @@ static bool dws_add_text(char ***texts, size_t *count, size_t *room, const char 
 
 static void dws_candidates_read(dws_session *s, dws_call *call);
 
-/* Asks by which name the next one stands. */
+/* Asks for the name of the next candidate. */
 static void dws_candidates_go_on(dws_session *s, dws_candidates *all)
 {
     char path[DWS_LONGEST_LINE];
@@ -51,7 +51,7 @@ static void dws_candidates_go_on(dws_session *s, dws_candidates *all)
     dws_get(s, &all->call, path, false);
 }
 
-/* One that has gone meanwhile stands no more. */
+/* A candidate that has gone meanwhile no longer stands. */
 static void dws_candidates_read(dws_session *s, dws_call *call)
 {
     dws_candidates *all = (dws_candidates *)call->context;
@@ -64,7 +64,7 @@ static void dws_candidates_read(dws_session *s, dws_call *call)
     }
 }
 
-/* Adds the one that is right before this name, as the library says: DW_WAITS if there is one. */
+/* Adds the place right before this name, as the library finds it: DW_WAITS if there is one. */
 static enum dw_result dws_add_before(dws_session *s, dws_candidates *all, const struct dws_bytes *names, const struct dws_bytes *markers, const char *name)
 {
     char before[DWS_LONGEST_LINE];
@@ -95,7 +95,7 @@ static enum dw_result dws_add_places(dws_session *s, dws_candidates *all, const 
 
 static void dws_candidates_listed(dws_session *s, dws_call *call)
 {
-    static const char *const of_candidates[] = {"__lock__", "__lock__", "lock-", "latch-"}; /* the first one is that of the name itself */
+    static const char *const of_candidates[] = {"__lock__", "__lock__", "lock-", "latch-"}; /* the first one is the name's own */
     dws_candidates *all = (dws_candidates *)call->context;
     struct dws_bytes names, markers;
     memset(&names, 0, sizeof names);

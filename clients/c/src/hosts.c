@@ -29,7 +29,7 @@ static bool dws_read_host(struct dws_host *host, const char *text, size_t length
         && after + 1 + digits + strspn(after + 1 + digits, " ") >= end;
 }
 
-/* Reads the hosts of a connection string, which a comma parts. */
+/* Reads the hosts of a connection string, between commas. */
 static bool dws_read_hosts(dws_session *s, size_t length, char *why, size_t size)
 {
     for (const char *at = s->hosts_text, *end = at + length; at <= end;) {
@@ -112,7 +112,7 @@ static bool dws_has_host(const struct dws_host *hosts, size_t count, const char 
     return false;
 }
 
-/* Puts those of the new hosts first that are listed now, unless all are dialled in the order that they have. It answers how many these are. */
+/* Puts first those of the new hosts that are listed already, unless hosts are dialled in the order of the list. Returns how many these are. */
 static size_t dws_keep_hosts(dws_session *s)
 {
     char named[sizeof s->server];
@@ -132,7 +132,7 @@ static size_t dws_keep_hosts(dws_session *s)
     return kept;
 }
 
-/* Tells the library that the hosts are others, since no step is made in a callback. A host that is still to be dialled is one of these. */
+/* Hands the library the new hosts, here because no step is made in a callback. A host that is still to be dialled is one of them. */
 void dws_list_hosts(dws_session *s)
 {
     if (s->others == NULL || s->is_over) {
@@ -150,7 +150,7 @@ void dws_list_hosts(dws_session *s)
     s->is_listing = false;
 }
 
-/* An address of the host, of which a name may have several: the next one at each look-up, which may take a while. */
+/* An address of the host, whose name may have several: each look-up, which may take a while, gives the next one. */
 bool dws_find_address(dws_session *s, struct dws_host *host, struct sockaddr_storage *address, socklen_t *length)
 {
     struct addrinfo wanted, *found = NULL;

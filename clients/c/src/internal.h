@@ -1,4 +1,4 @@
-/* What the sources of the session share: what a session has, and what one source does for the others. No program includes this. */
+/* Shared by the sources of the session: its fields, and the functions that one source has for the others. No program includes this. */
 #ifndef DIRWOLLEU_INTERNAL_H
 #define DIRWOLLEU_INTERNAL_H
 
@@ -28,30 +28,30 @@ extern "C" {
 #endif
 
 enum {
-    DWS_MOST_ASKED = 1024,   /* calls that the library has at once, as many as it sends before an answer comes; more of them wait here */
+    DWS_MOST_ASKED = 1024,   /* calls that the library has at once, as many as it sends before an answer comes; others wait here */
     DWS_PIECE = 65536,       /* the most bytes that are read at once */
-    DWS_LARGE_PIECE = 262144, /* the same over a connection that had more at once: a frame in one piece is copied once less */
-    DWS_MOST_READ = 4194304, /* the most bytes that are read before the moment is told */
+    DWS_LARGE_PIECE = 262144, /* the same on a connection that had more at once: a frame in one piece is copied once less */
+    DWS_MOST_READ = 4194304, /* the most bytes that are read before the library gets the moment */
     DWS_LONGEST_HOST = 256,  /* the most bytes of a host's name */
     DWS_PAUSE_MS = 100,      /* the first pause before a call is asked again; each further one is twice as long, up to a second */
-    DWS_SHARE = 10,          /* a look at a whole tree takes at most this part of the time: after one that took long, the next one waits */
-    DWS_PASSWORD = 16,      /* the bytes of the password with which a new session is asked for */
-    DWS_CLOSE_MS = 1000     /* the longest wait for the server's word that the session is closed */
+    DWS_SHARE = 10,          /* looks at a whole tree take at most one part in this many of the time: after a long look the next one waits */
+    DWS_PASSWORD = 16,      /* the bytes of the password in a request for a new session */
+    DWS_CLOSE_MS = 1000     /* the longest wait for the server's reply to a close */
 };
 
-/* Credentials, at their places in the library; those that it has not been handed yet are the last ones. They are kept for the machine that takes the
- * session up when memory ran out. */
+/* Credentials, in the order of the library's; those that it has not been handed yet are the last ones. They are kept for the machine that resumes
+ * the session after memory ran out. */
 struct dws_credentials {
     char *text; /* the scheme, a 0, and the secret */
     size_t length;
     bool is_handed;
-    dws_call *call; /* that waits for the answer; NULL if none does */
+    dws_call *call; /* the call that waits for the answer; NULL if none does */
     struct dws_credentials *next;
 };
 
 struct dws_host {
     char name[DWS_LONGEST_HOST], port[6];
-    size_t turn; /* which of the addresses of its name is dialled next */
+    size_t turn; /* which address of its name is dialled next */
 };
 
 struct dws_line {
@@ -62,7 +62,7 @@ struct dws_line {
 /* How subjects are found. */
 enum { DWS_BY_PATH, DWS_BY_TICKET };
 
-/* Subjects that the library is to follow, that a step has named, that are to be shown, and all others. */
+/* Subjects that the library is to follow, that a step has named, that are to be shown, and all the others. */
 enum { DWS_NEW, DWS_NAMED, DWS_CHANGED, DWS_RESTING, DWS_LISTS };
 
 /* Subjects, in the order in which they came here. */
@@ -70,40 +70,40 @@ struct dws_subjects {
     dws_subject *first, **last;
 };
 
-/* A subject or a tree that the library is to follow no more. */
+/* A subject or a tree that the library is to unfollow. */
 struct dws_gone {
     uint64_t ticket;
     bool is_tree;
 };
 
-/* What was said of what is followed by a ticket: why its read was refused, or 0 if what is kept of it is good. */
+/* What a step said of a ticket: why its read was refused, or 0 if what is kept of it is good. */
 struct dws_seen {
     uint64_t ticket;
     int32_t why;
 };
 
-/* How requests.h reads the reply to what the library knows by its number alone, and says why it was refused. */
+/* How requests.h reads the reply to a request that the library knows only by its number, and says why it was refused. */
 struct dws_record {
-    int32_t (*take)(dws_session *s, dws_call *call); /* reads the reply, which is the call's text, and gives its `why` */
+    int32_t (*take)(dws_session *s, dws_call *call); /* reads the reply, which is the call's text, and returns its `why` */
     bool (*write_words)(const dws_call *call, char *room, size_t size); /* false if it has no words of its own */
 };
 
-/* The record of a session, and what of its connection was recorded. */
+/* The record of a session, and how far its connection is recorded. */
 struct dws_recorder {
     FILE *file;              /* NULL if nothing is recorded */
     bool is_begun;           /* there is a first moment */
     bool is_open, has_sent;  /* there is a connection, and its first frame was sent */
     uint64_t begun_ms, now_ms, told_ms; /* the first moment, that of the last step, and that of the last line */
-    size_t came;             /* bytes of the connection */
+    size_t came;             /* bytes that came on the connection */
     uint32_t password;       /* how many of them are the password, once that is known */
 };
 
 /* The log-in by SASL on a connection. */
 struct dws_login {
     dws_sasl step;
-    struct dws_bytes came, kept; /* a frame that is not whole, and what is kept back from the library */
-    bool is_begun, has_asked;    /* it is not over; the frame that asks for the session may be sent */
-    size_t left;                 /* bytes of those that are not sent yet which may be */
+    struct dws_bytes came, kept; /* the beginning of a frame, and the frames that are kept back from the library */
+    bool is_begun, has_asked;    /* it is under way; the frame that asks for the session may be sent */
+    size_t left;                 /* how many of the unsent bytes may be sent */
     int32_t xid;
 };
 
@@ -114,45 +114,45 @@ struct dws_session {
     dw_session machine;
     dws_options options;
     struct dws_credentials *credentials;
-    int32_t barred;                    /* the code of the server that does not take the credentials */
+    int32_t barred;                    /* the code with which the server refused the credentials */
     char *hosts_text, *root;           /* the connection string, and the chroot in it: empty if there is none */
-    struct dws_host *hosts, *others;   /* those that the library knows, and those that it is to be told of; NULL is none */
+    struct dws_host *hosts, *others;   /* those that the library knows, and the new ones that it is to get; NULL is none */
     size_t host_count, other_count;
-    size_t place, dials;               /* which one is to be dialled, and how many times one was */
-    char server[DWS_LONGEST_HOST + 8]; /* the one that was dialled last */
+    size_t place, dials;               /* which one is to be dialled, and how often one was */
+    char server[DWS_LONGEST_HOST + 8]; /* the one dialled last */
     char dialled[DWS_LONGEST_HOST];    /* its name */
-    char trouble[256];                 /* what became of the last attempt */
+    char trouble[256];                 /* why the last attempt failed */
     dws_wire wire;
     struct dws_login login;
     struct dws_recorder recorder;
-    short read_wants, write_wants;     /* what poll is to wait for besides, to read and to write */
+    short read_wants, write_wants;     /* what else poll is to wait for, to read and to write */
     bool is_dial_due, is_connecting, is_expired, is_closing, is_over, is_resumed;
-    bool has_more, has_news;           /* bytes that poll does not tell of, and something that a program may wait for */
+    bool has_more, has_news;           /* bytes that poll does not see, and something that a program may wait for */
     bool must_follow, must_introduce;  /* subjects, trees or contenders are new or gone; credentials are new */
-    bool has_lock_news;                /* of a contender something is to be told */
+    bool has_lock_news;                /* a contender has something for a callback */
     bool is_listing;                   /* the library takes other hosts */
-    bool is_acting;                    /* what a step says is being taken */
-    bool is_unread;                    /* a reply does not read */
-    bool is_moment;                    /* what the library says is due, and no word of the server's */
-    bool is_due_known;                 /* no step was made since the library was asked when something is due */
+    bool is_acting;                    /* the outputs of a step are being handled */
+    bool is_unread;                    /* a reply could not be read */
+    bool is_moment;                    /* the library's outputs come from the clock, not from the server */
+    bool is_due_known;                 /* due_ms holds: no step was made since the library gave it */
     uint64_t due_ms;
     uint64_t now_ms, last_ticket;
-    int64_t suspended_ms, heard_suspended_ms; /* how long the system was suspended: before this wait, and before the last one that brought bytes */
+    int64_t suspended_ms, heard_suspended_ms; /* how long the system was suspended: before this wait, and before the last wait that brought bytes */
     struct dws_bytes unsent;
     uint8_t *large;                    /* room for a large piece, or NULL */
     struct dws_line queue, sent;       /* calls that are to be asked, and those that were, in the order of their tickets */
-    struct dws_line again;             /* those that are asked again when their moment has come */
-    dws_call *watching, *fired;        /* those whose `changed` waits, and is to be called */
-    int32_t cause;                     /* why the connection is given up that is told next, or 0 */
-    struct dws_line answered;          /* those that this step has answered, whose callbacks come when all that it says is taken */
+    struct dws_line again;             /* those that wait for the moment to be asked again */
+    dws_call *watching, *fired;        /* those whose `changed` waits for a change, and those whose `changed` is due */
+    int32_t cause;                     /* why the connection is given up, for the next event, or 0 */
+    struct dws_line answered;          /* those that this step has answered: their callbacks come after all its outputs are handled */
     dws_call close;
-    struct dws_contender *contenders;  /* for the locks of lock.h, also for those that were released */
+    struct dws_contender *contenders;  /* for the locks of lock.h, and for released ones */
     struct dws_subjects subjects[DWS_LISTS];
     dws_subject **chains;              /* of subjects, by their paths, and then as many by their tickets */
     size_t chain_count, subject_count;
     dws_tree *trees;
     struct dws_gone *gone;
-    struct dws_seen *seen;             /* at this step, if there are trees */
+    struct dws_seen *seen;             /* in this step, if there are trees */
     size_t gone_count, gone_room, seen_count, seen_room;
     enum dw_result result;
 };
@@ -273,7 +273,7 @@ size_t dws_may_send(dws_session *s);
 bool dws_log_in(dws_session *s, const uint8_t *bytes, size_t length, struct dws_bytes *passed);
 
 /* recording.c */
-uint64_t dws_at(dws_session *s, uint64_t now_ms); /* the moment of a step, which is noted for the record */
+uint64_t dws_at(dws_session *s, uint64_t now_ms); /* the moment of a step, noted for the record */
 bool dws_open_record(dws_session *s, char *why, size_t size);
 void dws_record_machine(dws_session *s, const uint8_t *saved, size_t length);
 void dws_record_session(dws_session *s, int64_t id, size_t password, int64_t zxid);

@@ -40,9 +40,9 @@ static inline void dws_put_text(struct dws_bytes *bytes, const char *text)
     dws_put_buffer(bytes, text, strlen(text));
 }
 
-/* ---- How they are read, in the place where a reply is kept. ---- */
+/* ---- How they are read, in place, where a reply is kept. ---- */
 
-/* What is read from this place on. If something is not there, the whole does not read. */
+/* A reader from this place on. If anything is missing, the whole cannot be read. */
 struct dws_cursor {
     uint8_t *at;
     const uint8_t *end;

@@ -1,22 +1,22 @@
-/* Locks: contenders of the library's session. It decides all about them; what is here hands over, and tells. */
+/* Locks: contenders of the library's session. It decides everything; this file hands calls over, and calls back. */
 #include "internal.h"
 
 #include "../lock.h"
 
-/* A contender. It goes on without its lock until the library tells that no node of it is there. */
+/* A contender. It outlives its lock until the library reports that no node of it is left. */
 struct dws_contender {
     dws_session *session;
     dws_lock *lock;         /* NULL if that was released */
     uint64_t ticket;        /* 0 if the library does not have it */
     uint32_t naming;
     char guid[37];
-    char *directory, *data; /* the path is that which the servers know */
-    struct dws_bytes acl;   /* as it is spelled: without bytes there is none */
+    char *directory, *data; /* the path as the servers know it */
+    struct dws_bytes acl;   /* spelled; no bytes are no ACL */
     bool was_handed;        /* a node of it may be there */
     bool is_left, is_leaving; /* it is given up, and the library knows that */
-    bool is_refused, is_gone; /* the library does not take its path; it is over */
-    int32_t left;             /* once it is over: why a node of it may be left, or 0 */
-    bool is_changed, has_news; /* `changed` is to be called; that, or something else, is to be told */
+    bool is_refused, is_gone; /* the library refuses its path; it is over */
+    int32_t left;             /* once it is over: why a node of it may remain, or 0 */
+    bool is_changed, has_news; /* `changed` is due; that, or another callback, is due */
     struct dws_contender *next;
 };
 
@@ -54,15 +54,15 @@ static void dws_free_contender(struct dws_contender *one)
     free(one);
 }
 
-/* ---- What is told of a lock. ---- */
+/* ---- News of a lock. ---- */
 
-/* Something is to be told of a contender once the step is whole. */
+/* A contender has something for a callback at the end of the step. */
 static void dws_bring_news(struct dws_contender *one)
 {
     one->has_news = one->session->has_lock_news = true;
 }
 
-/* Notes how the lock of a contender stands. Of one that is given up its program hears no more. */
+/* Notes the state of a contender's lock. The program hears no more of a contender that is given up. */
 static void dws_note_lock(struct dws_contender *one, bool is_held, int64_t token, int32_t why)
 {
     dws_lock *lock = one->lock;
@@ -77,7 +77,7 @@ static void dws_note_lock(struct dws_contender *one, bool is_held, int64_t token
     dws_bring_news(one);
 }
 
-/* Why a contender pauses, as of a call. What passes by itself is no news. */
+/* Why a contender pauses, as `why` of a call. A reason that passes by itself is 0. */
 static int32_t dws_why_paused(const dw_output *told)
 {
     switch (told->refusal) {
@@ -90,7 +90,7 @@ static int32_t dws_why_paused(const dw_output *told)
     return dws_is_busy(why) ? 0 : why;
 }
 
-/* Beside other names a contender is given up. One that is given up hears why its node is left. */
+/* A contender beside other names is given up. One that is given up already gets the reason why its node remains. */
 static void dws_note_pause(struct dws_contender *one, int32_t why)
 {
     dws_note_lock(one, false, 0, why);
@@ -102,7 +102,7 @@ static void dws_note_pause(struct dws_contender *one, int32_t why)
     }
 }
 
-/* It is over: no node of it is there any more, or this says why the servers may have one until the timeout of the session. */
+/* A contender is over: no node of it is left, or this says why the servers may have one until the session's timeout. */
 static void dws_note_gone(struct dws_contender *one, int32_t left)
 {
     one->left = one->is_gone ? one->left : left;
@@ -163,7 +163,7 @@ static void dws_tell_lock(dws_session *s, struct dws_contender *one)
     }
 }
 
-/* Tells what was noted. Callbacks may take, let go and release locks. */
+/* Makes all callbacks that are due. They may take, let go and release locks. */
 void dws_tell_locks(dws_session *s)
 {
     while (s->has_lock_news) {
@@ -178,7 +178,7 @@ void dws_tell_locks(dws_session *s)
     }
 }
 
-/* ---- What the library is handed. ---- */
+/* ---- Handing over to the library. ---- */
 
 static void dws_contend(dws_session *s, struct dws_contender *one, uint64_t now_ms)
 {
@@ -196,7 +196,7 @@ static void dws_contend(dws_session *s, struct dws_contender *one, uint64_t now_
     }
 }
 
-/* Hands over one that is new or given up, if there is one. */
+/* Hands over a contender that is new or given up, if there is one. */
 bool dws_contend_next(dws_session *s, uint64_t now_ms)
 {
     struct dws_contender *one = s->contenders;
@@ -215,7 +215,7 @@ bool dws_contend_next(dws_session *s, uint64_t now_ms)
     return true;
 }
 
-/* The machine that takes the session up has been handed none of them. */
+/* The machine that resumes the session has none of them yet. */
 void dws_contend_again(dws_session *s)
 {
     for (struct dws_contender *one = s->contenders; one != NULL; one = one->next) {
@@ -225,7 +225,7 @@ void dws_contend_again(dws_session *s)
     }
 }
 
-/* The session is over. Nodes of contenders are gone with one that has expired; of another one the servers may have them until the timeout. */
+/* The session is over. Contenders' nodes are gone if it has expired; otherwise the servers may have them until its timeout. */
 void dws_lose_contenders(dws_session *s)
 {
     for (struct dws_contender *one = s->contenders; one != NULL; one = one->next) {
@@ -233,7 +233,7 @@ void dws_lose_contenders(dws_session *s)
     }
 }
 
-/* The session is freed: calls that wait are answered, and nothing else is told. */
+/* The session is freed: calls that wait are answered, and no other callback comes. */
 void dws_free_contenders(dws_session *s)
 {
     dws_lose_contenders(s);
@@ -249,7 +249,7 @@ void dws_free_contenders(dws_session *s)
     }
 }
 
-/* ---- What a program asks for. ---- */
+/* ---- Functions for programs. ---- */
 
 static struct dws_contender *dws_new_contender(dws_session *s, const dws_lock *lock, const char *path, uint32_t naming, const char *data)
 {
@@ -272,7 +272,7 @@ static struct dws_contender *dws_new_contender(dws_session *s, const dws_lock *l
     return one;
 }
 
-/* Takes a lock by a naming of the library's. */
+/* Takes a lock by a naming of the library. */
 bool dws_lock_contend(dws_session *s, dws_lock *lock, const char *path, uint32_t naming, const char *data, void (*changed)(dws_session *, dws_lock *))
 {
     char *copy = lock->contender == NULL ? dws_copy_of(path) : NULL;
@@ -319,7 +319,7 @@ bool dws_lock_place(dws_session *s, const dws_lock *lock, char *room, size_t siz
     return true;
 }
 
-/* A contender is given up. Without a node of it, it is gone at once. */
+/* A contender is given up. If it has no node, it is gone at once. */
 static void dws_leave(struct dws_contender *one)
 {
     dws_session *s = one->session;

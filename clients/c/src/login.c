@@ -1,6 +1,6 @@
-/* The log-in by SASL on one connection. What the server says of the session is kept back until it is over, so that to the library the server was slow
- * to accept; of what the library sends the first frame goes, which asks for the session, and the others wait. The frames of the log-in have xids that
- * the library never uses. */
+/* The SASL log-in on one connection. Until it is over, the server's frames about the session are kept back, so that to the library the server was
+ * slow to accept; the library's first frame, which asks for the session, is sent, and the others wait. The frames of the log-in have xids that the
+ * library never uses. */
 #include "internal.h"
 
 #include "jute.h"
@@ -8,7 +8,7 @@
 enum {
     DWS_LOGIN_OPERATION = 102,
     DWS_FIRST_LOGIN_XID = -1001,
-    DWS_AUTH_FAILED = -115,     /* codes with which a server does not take who the client is */
+    DWS_AUTH_FAILED = -115,     /* codes with which a server refuses the identity of a client */
     DWS_SASL_WANTED = -124,
     DWS_HEAD_OF_REPLY = 20,     /* bytes of a frame's length and of the head of a reply */
     DWS_HEAD_OF_ACCEPTANCE = 12 /* bytes up to the timeout that a server grants, with the length */
@@ -49,7 +49,7 @@ size_t dws_may_send(dws_session *s)
     return login->is_begun ? login->left : s->unsent.length;
 }
 
-/* Puts a token before what the library sends. */
+/* Puts a token before the frames of the library. */
 static bool dws_send_token(dws_session *s)
 {
     struct dws_login *login = &s->login;
@@ -83,7 +83,7 @@ static void dws_fail_login(dws_session *s, const char *why, bool is_refused)
     }
 }
 
-/* Has the program make the next token. Whether the log-in goes on. */
+/* Asks the program for the next token. Returns whether the log-in goes on. */
 static bool dws_step_login(dws_session *s, const uint8_t *challenge, size_t length)
 {
     dws_sasl *step = &s->login.step;
@@ -103,7 +103,7 @@ static bool dws_step_login(dws_session *s, const uint8_t *challenge, size_t leng
     return s->login.is_begun && !step->is_over;
 }
 
-/* Takes the server's answer to a token. Whether the log-in goes on. */
+/* Takes the server's answer to a token. Returns whether the log-in goes on. */
 static bool dws_take_token(dws_session *s, const uint8_t *frame, size_t length)
 {
     char number[64];
@@ -116,12 +116,12 @@ static bool dws_take_token(dws_session *s, const uint8_t *frame, size_t length)
     int64_t size = length >= DWS_HEAD_OF_REPLY + 4 ? (int32_t)dws_read_int(frame + DWS_HEAD_OF_REPLY) : -2;
     if (size < -1 || size > (int64_t)length - DWS_HEAD_OF_REPLY - 4) {
         dws_put_bytes(&s->login.kept, frame, length);
-        return false; /* the library judges what does not read */
+        return false; /* the library judges a frame that cannot be read */
     }
     return dws_step_login(s, frame + DWS_HEAD_OF_REPLY + 4, size > 0 ? (size_t)size : 0);
 }
 
-/* Takes a whole frame. Whether the log-in goes on. */
+/* Takes a whole frame. Returns whether the log-in goes on. */
 static bool dws_take_login_frame(dws_session *s, const uint8_t *frame, size_t length)
 {
     struct dws_bytes *kept = &s->login.kept;

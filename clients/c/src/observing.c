@@ -1,7 +1,7 @@
-/* What an observer sees, and the events that a program hears of. */
+/* The observations of an observer, and the events of a program. */
 #include "internal.h"
 
-/* An observation of this kind, which says no more yet. */
+/* An observation of this kind, with no other field set. */
 static dws_observation dws_observation_of(enum dws_observed kind)
 {
     dws_observation seen;

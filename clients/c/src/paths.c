@@ -66,7 +66,7 @@ static void dws_walk_end(dws_session *s, dws_walk *walk, int32_t why)
     }
 }
 
-/* ---- What is asked next. ---- */
+/* ---- The next question. ---- */
 
 static dws_call *dws_walk_call(dws_walk *walk, void (*then)(dws_session *, dws_call *))
 {
@@ -93,7 +93,7 @@ static void dws_walk_go_on(dws_session *s, dws_walk *walk)
     }
 }
 
-/* The last path is done with, and the next one comes. */
+/* The last path is done, and the next one follows. */
 static void dws_walk_next(dws_session *s, dws_walk *walk)
 {
     walk->count += walk->call.why == 0 && (walk->deletes || walk->makes);
@@ -103,7 +103,7 @@ static void dws_walk_next(dws_session *s, dws_walk *walk)
     dws_walk_go_on(s, walk);
 }
 
-/* What is above the last path is to be there first. The root has nothing above it. */
+/* The node above the last path has to be there first. The root has none above it. */
 static void dws_walk_need(dws_session *s, dws_walk *walk)
 {
     bool is_root = strcmp(dws_walk_path(walk), "/") == 0;
@@ -136,7 +136,7 @@ static void dws_walk_asked(dws_session *s, dws_call *call)
     }
 }
 
-/* The names of what is to be deleted before. */
+/* The names of the nodes that are to be deleted first. */
 static void dws_walk_listed(dws_session *s, dws_call *call)
 {
     dws_walk *walk = (dws_walk *)call->context;

@@ -1,9 +1,9 @@
-/* The record of a session: what its library is handed and what that sends, as lines that zk_shell replays and shows. No secret is written: of the request
- * for a session and of the answer to it, the password stands as zeros, and so does all of a credential. */
+/* The record of a session: the inputs of its library and the frames that it sends, as lines that zk_shell replays and shows. It has no secret: the
+ * password in the request for a session and in the answer is zeros, and so is all of a credential. */
 #include "internal.h"
 
-/* Where frames have what is looked for, as zookeeper.jute has it: after the length, the xid and the type of a request; and the passwords of a
- * ConnectRequest and of a ConnectResponse, each after its length. */
+/* Offsets within frames, as in zookeeper.jute: after the length, the xid and the type of a request; and the passwords of a ConnectRequest and of a
+ * ConnectResponse, each after its length. */
 enum { DWS_AT_XID = 4, DWS_AT_TYPE = 8, DWS_AT_RECORD = 12, DWS_AT_SENT_PASSWORD = 32, DWS_AT_CAME_PASSWORD = 24 };
 enum { DWS_XID_AUTH = -4 };
 
@@ -18,7 +18,7 @@ uint64_t dws_at(dws_session *s, uint64_t now_ms)
     return now_ms;
 }
 
-/* Writes bytes in hexadecimal digits, and zeros for those of them from one place to another. */
+/* Writes bytes in hexadecimal digits, and zeros for those between two places. */
 static void dws_record_hex(FILE *file, const uint8_t *bytes, size_t length, size_t hidden_from, size_t hidden_to)
 {
     static const char digits[] = "0123456789abcdef";
@@ -29,7 +29,7 @@ static void dws_record_hex(FILE *file, const uint8_t *bytes, size_t length, size
     }
 }
 
-/* Writes a word of bytes, of which null and none have words of their own. */
+/* Writes bytes as a word. Null bytes and no bytes have words of their own. */
 static void dws_record_data(FILE *file, const uint8_t *bytes, int32_t length)
 {
     if (length <= 0) {
@@ -40,7 +40,7 @@ static void dws_record_data(FILE *file, const uint8_t *bytes, int32_t length)
     dws_record_hex(file, bytes, (size_t)length, 0, 0);
 }
 
-/* Writes a word of a path. */
+/* Writes a path as a word. */
 static void dws_record_path(FILE *file, const uint8_t *path, size_t length)
 {
     putc_unlocked(' ', file);
@@ -53,7 +53,7 @@ static void dws_record_path(FILE *file, const uint8_t *path, size_t length)
     }
 }
 
-/* Writes the moment, if it is another one than the last line's. */
+/* Writes the moment, if it differs from the last line's. */
 static void dws_record_moment(dws_session *s)
 {
     struct dws_recorder *record = &s->recorder;
@@ -152,7 +152,7 @@ void dws_record_bytes(dws_session *s, const uint8_t *bytes, size_t length)
     putc_unlocked('\n', dws_record(s));
 }
 
-/* What a call is in a record, by the type of its request; NULL if the library reads nothing of it. */
+/* The word of a call in a record, by the type of its request; NULL if the library does not read its bytes. */
 static const char *dws_recorded_as(int32_t type)
 {
     switch (type) {
@@ -167,7 +167,7 @@ static const char *dws_recorded_as(int32_t type)
     return NULL;
 }
 
-/* Writes the call that has made the library send this request. A library makes only requests that read. */
+/* Writes the call that made the library send this request. The library makes only well-formed requests. */
 static void dws_record_call(FILE *file, const uint8_t *frame, size_t length)
 {
     int32_t type = (int32_t)dws_read_int(frame + DWS_AT_TYPE);

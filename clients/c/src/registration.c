@@ -33,7 +33,7 @@ static void dws_registration_leave(dws_session *s, dws_registration *one);
 
 static void dws_registration_see(dws_session *s, dws_subject *node);
 
-/* The node is made, or there is another one, or it is not known: what is followed shows it. */
+/* The node is made, or another one is there, or that is not known: the followed node shows which. */
 static void dws_registration_made(dws_session *s, dws_call *call)
 {
     dws_registration *one = (dws_registration *)call->context;
@@ -52,7 +52,7 @@ static void dws_registration_see(dws_session *s, dws_subject *node)
     dws_registration *one = (dws_registration *)node->context;
     bool is_own = node->kind == DW_KEPT_FULL && node->stat.ephemeral_owner == dws_id(s);
     bool is_gone = dws_is_good(node) && node->kind == DW_KEPT_ABSENT;
-    if (dws_is_good(node) || node->kind == DW_KEPT_NOTHING) { /* else it is read again, and is what it was until that is answered */
+    if (dws_is_good(node) || node->kind == DW_KEPT_NOTHING) { /* else it is read again, and stays as it was until the answer */
         dws_registration_tell(s, one, is_own && dws_is_good(node), one->why);
     }
     if (is_gone && !one->is_asked && !one->is_left && one->why == 0 && !s->is_over) {
@@ -96,7 +96,7 @@ static void dws_registration_deleted(dws_session *s, dws_call *call)
     }
 }
 
-/* Whose node is there, is known: its own is deleted. */
+/* It is known whose node is there: the session's own is deleted. */
 static void dws_registration_found(dws_session *s, dws_call *call)
 {
     dws_registration *one = (dws_registration *)call->context;
@@ -110,7 +110,7 @@ static void dws_registration_found(dws_session *s, dws_call *call)
     }
 }
 
-/* A create that was asked is answered first. What was sent before a read has happened when that is answered, or never does. */
+/* A create on its way is answered first. A request sent before a read has happened when the read is answered, or never happens. */
 static void dws_registration_leave(dws_session *s, dws_registration *one)
 {
     if (!one->is_asked && (s->is_over || one->path == NULL)) {

@@ -15,7 +15,7 @@ enum {
 
 /* ---- How a record is spelled. ---- */
 
-/* What follows the path of a node that is to be made, or whose ACL is to be set. */
+/* An ACL as it follows the path of a node that is to be made, or whose ACL is to be set. */
 void dws_put_acls(struct dws_bytes *bytes, const dws_acl *acls, size_t count)
 {
     dws_put_int(bytes, (int32_t)count);
@@ -42,7 +42,7 @@ static void dws_put_operation(struct dws_bytes *bytes, int32_t type, bool is_end
     dws_put_int(bytes, -1);
 }
 
-/* ---- How a reply is read, in the place where it is kept. ---- */
+/* ---- How a reply is read, in place, where it is kept. ---- */
 
 /* Adds texts to the names of a call. False if there is no memory. */
 static bool dws_take_names(struct dws_cursor *cursor, dws_call *call)
@@ -67,7 +67,7 @@ static bool dws_take_paths(dws_session *s, struct dws_cursor *cursor, dws_call *
     return is_kept;
 }
 
-/* The ACL of a node, and what is known of it. */
+/* The ACL of a node, and its stat. */
 static bool dws_take_acls(struct dws_cursor *cursor, dws_request *request)
 {
     size_t count = dws_take_count(cursor, 12);
@@ -116,7 +116,7 @@ static void dws_take_end(struct dws_cursor *cursor)
     cursor->is_over = cursor->is_over || !is_end;
 }
 
-/* What each operation of a transaction has brought. If one was refused, that is why. */
+/* Reads the result of each operation of a transaction. If one was refused, its code is `why`. */
 static void dws_take_changes(dws_session *s, struct dws_cursor *cursor, dws_request *request)
 {
     for (size_t i = 0; i < request->change_count; i++) {
@@ -137,7 +137,7 @@ static void dws_take_changes(dws_session *s, struct dws_cursor *cursor, dws_requ
     dws_take_end(cursor);
 }
 
-/* What a read of several has brought. False if there is no memory for it. */
+/* Reads the result of one of several reads. False if there is no memory for it. */
 static bool dws_take_read(struct dws_cursor *cursor, dws_call *call, dws_node_read *read)
 {
     int32_t type = dws_take_type(cursor), wanted = read->side == DW_SIDE_DATA ? DWS_TYPE_GET_DATA : DWS_TYPE_GET_CHILDREN;
@@ -171,7 +171,7 @@ static bool dws_take_reads(struct dws_cursor *cursor, dws_request *request)
     }
     dws_take_end(cursor);
     char **names = request->call.names;
-    for (size_t i = 0; i < request->read_count; i++) { /* now they move no more */
+    for (size_t i = 0; i < request->read_count; i++) { /* now they no longer move */
         request->reads[i].names = names;
         names = names != NULL ? names + request->reads[i].count : NULL;
     }
@@ -179,7 +179,7 @@ static bool dws_take_reads(struct dws_cursor *cursor, dws_request *request)
     return is_kept;
 }
 
-/* The path that was made, as the text of a call, and what is known of the node. */
+/* The path that was made, as the text of a call, and the stat of the node. */
 static void dws_take_made(dws_session *s, struct dws_cursor *cursor, dws_call *call)
 {
     const char *made = dws_inner(s, dws_take_text(cursor));
@@ -226,7 +226,7 @@ static int32_t dws_take_reply(dws_session *s, dws_call *call)
     return is_kept ? call->why : DWS_REFUSED - (int32_t)DW_NO_MEMORY;
 }
 
-/* Of a transaction, which operation was refused. */
+/* Writes which operation of a transaction was refused. */
 static bool dws_write_refused(const dws_call *failed, char *room, size_t size)
 {
     const dws_request *request = (const dws_request *)(const void *)failed;
@@ -241,7 +241,7 @@ static bool dws_write_refused(const dws_call *failed, char *room, size_t size)
     return true;
 }
 
-/* What a request has of its last question. */
+/* Clears a request of its last question. */
 static void dws_forget_question(dws_request *request)
 {
     for (size_t i = 0; i < request->change_count; i++) {
@@ -256,7 +256,7 @@ static void dws_forget_question(dws_request *request)
     request->call.path = NULL;
 }
 
-/* The first fault of a question counts. Whether it was this one. */
+/* The first fault of a question counts. Returns whether it was this one. */
 static bool dws_note_fault(dws_request *request, enum dw_result result)
 {
     bool is_first = request->fault == 0;
@@ -264,8 +264,8 @@ static bool dws_note_fault(dws_request *request, enum dw_result result)
     return is_first;
 }
 
-/* Adds the path that the servers know, of one that the program knows: the library says whether it is one. What may be the beginning of a path ends with a
- * slash, and has to be one when something stands after it. The call is about the path, or about the first one that is none. */
+/* Adds the servers' path for one of the program: the library says whether it is a path. The beginning of a path may end with a slash, and has to be a
+ * path once something follows. The call is about this path, or about the first text that is no path. */
 static void dws_put_path(dws_session *s, dws_request *request, const char *path, bool is_about, bool may_be_beginning)
 {
     size_t length = strlen(path);
@@ -302,7 +302,7 @@ void dws_begin_question(dws_request *request, int32_t operation)
     request->call.record = &record;
 }
 
-/* Asks a question whose body is spelled, unless it has a fault. */
+/* Asks a question with its whole body, unless it has a fault. */
 dws_call *dws_ask_question(dws_session *s, dws_request *request)
 {
     dws_begin_call(s, &request->call);
@@ -317,7 +317,7 @@ dws_call *dws_ask_question(dws_session *s, dws_request *request)
     return &request->call;
 }
 
-/* Begins a question about a path, and gives the body that may go on after it. */
+/* Begins a question about a path, and returns the body, to which more may be added. */
 static struct dws_bytes *dws_begin_about(dws_session *s, dws_request *request, int32_t operation, const char *path)
 {
     dws_begin_question(request, operation);
@@ -446,7 +446,7 @@ static void dws_begin_transaction(dws_request *request)
     }
 }
 
-/* Begins an operation of a transaction, its header and its path, and gives the body that goes on after it. */
+/* Begins an operation of a transaction, with its header and its path, and returns the body, to which the rest is added. */
 static struct dws_bytes *dws_begin_operation(dws_session *s, dws_request *request, enum dws_operation operation, const char *path, int mode)
 {
     dws_begin_transaction(request);

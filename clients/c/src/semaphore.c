@@ -37,7 +37,7 @@ static void dws_semaphore_told(dws_session *s, dws_lock *lock)
 
 static void dws_semaphore_read(dws_session *s, dws_call *call);
 
-/* Goes on after an answer: one that has failed for a reason that passes is asked again, and of a reason that does not the program hears. */
+/* Goes on after an answer: a call that failed for a reason that passes is asked again; any other reason the program hears. */
 static void dws_semaphore_go_on(dws_session *s, dws_semaphore *one, int32_t why)
 {
     bool passes = why == DW_OUTCOME_LOST || why == DW_OUTCOME_NOT_CONNECTED || why == DW_OUTCOME_EXPIRED || why == DWS_LATE || dws_is_busy(why);
@@ -51,7 +51,7 @@ static void dws_semaphore_go_on(dws_session *s, dws_semaphore *one, int32_t why)
     }
 }
 
-/* The node of the path is made, with the number; or another one was faster, or the node above it is lacking. */
+/* The node of the path is made, with the number; or another client was faster, or the node above it is missing. */
 static void dws_semaphore_numbered(dws_session *s, dws_call *call)
 {
     dws_semaphore *one = (dws_semaphore *)call->context;
@@ -107,7 +107,7 @@ static void dws_semaphore_contend(dws_session *s, dws_semaphore *one)
     }
 }
 
-/* The number of the node, below 0. It may be used for something else too, which says nothing. */
+/* Reads the number of the node, below 0. Other data than a number say nothing: the node may have another use. */
 static void dws_semaphore_read(dws_session *s, dws_call *call)
 {
     dws_semaphore *one = (dws_semaphore *)call->context;
@@ -127,7 +127,7 @@ static void dws_semaphore_read(dws_session *s, dws_call *call)
     }
 }
 
-/* ---- What a program asks for. ---- */
+/* ---- Functions for programs. ---- */
 
 bool dws_semaphore_take(dws_session *s, dws_semaphore *one, const char *path, int most, const char *data,
                         void (*changed)(dws_session *, dws_semaphore *))

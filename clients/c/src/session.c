@@ -1,7 +1,7 @@
-/* A session's beginning and end, and what it says of itself. */
+/* A session's beginning and end, and look-ups of its own state. */
 #include "internal.h"
 
-/* Whether the library is that of the header; else `why` says so. */
+/* Whether the library and the header have one version; else `why` says so. */
 static bool dws_check_version(char *why, size_t size)
 {
     unsigned found = dw_version();
@@ -12,7 +12,7 @@ static bool dws_check_version(char *why, size_t size)
     return found == DW_VERSION_NUMBER;
 }
 
-/* Takes the options over, with the usual ones for those that are 0. */
+/* Copies the options, with the defaults for those that are 0. */
 static void dws_take_options(dws_session *s, const dws_options *options)
 {
     if (options != NULL) {
@@ -95,7 +95,7 @@ void dws_end(dws_session *s)
         return;
     }
     s->close.kind = DWS_CLOSE;
-    s->close.path = dws_outer(s, "/"); /* for observers: it is closed without one too, if there is no memory */
+    s->close.path = dws_outer(s, "/"); /* for observers; without memory for it the session is closed all the same */
     dws_begin_call(s, &s->close);
     dws_put(s, &s->close);
     s->close.until_ms = dws_now_ms() + DWS_CLOSE_MS;

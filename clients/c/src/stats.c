@@ -5,7 +5,7 @@
 
 #include <stdarg.h>
 
-/* ---- How what is observed is counted. ---- */
+/* ---- How observations are counted. ---- */
 
 /* Bounds of how long calls take, in microseconds. */
 static const uint64_t *dws_bounds(void)
@@ -14,7 +14,7 @@ static const uint64_t *dws_bounds(void)
     return bounds;
 }
 
-/* What a call is about whose record is spelled here. */
+/* The kind of a call of requests.h. */
 static enum dws_counted dws_counted_raw(int32_t operation)
 {
     switch (operation) {

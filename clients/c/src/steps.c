@@ -1,4 +1,4 @@
-/* Steps: what a step of the library's session says, and what the session does about it. */
+/* Steps: the outputs of a step of the library's session, and what the session does at each. */
 #include "internal.h"
 
 bool dws_is_connected(dws_session *s)
@@ -6,7 +6,7 @@ bool dws_is_connected(dws_session *s)
     return dw_session_state(&s->machine) == DW_STATE_CONNECTED;
 }
 
-/* Why a session takes no calls any more. */
+/* Why a session no longer takes calls. */
 int32_t dws_why_over(const dws_session *s)
 {
     if (s->result != DW_OK || s->barred != 0) {
@@ -15,7 +15,7 @@ int32_t dws_why_over(const dws_session *s)
     return s->is_expired ? (int32_t)DW_OUTCOME_EXPIRED : (int32_t)DW_OUTCOME_CLOSED;
 }
 
-/* Nothing more happens. What was kept is lost at once, so that no callback finds it good; it is shown when the calls are answered. */
+/* Nothing more happens. All kept answers are lost at once, so that no callback finds one good; they are shown when the calls are answered. */
 void dws_be_over(dws_session *s)
 {
     s->is_over = true;
@@ -23,7 +23,7 @@ void dws_be_over(dws_session *s)
     dws_lose_contenders(s);
 }
 
-/* Answers the calls that wait for the answer to credentials, of which the limit has come by this moment. */
+/* Answers the calls that wait for the answer to credentials and whose limit has come by this moment. */
 void dws_finish_credentials(dws_session *s, uint64_t until_ms, int32_t why)
 {
     for (struct dws_credentials *one = s->credentials; one != NULL; one = one->next) {
@@ -35,7 +35,7 @@ void dws_finish_credentials(dws_session *s, uint64_t until_ms, int32_t why)
     }
 }
 
-/* Answers all calls of a session that is over: those that were asked may have happened, if there is a connection. Shows what is lost. */
+/* Answers all calls of a session that is over: those that were sent may have happened, if there is a connection. Shows what is lost. */
 void dws_answer_rest(dws_session *s)
 {
     if (s->is_over) {
@@ -52,7 +52,7 @@ void dws_answer_rest(dws_session *s)
     }
 }
 
-/* Memory ran out, or what the library answers is not known: the session is over. */
+/* Memory ran out, or the library returned an unknown result: the session is over. */
 void dws_fail(dws_session *s, enum dw_result result)
 {
     if (s->result == DW_OK) {
@@ -87,7 +87,7 @@ void dws_hang_up(dws_session *s)
     s->unsent.length = 0;
 }
 
-/* The session has expired. The library answers the calls that it has, and here those are answered that wait to be handed to it. */
+/* The session has expired. The library answers the calls that it has; those that it has not been handed yet are answered here. */
 static void dws_take_expiry(dws_session *s)
 {
     s->is_expired = s->options.is_over_at_expiry;
@@ -123,7 +123,7 @@ static void dws_take_state(dws_session *s, enum dw_state state)
     }
 }
 
-/* The connection is given up. If it was over already, it was told why. */
+/* The connection is given up. If it was over already, an event has said why. */
 static void dws_take_drop(dws_session *s, const dw_output *drop)
 {
     char words[256];
@@ -138,8 +138,8 @@ static void dws_take_drop(dws_session *s, const dw_output *drop)
     dws_tell(s, DWS_CUT, result == DW_OK ? words : dw_result_words(result));
 }
 
-/* The connection is to be closed. If it was not said why, the attempt took too long, or the session moves to another host, or a server has told
- * that the session is not its own. */
+/* The connection is to be closed. If no output said why, the attempt took too long, or the session moves to another host, or a server has said that
+ * the session is not its own. */
 static void dws_take_hang_up(dws_session *s)
 {
     if (s->is_connecting || s->is_dial_due) {
@@ -155,7 +155,7 @@ static void dws_take_hang_up(dws_session *s)
     }
 }
 
-/* Notes what is said of what is followed by a ticket, until a step has said all. */
+/* Notes what a step says of a followed ticket, until the step has said all. */
 void dws_note_seen(dws_session *s, uint64_t ticket, int32_t why)
 {
     if (s->trees == NULL) {
@@ -169,7 +169,7 @@ void dws_note_seen(dws_session *s, uint64_t ticket, int32_t why)
     s->seen[s->seen_count++].why = why;
 }
 
-/* What is kept of what is followed by a ticket is good. */
+/* The kept answer of a followed ticket is good. */
 static void dws_take_shown(dws_session *s, uint64_t ticket)
 {
     const dws_subject *shown = dws_find_subject(s, DWS_BY_TICKET, ticket, NULL);
@@ -212,7 +212,7 @@ static void dws_take(dws_session *s, const dw_output *action)
     }
 }
 
-/* Takes what a step answered: all that it says, in its order. A session that is over does nothing more. */
+/* Takes the result of a step, and all its outputs in their order. A session that is over does nothing more. */
 void dws_act(dws_session *s, enum dw_result result)
 {
     dw_output action;
@@ -252,7 +252,7 @@ void dws_cut(dws_session *s, const char *why)
     }
 }
 
-/* Puts the reads of a line before what waits, and gives the rest of it, with all requests of requests.h. */
+/* Puts the reads of a line before the queue, and returns the rest, with all requests of requests.h. */
 static struct dws_line dws_ask_again(dws_session *s, struct dws_line *asked)
 {
     struct dws_line again, rest;
@@ -270,7 +270,7 @@ static struct dws_line dws_ask_again(dws_session *s, struct dws_line *asked)
     return rest;
 }
 
-/* Makes the library's session, of what was saved if that is not NULL. */
+/* Makes the library's session, from a saved one if that is not NULL. */
 enum dw_result dws_make_machine(dws_session *s, const uint8_t *saved, size_t length)
 {
     const dws_options *of = &s->options;
@@ -285,7 +285,7 @@ enum dw_result dws_make_machine(dws_session *s, const uint8_t *saved, size_t len
     return result;
 }
 
-/* The machine that takes the session up has been handed none of what was followed, nor contenders or credentials. */
+/* The machine that resumes the session has no subjects, trees, contenders or credentials yet. */
 static void dws_hand_over_again(dws_session *s)
 {
     s->gone_count = 0;
@@ -308,8 +308,8 @@ static void dws_hand_over_again(dws_session *s)
     }
 }
 
-/* Memory ran out within a step, so the library goes no further: another machine takes its session up, and follows what was followed. Reads are asked
- * again; whether writes have happened is not known. */
+/* Memory ran out within a step, so the library goes no further: another machine resumes its session, and follows the same subjects and trees. Reads
+ * are asked again; whether writes have happened is not known. */
 void dws_resume(dws_session *s)
 {
     uint8_t saved[DWS_LONGEST_SAVED];
@@ -336,8 +336,8 @@ void dws_resume(dws_session *s)
     dws_finish_all(s, &rest, DW_OUTCOME_LOST);
 }
 
-/* Whether something was due before this turn, since the program was stopped or worked: then what the connection has is told with the last
- * moment before that. When the bytes came is not known, and a server that has sent something is not silent. */
+/* The moment for the bytes of a connection. If something was due before this turn, since the program was stopped or busy, it is the last moment
+ * before that: when the bytes came is not known, and a server that has sent something is not silent. */
 uint64_t dws_in_time(dws_session *s)
 {
     uint64_t due = dws_deadline(s);
@@ -381,7 +381,7 @@ static void dws_send(dws_session *s, uint64_t now_ms)
     }
 }
 
-/* Asks what waits. Whether a server has accepted the session is the library's to know. */
+/* Hands the calls in the queue to the library, which knows whether a server has accepted the session. */
 void dws_send_queued(dws_session *s)
 {
     uint64_t now_ms = s->queue.count > 0 ? dws_in_time(s) : s->now_ms;

@@ -1,4 +1,4 @@
-/* Subjects: nodes, and names of children, that are followed: how they are found, read and shown. */
+/* Subjects, which are followed nodes and names of children: how they are found, read and shown. */
 #include "internal.h"
 
 /* Takes a subject out of its list, if it is in one. */
@@ -33,7 +33,7 @@ dws_subject *dws_next_subject(const dws_session *s, const dws_subject *before)
     return next;
 }
 
-/* The beginning of the chain of subjects that have keys like this one. */
+/* The beginning of the chain for subjects with keys like this one. */
 static dws_subject **dws_chain_of(const dws_session *s, int by, uint64_t key)
 {
     return &s->chains[(size_t)by * s->chain_count + (key & (s->chain_count - 1))];
@@ -88,7 +88,7 @@ static bool dws_reserve_chains(dws_session *s)
     return true;
 }
 
-/* A number of a path, which few others have. */
+/* A hash of a path. */
 static uint64_t dws_number_of_path(const char *path)
 {
     uint64_t number = 0xcbf29ce484222325;
@@ -98,7 +98,7 @@ static uint64_t dws_number_of_path(const char *path)
     return number;
 }
 
-/* Names the subjects of a path: what is kept of them may be another thing. The library is asked first for those that it does not follow yet. */
+/* Names the subjects of a path: what is kept of them may have changed. Those that the library does not follow yet are handed to it first. */
 void dws_name_path(dws_session *s, const char *path)
 {
     uint64_t key = s->subject_count > 0 ? dws_number_of_path(path) : 0;
@@ -154,7 +154,7 @@ static enum dw_result dws_look_at_data(dws_session *s, dws_subject *subject, dw_
     return dw_session_peek_data(&s->machine, subject->path, strlen(subject->path), kept, (uint8_t *)subject->text, kept->length);
 }
 
-/* Looks at what is kept of the data of a subject. Whether it is another thing than before. */
+/* Looks at what is kept of a subject's data. Returns whether it has changed. */
 static bool dws_look_at_node(dws_session *s, dws_subject *subject, enum dw_result *result)
 {
     dw_kept_data kept;
@@ -177,7 +177,7 @@ static bool dws_look_at_node(dws_session *s, dws_subject *subject, enum dw_resul
     return true;
 }
 
-/* The same of names. If there is no node, that is kept of its data. */
+/* The same for names. The absence of a node is kept with its data. */
 static bool dws_look_at_children(dws_session *s, dws_subject *subject, enum dw_result *result)
 {
     dw_kept_names kept;
@@ -203,7 +203,7 @@ static bool dws_look_at_children(dws_session *s, dws_subject *subject, enum dw_r
     return true;
 }
 
-/* Looks at the subjects that were named, with no step between: those that are good are of one moment, that of the last zxid. So it is before each
+/* Looks at the named subjects, with no step between: those that are good are of one moment, that of the last zxid. This comes before each
  * callback. */
 void dws_mark(dws_session *s)
 {
@@ -219,7 +219,7 @@ void dws_mark(dws_session *s)
     }
 }
 
-/* Shows a subject of which another thing is kept, if there is one. */
+/* Shows a changed subject, if there is one. */
 bool dws_show_next(dws_session *s)
 {
     dws_subject *one = s->subjects[DWS_CHANGED].first;
@@ -240,7 +240,7 @@ bool dws_is_good(const dws_subject *subject)
     return subject->mark == DW_MARK_GOOD;
 }
 
-/* Why a read was refused, as of a call. */
+/* Why a read was refused, as `why` of a call. */
 int32_t dws_why_refused(const dw_output *refused)
 {
     if (refused->refusal == DW_REFUSAL_CODE) {
@@ -249,8 +249,8 @@ int32_t dws_why_refused(const dw_output *refused)
     return (int32_t)(refused->refusal == DW_REFUSAL_TOO_LARGE ? DW_OUTCOME_TOO_LARGE : DW_OUTCOME_TOO_MANY_WATCHES);
 }
 
-/* A read of what is followed was refused, for another reason than the last one. Of a tree it is no trouble that a server is busy, or that a node
- * comes and goes while it is read. */
+/* A read of a subject or a tree was refused, for another reason than last time. For a tree it is no trouble if a server is busy, or if a node comes
+ * and goes while it is read. */
 void dws_take_refusal(dws_session *s, const dw_output *refused)
 {
     char line[DWS_LONGEST_LINE];
@@ -268,7 +268,7 @@ void dws_take_refusal(dws_session *s, const dw_output *refused)
     }
 }
 
-/* Has the library follow a subject, from this moment on. */
+/* Makes the library follow a subject, from this moment on. */
 static void dws_begin_subject(dws_session *s, dws_subject *subject, uint64_t now_ms)
 {
     const char *path = subject->path;
@@ -279,7 +279,7 @@ static void dws_begin_subject(dws_session *s, dws_subject *subject, uint64_t now
                                              : dw_session_follow_names(&s->machine, dws_at(s, now_ms), ticket, path, strlen(path)));
 }
 
-/* Has the library follow a tree that it does not follow yet. False if there is none. */
+/* Makes the library follow a tree that it does not follow yet. False if there is none. */
 static bool dws_begin_tree(dws_session *s, uint64_t now_ms)
 {
     dws_tree *tree = s->trees;
@@ -294,7 +294,7 @@ static bool dws_begin_tree(dws_session *s, uint64_t now_ms)
     return true;
 }
 
-/* Has the library follow no more what was noted last. */
+/* Makes the library unfollow the subject or tree that was noted last. */
 static void dws_unfollow_last(dws_session *s, uint64_t now_ms)
 {
     const struct dws_gone *gone = &s->gone[--s->gone_count];
@@ -302,7 +302,7 @@ static void dws_unfollow_last(dws_session *s, uint64_t now_ms)
                              : dw_session_unfollow(&s->machine, dws_at(s, now_ms), gone->ticket));
 }
 
-/* Has the library follow what is to be followed, and no more what is not; the same of contenders. Callbacks may change both. */
+/* Makes the library follow all new subjects and trees and unfollow all that are gone; the same for contenders. Callbacks may change both. */
 void dws_follow_new(dws_session *s)
 {
     while (s->must_follow && !s->is_over) {
@@ -356,7 +356,7 @@ enum dw_result dws_follow_children(dws_session *s, dws_subject *subject, const c
     return dws_follow_side(s, subject, path, DW_SIDE_CHILDREN, changed);
 }
 
-/* The library is to follow what has this ticket no more. */
+/* Notes a ticket that the library is to unfollow. */
 void dws_let_go(dws_session *s, uint64_t ticket, bool is_tree)
 {
     if (s->is_over) {

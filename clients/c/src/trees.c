@@ -1,4 +1,4 @@
-/* Trees that are followed. */
+/* Followed trees. */
 #include "internal.h"
 
 bool dws_read_node(uint8_t **at, const uint8_t *end, dws_node *node)
@@ -45,7 +45,7 @@ static bool dws_is_below(const char *path, const char *above)
     return strncmp(path, above, length) == 0 && path[length] != 0 && (path[length] == '/' || length == 1);
 }
 
-/* Compares two paths so that a node is followed by all that are below it: a slash is before all that names have. */
+/* Compares two paths so that a node comes right before all below it: a slash is less than any character of a name. */
 static int dws_compare_paths(const char *one, const char *other)
 {
     size_t i = 0;
@@ -80,7 +80,7 @@ const dws_node *dws_next_child(const dws_tree *tree, const dws_node *above, cons
     return next < end && dws_is_below(next->path, above->path) ? next : NULL;
 }
 
-/* Why a tree has no newer nodes: it is told if it is another reason. */
+/* Notes why a tree has no newer nodes, for a callback if the reason is new. */
 static void dws_trouble_tree(dws_session *s, dws_tree *tree, int32_t why, const char *path)
 {
     bool is_news = tree->why != why || tree->trouble == NULL || strcmp(tree->trouble, path) != 0;
@@ -112,7 +112,7 @@ static bool dws_has_no_root(dws_session *s, const dws_tree *tree)
     return dws_peek(s, tree->path, &kept) == DW_OK && kept.kind == DW_KEPT_ABSENT && kept.mark == DW_MARK_GOOD;
 }
 
-/* Leaves out the members that were let go, if they are the most. */
+/* Drops the members that were removed, if they are the most. */
 static void dws_close_up(struct dws_members *members)
 {
     if (members->left <= members->count / 2) {
@@ -162,7 +162,7 @@ static struct dws_member *dws_find_member(const struct dws_members *members, uin
     return is_there ? &members->all[low] : NULL;
 }
 
-/* What a ticket follows for a tree is followed no more. */
+/* A side of a node is no longer followed for a tree. */
 static void dws_let_member_go(dws_tree *tree, uint64_t ticket)
 {
     struct dws_member *member = dws_find_member(&tree->members, ticket);
@@ -185,7 +185,7 @@ void dws_free_members(struct dws_members *members)
     memset(members, 0, sizeof *members);
 }
 
-/* What is said of a tree. */
+/* Takes an output about a tree. */
 void dws_take_of_tree(dws_session *s, const dw_output *told)
 {
     bool is_of_node = told->kind == DW_KIND_MEMBER_ADDED || told->kind == DW_KIND_MEMBER_REMOVED;
@@ -209,7 +209,7 @@ void dws_take_of_tree(dws_session *s, const dw_output *told)
     }
 }
 
-/* Takes what was said of a node of a tree. Of a root that is good it may be known that there is none. */
+/* Takes what was said of a node of a tree. A root that is good may be known to be absent. */
 static void dws_see(dws_session *s, dws_tree *tree, const struct dws_seen *seen)
 {
     struct dws_member *member = dws_find_member(&tree->members, seen->ticket);
@@ -222,7 +222,7 @@ static void dws_see(dws_session *s, dws_tree *tree, const struct dws_seen *seen)
     member->why = why;
 }
 
-/* Finds out why there are no newer nodes of a tree: for a reason of all of it, or else of the first node that has one. */
+/* Finds out why a tree has no newer nodes: a reason for the whole tree, or else that of the first node with one. */
 static void dws_weigh(dws_session *s, dws_tree *tree)
 {
     int32_t why = tree->fault;
@@ -236,11 +236,11 @@ static void dws_weigh(dws_session *s, dws_tree *tree)
         dws_trouble_tree(s, tree, why, path);
     } else if (tree->why != 0) {
         tree->why = 0;
-        tree->is_changed = false; /* it was not told yet */
+        tree->is_changed = false; /* the callback has not heard of it yet */
     }
 }
 
-/* Takes what was said at a step of nodes of trees, now that it is known which these are. */
+/* Takes what a step said of the nodes of trees, now that it is known which nodes these are. */
 void dws_see_trees(dws_session *s)
 {
     for (dws_tree *tree = s->trees; tree != NULL && !s->is_over; tree = tree->next) {
@@ -254,7 +254,7 @@ void dws_see_trees(dws_session *s)
     s->seen_count = 0;
 }
 
-/* What was good of a path has ended. A tree that has it is whole again only if that is said after this. */
+/* A good answer about a path has ended. A tree with that path is whole again only if a later output says so. */
 void dws_take_report(dws_session *s, const dw_output *report)
 {
     char path[DWS_LONGEST_LINE];
@@ -270,7 +270,7 @@ void dws_take_report(dws_session *s, const dw_output *report)
     }
 }
 
-/* Nothing is kept any more. Subjects of which something was are to be shown. */
+/* Nothing is kept any more. Subjects that had something are to be shown. */
 void dws_lose_kept(dws_session *s)
 {
     dws_fire(s, NULL, DW_SIDE_DATA, (enum dw_event)0);
@@ -294,7 +294,7 @@ void dws_lose_kept(dws_session *s)
     }
 }
 
-/* Takes the nodes that the library has spelled. */
+/* Reads the nodes that the library has spelled. */
 static void dws_show_tree(dws_session *s, dws_tree *tree)
 {
     uint8_t *at = tree->text.at, *end = at + tree->text.length;
@@ -311,7 +311,7 @@ static void dws_show_tree(dws_session *s, dws_tree *tree)
     }
     qsort(tree->nodes, tree->count, sizeof node, dws_compare_nodes);
     for (size_t i = 0; i < tree->members.count; i++) {
-        tree->members.all[i].why = 0; /* who is refused still is not of the tree any more */
+        tree->members.all[i].why = 0; /* a node whose read is still refused is no longer in the tree */
     }
     tree->zxid = dw_session_last_zxid(&s->machine);
     tree->is_good = tree->is_changed = true;
@@ -337,7 +337,7 @@ static enum dw_result dws_collect(dws_session *s, dws_tree *tree)
     return result;
 }
 
-/* Shows a tree if it is whole. If it is not, DW_OK means that it is lacking reads, and another result that no read makes it whole. */
+/* Shows a tree if it is whole. If it is not, DW_OK means that reads are missing, and another result that no read makes it whole. */
 static enum dw_result dws_learn(dws_session *s, dws_tree *tree)
 {
     uint8_t none;
@@ -367,7 +367,7 @@ static void dws_look_at_tree(dws_session *s, dws_tree *tree)
     tree->look_at_ms = (ended_us + (ended_us - begun_us) * DWS_SHARE) / 1000;
 }
 
-/* Shows a tree of which there is something to be told, if there is one. */
+/* Shows a changed tree, if there is one. */
 static bool dws_show_next_tree(dws_session *s)
 {
     for (dws_tree *tree = s->trees; tree != NULL; tree = tree->next) {
@@ -383,13 +383,13 @@ static bool dws_show_next_tree(dws_session *s)
     return false;
 }
 
-/* When a tree is to be looked at. */
+/* The moment at which a tree is to be looked at. */
 static uint64_t dws_look_due(const dws_tree *tree)
 {
     return tree->must_look ? tree->look_at_ms : UINT64_MAX;
 }
 
-/* Looks at trees that are worth it, if a server has accepted the session, and shows what is to be told. */
+/* Looks at trees that are worth it, if a server has accepted the session, and shows those that have changed. */
 void dws_look_at_trees(dws_session *s)
 {
     bool is_connected = s->trees != NULL && dws_is_connected(s) && !s->is_closing;
@@ -402,7 +402,7 @@ void dws_look_at_trees(dws_session *s)
     }
 }
 
-/* When a tree is to be looked at, though nothing comes from the server. */
+/* The first moment at which a tree is to be looked at, even if nothing comes from the server. */
 uint64_t dws_first_look(dws_session *s)
 {
     uint64_t first = UINT64_MAX;

@@ -1,7 +1,7 @@
-/* Turns: what is due, what poll waits for, and what it has seen. */
+/* Turns: they do what is due, say what poll waits for, and take its results. */
 #include "internal.h"
 
-/* What is due at a moment. */
+/* Does what is due at this moment. */
 static void dws_keep_time(dws_session *s)
 {
     if (dws_deadline(s) <= s->now_ms) {
@@ -19,13 +19,13 @@ static void dws_keep_time(dws_session *s)
     }
 }
 
-/* Whether something is due on the connection: then what it has is read before the moment is told. */
+/* Whether something is due on the connection: then its bytes are read before the library gets the moment. */
 static bool dws_is_late(dws_session *s)
 {
     return dws_deadline(s) <= s->now_ms;
 }
 
-/* Hands over what is new, shows what has changed, and asks what waits. */
+/* Hands over new things, shows changed subjects, and sends waiting calls. */
 static void dws_work(dws_session *s)
 {
     dws_list_hosts(s);
@@ -61,7 +61,7 @@ void dws_go_on(dws_session *s, short told)
     dws_flush_record(s);
 }
 
-/* The first moment at which something is to be done. */
+/* The first moment at which something is due. */
 static uint64_t dws_first_due(dws_session *s)
 {
     uint64_t first = dws_least(dws_deadline(s), dws_credentials_due(s));

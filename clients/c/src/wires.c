@@ -1,4 +1,4 @@
-/* Wires: connections, and what goes over them. */
+/* Wires: connections, and the bytes on them. */
 #include "internal.h"
 
 /* A socket that does not block and is connecting to the address, or -1 with errno. */
@@ -19,7 +19,7 @@ static int dws_begin_connection(const struct sockaddr_storage *address, socklen_
     return -1;
 }
 
-/* Tells why an attempt to connect has failed. */
+/* Reports why an attempt to connect failed. */
 void dws_tell_missed(dws_session *s, const char *why)
 {
     if (why != s->trouble) {
@@ -39,7 +39,7 @@ static void dws_miss(dws_session *s, const char *why)
     }
 }
 
-/* Dials the host that the library has named; or, if they are dialled in order, the next one. */
+/* Dials the host that the library has named, or the next one if hosts are dialled in order. */
 void dws_dial(dws_session *s)
 {
     struct dws_host *host = &s->hosts[s->options.is_in_order ? s->dials++ % s->host_count : s->place % s->host_count];
@@ -112,8 +112,8 @@ static ssize_t dws_write(dws_session *s, const void *bytes, size_t size)
     return send(s->wire.socket, bytes, size, MSG_NOSIGNAL);
 }
 
-/* Looks at the clocks before a wait: what it brings may have come before the system was suspended within it. The later clock is read first, so that what
- * lies between makes an age longer. */
+/* Reads the clocks before a wait: its bytes may have come before the system was suspended within it. The clock that is ahead is read first, so that
+ * the time between both readings makes an age longer. */
 void dws_begin_wait(dws_session *s)
 {
     uint64_t elapsed_ms = dws_elapsed_ms();
@@ -134,7 +134,7 @@ static void dws_hear(dws_session *s, uint64_t came_ms, const uint8_t *bytes, siz
     }
 }
 
-/* Takes bytes that came: of a connection that logs in, those that are for the library. */
+/* Takes bytes that came. During a log-in the library gets only those meant for it. */
 static void dws_take_bytes_in(dws_session *s, uint64_t came_ms, const uint8_t *bytes, size_t length)
 {
     struct dws_bytes passed;
@@ -147,7 +147,7 @@ static void dws_take_bytes_in(dws_session *s, uint64_t came_ms, const uint8_t *b
     }
 }
 
-/* Takes what the connection has. */
+/* Reads the bytes that the connection has. */
 void dws_receive(dws_session *s)
 {
     uint8_t piece[DWS_PIECE];
@@ -160,7 +160,7 @@ void dws_receive(dws_session *s)
         if (count > 0) {
             dws_take_bytes_in(s, came_ms, room, (size_t)count);
             bool is_full = count == (ssize_t)size;
-            s->has_more = s->options.read != NULL || is_full || s->sent.count > 0; /* else poll tells of more */
+            s->has_more = s->options.read != NULL || is_full || s->sent.count > 0; /* else poll reports more */
             s->large = is_full && s->large == NULL ? (uint8_t *)malloc(DWS_LARGE_PIECE) : s->large;
         } else if (count == 0) {
             dws_cut(s, "the server has ended the connection");
@@ -187,7 +187,7 @@ void dws_transmit(dws_session *s)
         s->login.left -= s->login.is_begun ? (size_t)count : 0;
         s->unsent.length -= (size_t)count;
         memmove(s->unsent.at, s->unsent.at + count, s->unsent.length);
-        if (s->credentials != NULL) { /* they may be among it */
+        if (s->credentials != NULL) { /* they may be among the bytes */
             dws_wipe(s->unsent.at + s->unsent.length, (size_t)count);
         }
         s->write_wants = POLLOUT;

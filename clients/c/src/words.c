@@ -1,5 +1,5 @@
-/* Words: messages for people about the numbers of dirwolleu.h. A message has the reason in the words of that header, the path if there is
- * one, and what to do if there is something: `the node has children: /jobs; delete them first`. */
+/* Words: messages for people about the numbers of dirwolleu.h. A message has the reason in the words of that header, the path if there is one, and
+ * advice if there is any: `the node has children: /jobs; delete them first`. */
 #include "internal.h"
 
 /* made by scripts/interface from include/interface.toml */
@@ -88,7 +88,7 @@ static const char *dws_advice_of_code(int32_t code)
 }
 /* end of what is made */
 
-/* Why the library takes a text that is UTF-8 for no path of a node, or NULL if this function sees no reason. */
+/* Why the library refuses a UTF-8 text as a path, or NULL if this function sees no reason. */
 const char *dws_words_of_path(const char *path)
 {
     static const size_t longest = 4096;
@@ -119,7 +119,7 @@ const char *dws_words_of_path(const char *path)
     return NULL;
 }
 
-/* Ends a text that had no room for its length with two dots, which come after a whole character. */
+/* Ends a text that was cut for its length with two dots, after a whole character. */
 void dws_end_cut(char *room, size_t size, int length)
 {
     if (length >= 0 && (size_t)length >= size && size > 2) {
@@ -131,7 +131,7 @@ void dws_end_cut(char *room, size_t size, int length)
     }
 }
 
-/* How many bytes the first character of a text has; 0 if it is a control character, or no UTF-8. */
+/* The number of bytes of a text's first character; 0 if it is a control character, or no UTF-8. */
 static size_t dws_length_of_shown(const char *text)
 {
     static const uint32_t least[] = {0, ' ', 0xa0, 0x800, 0x10000};
@@ -149,7 +149,7 @@ static size_t dws_length_of_shown(const char *text)
     return is_shown ? length : 0;
 }
 
-/* Writes a path as messages have it, on one line: control characters and bytes that are no UTF-8 are \xNN. It gives the room back. */
+/* Writes a path as in messages, on one line: control characters and bytes that are no UTF-8 are \xNN. Returns the room. */
 static const char *dws_show_path(char *room, size_t size, const char *path)
 {
     static const size_t most = sizeof "\\xNN" - 1; /* bytes of one character */
@@ -168,7 +168,7 @@ static const char *dws_show_path(char *room, size_t size, const char *path)
     return room;
 }
 
-/* Writes a reason, with the path if it is not NULL and what to do if there is something, as far as there is room. */
+/* Writes a reason, with the path if it is not NULL and the advice if there is any, as far as there is room. */
 void dws_write_words(char *room, size_t size, const char *reason, const char *path, const char *advice)
 {
     char shown[DWS_LONGEST_LINE];
@@ -177,7 +177,7 @@ void dws_write_words(char *room, size_t size, const char *reason, const char *pa
     dws_end_cut(room, size, snprintf(room, size, "%s%s%s%s%s", reason, before, path, after, advice));
 }
 
-/* Writes what a function of the library answered about a path, or about none if that is NULL. */
+/* Writes the result of a function of the library, about a path, or about none if that is NULL. */
 void dws_write_result(char *room, size_t size, enum dw_result result, const char *path)
 {
     if (result == DW_NOT_PATH && path != NULL) {
@@ -196,7 +196,7 @@ void dws_write_outcome(char *room, size_t size, enum dw_outcome outcome, const c
     dws_write_words(room, size, dw_outcome_words(outcome), path, dws_advice_of_outcome(outcome));
 }
 
-/* Writes why a server refuses a call about a path. A code that has no name in the header is told by its number. */
+/* Writes why a server refuses a call about a path. A code without a name in the header is written as its number. */
 void dws_write_code(char *room, size_t size, int32_t code, const char *path)
 {
     char numbered[64];
@@ -204,7 +204,7 @@ void dws_write_code(char *room, size_t size, int32_t code, const char *path)
     if (strcmp(reason, dw_code_words(0)) == 0) { /* 0 is no error, and so has no name either */
         reason = dws_words_of_other_code(code);
     }
-    if (code == DW_CODE_INVALID_ACL) { /* the header knows calls with the open one alone */
+    if (code == DW_CODE_INVALID_ACL) { /* the header only knows calls with the open ACL */
         reason = "the server does not take this ACL";
     }
     if (reason == NULL) {
@@ -243,7 +243,7 @@ static bool dws_is_create(const dws_call *call)
     return call->kind == DWS_CREATE || (call->kind == DWS_RAW && is_raw);
 }
 
-/* The node for which something about a path is refused: of a create that its parent prevents the parent. */
+/* Writes the node because of which something about a path is refused: the parent, if the parent prevents a create. */
 void dws_write_place(const char *path, bool is_create, int32_t why, char *room, size_t size)
 {
     bool is_parent = is_create && (why == DW_CODE_NO_NODE || why == DW_CODE_NO_CHILDREN_FOR_EPHEMERALS);
