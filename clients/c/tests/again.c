@@ -1,5 +1,5 @@
-/* Calls of session.h that are asked again, at a server that the test is itself: which ones, after which pauses and how often; and what is observed of a
- * session, in its order. */
+/* Calls of session.h that are asked again, at a server that is the test itself: which ones, after which pauses and how often; and the observations of
+ * a session, in their order. */
 #define _POSIX_C_SOURCE 200809L
 #include "served.h"
 
@@ -18,7 +18,7 @@ static void answer_code(int32_t xid, int32_t code)
     ANSWER(add_header, xid, 5, code);
 }
 
-/* Goes on until a call is asked again, and says after how long. */
+/* Goes on until a call is asked again, and returns after how long. */
 static uint64_t pause_before(int32_t xid, int32_t type)
 {
     uint64_t begun_ms = clock_ms;
@@ -27,7 +27,7 @@ static uint64_t pause_before(int32_t xid, int32_t type)
     return clock_ms - begun_ms;
 }
 
-/* A call is refused, which it says. */
+/* A call is refused, and says so. */
 static void refuse(int32_t xid, int32_t type, int32_t code, const char *wanted)
 {
     hear_request(xid, type, NULL);
@@ -69,7 +69,7 @@ static void ask_as_often_as_it_says(void)
     close_all();
 }
 
-/* A call is asked once where nothing else is said of it, where asking again would change nothing, and where its limit would come before. */
+/* A call is asked once if it has no `tries`, if asking again would change nothing, and if its limit would come before. */
 static void ask_once(void)
 {
     begin_session();
@@ -83,7 +83,7 @@ static void ask_once(void)
     dws_get(session, &call, "/a", false);
     refuse(3, TYPE_GET, THROTTLED, "call -127\n");
     begin(3, 0);
-    dws_set(session, &call, "/a", "one", 3, 7); /* the server's own word that it may have happened */
+    dws_set(session, &call, "/a", "one", 3, 7); /* the server itself says that it may have happened */
     refuse(4, TYPE_SET, DW_CODE_CONNECTION_LOSS, "call -4\n");
     close_all();
 }
@@ -101,7 +101,7 @@ static void ask_no_lost_write_again(void)
     close_all();
 }
 
-/* A call that waits where the session expires was not sent: it is asked in the next one. */
+/* A call that waits when the session expires was not sent: it is asked in the next session. */
 static void ask_in_the_next_session(void)
 {
     begin_session();
@@ -120,7 +120,7 @@ static void ask_in_the_next_session(void)
     close_all();
 }
 
-/* One that waits to be asked again is answered when the session is over. */
+/* A call that waits to be asked again is answered when the session is over. */
 static void end_meanwhile(void)
 {
     begin_session();
@@ -134,7 +134,7 @@ static void end_meanwhile(void)
     close(line);
 }
 
-/* ---- What is observed. ---- */
+/* ---- Observations. ---- */
 
 static void observe(dws_session *s, const dws_observation *seen, void *observer)
 {
@@ -161,7 +161,7 @@ static void begin_observed(void)
     expect_said("out 49\nin 41\nevent 1 0\n"); /* the ConnectRequest and its answer have these lengths */
 }
 
-/* A call takes 250 ms, and the server then sends a frame that does not read; another one is silent. */
+/* A call takes 250 ms, and the server then sends a frame that cannot be read; another server is silent. */
 static void observe_all(void)
 {
     root = "/app";

@@ -1,4 +1,4 @@
-/* Reads a node by session.h, or makes it where data are given, and says why that has failed:
+/* Reads a node by session.h, or makes it if data are given, and says why that failed:
  *
  *   asks HOST:PORT PATH [DATA] */
 #define _POSIX_C_SOURCE 200809L

@@ -1,5 +1,5 @@
-/* Two sessions to which the same happens. Of the one each step is read action by action, and of the other at once: it is the same, each action spelled
- * as the header says, and nothing is told where there is too little room. What happens has each kind of action. */
+/* Two sessions with the same steps. The actions of a step are read one by one from the first session, and all at once from the other: they are the
+ * same, each spelled as the header says, and too little room gives none. The steps have each kind of action. */
 #include "dirwolleu.h"
 #include "expect.h"
 #include "frames.h"
@@ -20,7 +20,7 @@ static void put_boolean(struct bytes *bytes, bool is_so)
     bytes->at[bytes->length++] = is_so;
 }
 
-/* What is read apart from the numbers of an action: its text, and after it the names of a listing, or the words of a drop. */
+/* The part of an action after its numbers: its text, and then the names of a listing, or the words of a drop. */
 static void put_told(struct bytes *bytes, dw_session *session, const dw_output *action)
 {
     char text[256];
@@ -61,7 +61,7 @@ static void expect_untouched(size_t from)
     }
 }
 
-/* With one byte less than all want, nothing is told. With as many, all is, and then nothing is left. */
+/* With one byte too little for all, no action is read. With enough, all are, and then none is left. */
 static void expect_told(dw_session *session)
 {
     dw_output action;
@@ -82,7 +82,7 @@ static void expect_told(dw_session *session)
     expect_untouched(wanted.length);
 }
 
-/* The two tell the same. Whatever was read of the second one by one, the rest is told at once. */
+/* Both have the same actions. However many of the second session were read one by one, the rest is read at once. */
 static void compare(size_t read)
 {
     dw_output action;
@@ -112,7 +112,7 @@ static void hand_in(const struct bytes *came)
     compare(0);
 }
 
-/* A server sends a frame, which this function of frames.h adds with these words. */
+/* A server sends a frame, which this function of frames.h makes from these arguments. */
 #define HAND_IN(add, ...) \
     do { \
         struct bytes added; \
@@ -129,7 +129,7 @@ static void begin(uint64_t now_ms)
     compare(1);
 }
 
-/* The first read is that of the node that is followed. */
+/* The first read is that of the followed node. */
 static void connect_sessions(void)
 {
     struct bytes came = {.length = 0};
@@ -161,7 +161,7 @@ static void ask(void)
     HAND_IN(add_data, 6, 8, "up", &STAT);
 }
 
-/* What is followed is reported, and its read is refused. A tree has more nodes than its bound. One is gone, and the other is whole. */
+/* The followed node is reported, and its read is refused. A tree has more nodes than its bound. One tree is unfollowed, and the other is whole. */
 static void follow(void)
 {
     HAND_IN(add_notice, DW_EVENT_DATA_CHANGED, "/config");
@@ -178,7 +178,7 @@ static void follow(void)
     compare(0);
 }
 
-/* A reply that was not asked for ends the connection. A call waits in vain, and in the end the session has expired. */
+/* A reply without a request ends the connection. A call waits in vain, and in the end the session has expired. */
 static void end(void)
 {
     struct bytes came = {.length = 0};

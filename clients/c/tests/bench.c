@@ -1,4 +1,4 @@
-/* A session at the server in memory, which is proved to be one of the model: no socket, no clock, and bytes are cut where the test says. */
+/* A session at the server in memory, which is proved to be one of the model: no socket, no clock, and the test says where bytes are cut. */
 #include "dirwolleu.h"
 #include "dirwolleu_bench.h"
 #include "expect.h"
@@ -30,7 +30,7 @@ static void end(void)
     dw_bench_close(&bench);
 }
 
-/* What the session says goes to the server, which processes it, or is noted. */
+/* The session's frames go to the server, which processes them; its other outputs are noted. */
 static void take_outputs(void)
 {
     uint8_t frame[ROOM];
@@ -54,7 +54,7 @@ static void take_outputs(void)
     }
 }
 
-/* Moves bytes until none is on its way, this many at a time. Whether the server has the connection then. */
+/* Moves bytes until none is on its way, this many at a time. Returns whether the server still has the connection. */
 static bool move(size_t piece)
 {
     uint8_t bytes[ROOM];
@@ -79,7 +79,7 @@ static void change(enum dw_bench_change_kind kind, const char *path, const char 
     EXPECT_NUMBER(DW_BENCH_OK, dw_bench_take(&bench, 1));
 }
 
-/* A new connection to a server, once it is asked for. Whether the server admits the session. */
+/* A new connection to a server, once the session asks for it. Returns whether the server admits the session. */
 static bool connect_to(int32_t server, size_t piece)
 {
     while (!is_dialled) {
@@ -124,7 +124,7 @@ static enum dw_mark mark_of(const char *path)
     return kept.mark;
 }
 
-/* What is marked good is what the history has, whatever the cuts of the bytes, and over another connection too. */
+/* An answer that is marked good is what the history has, whatever the cuts of the bytes, and over another connection too. */
 static void follow_a_node(size_t piece)
 {
     begin();
@@ -139,7 +139,7 @@ static void follow_a_node(size_t piece)
     read_data("/a", "two", 2, piece);
     cut();
     change(DW_BENCH_WRITTEN, "/a", "three");
-    EXPECT(connect_to(1, piece)); /* which tells what was missed */
+    EXPECT(connect_to(1, piece)); /* which reports the missed change */
     EXPECT(reports == 2 && mark_of("/a") == DW_MARK_STALE);
     read_data("/a", "three", 3, piece);
     end();
@@ -176,7 +176,7 @@ static void expire(void)
     end();
 }
 
-/* An ephemeral node is the session's own, and the server of another session learns of it. */
+/* An ephemeral node belongs to the session, and the server of another session learns of it. */
 static void learn_of_another_session(void)
 {
     dw_bench other;
@@ -202,7 +202,7 @@ static void learn_of_another_session(void)
     end();
 }
 
-/* What is refused says why, and changes nothing. */
+/* A refused change says why, and changes nothing. */
 static void refuse(void)
 {
     static const struct {

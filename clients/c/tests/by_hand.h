@@ -1,4 +1,4 @@
-/* A session by hand, with no socket and no clock: what the next action is, and bytes that a server sends. */
+/* A session by hand, with no socket and no clock: its next action, and bytes from a server. */
 #ifndef DIRWOLLEU_TESTS_BY_HAND_H
 #define DIRWOLLEU_TESTS_BY_HAND_H
 
@@ -7,7 +7,7 @@
 
 #include <string.h>
 
-/* A server sends a frame, which this function of frames.h adds with these words. */
+/* A server sends a frame, which this function of frames.h makes from these arguments. */
 #define HAND_IN(session, now_ms, add, ...) \
     do { \
         struct bytes added; \
@@ -31,7 +31,7 @@ static inline void expect_no_more(dw_session *session)
     EXPECT_NUMBER(DW_NONE, dw_session_next(session, &action));
 }
 
-/* The next action is a frame, of this length if it is not 0. Tells its xid, which stands after the length. */
+/* The next action is a frame, of this length if that is not 0. Returns its xid, which follows the length. */
 static inline int32_t expect_sent(dw_session *session, size_t wanted)
 {
     uint8_t frame[128];
@@ -49,7 +49,7 @@ static inline void expect_text(dw_session *session, const char *wanted)
     EXPECT(memcmp(wanted, text, length) == 0);
 }
 
-/* The connection is there, and a server admits the session. Then more actions of the step are the caller's to see. */
+/* The connection is there, and a server admits the session. The caller reads the other actions of the step. */
 static inline void connect_session(dw_session *session, uint64_t now_ms)
 {
     struct bytes response = NO_BYTES;

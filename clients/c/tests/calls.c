@@ -1,5 +1,5 @@
-/* A session as a program in C or in C++ writes it: texts and enums go in and come out without a cast. What comes of it is what zookeeper.jute
- * and the header say. */
+/* A session as a program in C or in C++ writes it: texts and enums go in and come out without a cast. The results are those of zookeeper.jute and
+ * the header. */
 #include "dirwolleu.h"
 #include "expect.h"
 #include "frames.h"
@@ -31,7 +31,7 @@ static void expect_no_more(dw_session *session)
     EXPECT_NUMBER(DW_NONE, dw_session_next(session, &output));
 }
 
-/* The text of the output that was told last is this one. */
+/* The last output has this text. */
 static void expect_copied(dw_session *session, const char *wanted)
 {
     char text[64];
@@ -86,20 +86,20 @@ static void follow_an_absent_node(dw_session *session)
     EXPECT(kept.kind == DW_KEPT_ABSENT && kept.mark == DW_MARK_STALE);
 }
 
-/* The revision is 1 at first, and rises by one at a step to which bytes came or which told a state, and at no other. */
+/* The revision is 1 at first, and rises by one at each step that got bytes or has a DW_KIND_STATE, and at no other. */
 static void expect_revision(dw_session *session)
 {
     struct bytes came = NO_BYTES;
     EXPECT_NUMBER(1 + 3, dw_session_revision(session)); /* connecting; bytes twice */
     EXPECT_NUMBER(DW_OK, dw_session_moment(session, 1));
     EXPECT_NUMBER(1 + 3, dw_session_revision(session));
-    add_notice(&came, DW_EVENT_DATA_CHANGED, "/config"); /* which nobody watches any more */
+    add_notice(&came, DW_EVENT_DATA_CHANGED, "/config"); /* which nobody watches any longer */
     hand_in(session, &came);
     expect_no_more(session);
     EXPECT_NUMBER(1 + 4, dw_session_revision(session));
 }
 
-/* The bytes that are spelled at `at` are these. */
+/* The bytes at `at` are these. */
 static void expect_spelled(const struct bytes *wanted, const uint8_t *at, size_t length)
 {
     EXPECT_NUMBER(wanted->length, length);
@@ -130,7 +130,7 @@ static void put_node(struct bytes *bytes, const char *path, const char *data, co
     put_long(bytes, stat->pzxid);
 }
 
-/* These reads are lacking at and below /t. */
+/* These reads are missing at and below /t. */
 static void expect_lacking(dw_session *session, const struct bytes *wanted)
 {
     uint8_t room[128];
@@ -140,7 +140,7 @@ static void expect_lacking(dw_session *session, const struct bytes *wanted)
     EXPECT_NUMBER(wanted->length == 0 ? DW_OK : DW_NOT_WHOLE, dw_session_subtree(session, "/t", 2, 4, room, sizeof room, &count));
 }
 
-/* A node without children: what is lacking is read, and then all of it is told. */
+/* A node without children: the missing reads are made, and then the whole subtree is there. */
 static void collect_a_leaf(dw_session *session)
 {
     dw_stat stat = {3, 5, 1000, 2000, 77, 4, 1, 6, 7, 5, 0};
@@ -166,7 +166,7 @@ static void collect_a_leaf(dw_session *session)
     EXPECT_NUMBER(0, count);
 }
 
-/* The node that was made is read with a watch: whoever has the least number stands first, by its czxid, and another one waits. */
+/* The node that was made is read with a watch: the one with the least number stands first, by its czxid, and another one waits. */
 static void stand_first(dw_session *session)
 {
     dw_stat stat = {6, 6, 0, 0, SESSION, 6, 0, 0, 0, 1, 0};
@@ -196,7 +196,7 @@ static void stand_first(dw_session *session)
     EXPECT(token == 0 && count == 0);
 }
 
-/* What follows the path of a node in a snapshot: its kind, the data, or null, and the numbers. */
+/* The part of a snapshot after a node's path: its kind, the data, or null, and the numbers. */
 static void put_shown(struct bytes *bytes, enum dw_kept kind, const char *data, const dw_stat *stat)
 {
     put_int(bytes, kind);
@@ -221,7 +221,7 @@ static void read_once_more(dw_session *session, const dw_stat *read)
     hand_in(session, &came);
 }
 
-/* These, and a node that was read before: all of one moment. */
+/* These, and a node that was read before, all of one moment. */
 static void take_a_snapshot(dw_session *session)
 {
     const dw_stat read = {3, 5, 1000, 2000, 77, 4, 1, 6, 7, 5, 0}, none = {0, 0, 0, 0, 0, 0, 0, 0, 0, 0, 0};
@@ -291,7 +291,7 @@ static void list_names(dw_session *session)
     expect_no_more(session);
 }
 
-/* A sequential node is made, and its path is told. */
+/* A sequential node is made, and the answer has its path. */
 static void create_a_node(dw_session *session)
 {
     const uint8_t data[] = {'x'};
@@ -305,7 +305,7 @@ static void create_a_node(dw_session *session)
     expect_copied(session, "/n-0000000000");
 }
 
-/* A reply for which nobody asked. */
+/* A reply without a request. */
 static void lose_the_connection(dw_session *session)
 {
     struct bytes came = NO_BYTES;
@@ -323,7 +323,7 @@ static void lose_the_connection(dw_session *session)
     expect_next(session, DW_KIND_HANG_UP);
 }
 
-/* Each number has words, and those that the header does not have are told to be so. */
+/* Each number has words; a number that the header does not have gets words that say so. */
 static void expect_words(void)
 {
     EXPECT_TEXT("no server has accepted the session", dw_outcome_words(DW_OUTCOME_NOT_CONNECTED));
@@ -333,7 +333,7 @@ static void expect_words(void)
     EXPECT_TEXT("the server refuses it, with a number that the header does not have", dw_code_words(INT32_MIN));
 }
 
-/* The version as a text is that as a number, and that of the library. */
+/* The version as a text equals that as a number, and the library's. */
 static void expect_version(void)
 {
     char text[16];

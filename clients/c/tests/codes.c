@@ -1,5 +1,4 @@
-/* Each function on a handle that holds nothing, and with arguments that it refuses: what it answers is that of the header. It is a program
- * of C and of C++. */
+/* Each function on a handle that holds nothing, and with arguments that it refuses: it returns what the header says. This program is C and C++. */
 #include "dirwolleu.h"
 #include "expect.h"
 #include "frames.h"
@@ -13,7 +12,7 @@ enum { NOW = 1, ROOM = 8, UNTOUCHED = 0x5a, ADDRESSES = 3, SEED = 1 };
 #define TEXT(text) (text), sizeof(text) - 1
 #define DATA(text) (const uint8_t *)(text), sizeof(text) - 1
 
-/* A function that counts bytes answers this, and counts none. */
+/* A function that counts bytes returns this, and counts none. */
 #define EXPECT_NONE(result, call) \
     do { \
         count = 1; \
@@ -90,7 +89,7 @@ static void expect_closed_session(dw_session *none)
     expect_untouched(room, sizeof room);
 }
 
-/* The look-ups of a path answer this and write nothing except the counts of bytes. */
+/* The look-ups of a path return this and write nothing except the counts of bytes. */
 static void expect_no_look_up(dw_session *session, enum dw_result result, const char *path, size_t length)
 {
     uint8_t room[ROOM];
@@ -125,7 +124,7 @@ static void expect_no_look_up(dw_session *session, enum dw_result result, const 
     expect_untouched(&names, sizeof names);
 }
 
-/* A snapshot of this path answers this and writes nothing except the count of bytes. */
+/* A snapshot of this path returns this and writes nothing except the count of bytes. */
 static void expect_no_snapshot(dw_session *session, enum dw_result result, const char *path, size_t length)
 {
     uint8_t room[ROOM];
@@ -148,7 +147,7 @@ static void expect_closed(dw_session *none)
     dw_session_free(none);
 }
 
-/* No step is made: what the step before said is there still. */
+/* No step is made: the outputs of the step before are still there. */
 static void expect_refused_path(dw_session *session, enum dw_result result, const char *path, size_t length)
 {
     dw_output output;
@@ -182,7 +181,7 @@ static void expect_refused_paths(dw_session *session)
     EXPECT_NUMBER(DW_NO_SUCH_MODE, dw_session_create(session, NOW, 2, NEVER, TEXT("/a"), DATA("x"), false, UINT32_MAX));
 }
 
-/* A handle that held a session holds nothing where dw_open or dw_resume refuses. */
+/* A handle that held a session holds nothing after dw_session_open or dw_session_resume has refused. */
 static void expect_refused_makings(dw_session *session)
 {
     static const int32_t timeouts[] = {0, -1, INT32_MIN};
@@ -219,7 +218,7 @@ static void make_session(dw_session *session, int way, size_t addresses, uint64_
     }
 }
 
-/* The order in which the three addresses are dialled, as a number of three digits, and then the first pause: each attempt is refused at once. */
+/* The order in which the three addresses are dialled, as a number of three digits, and then the first pause. Each attempt fails at once. */
 static uint64_t dials_of(dw_session *session)
 {
     uint64_t order = 0, next_ms = 0;
@@ -235,7 +234,8 @@ static uint64_t dials_of(dw_session *session)
     return 1000 * order + (next_ms - NOW);
 }
 
-/* Whichever function makes a session, all its addresses are dialled, and its seed decides their order and the first pause: another seed has others. */
+/* Whichever function makes a session, all its addresses are dialled, and its seed decides their order and the first pause: another seed gives
+ * others. */
 static void expect_seeds(dw_session *session)
 {
     enum { SEEDS = 32, WAYS = 4 };
@@ -290,7 +290,7 @@ static void connect_session(dw_session *session)
     EXPECT_NUMBER(GRANTED_MS, dw_session_timeout_ms(session));
 }
 
-/* K6 for a payload above 1,048,575 bytes; where 1,024 calls are on their way another one waits; K1 for writes at the end of the connection. */
+/* K6 for a payload above 1,048,575 bytes; beside 1,024 calls on their way another one waits; K1 for writes at the end of the connection. */
 static void expect_answers_without_reply(dw_session *session)
 {
     enum { MOST_PENDING = 1024, LONGEST = 1048575 };
@@ -312,7 +312,7 @@ static void expect_answers_without_reply(dw_session *session)
     EXPECT_NUMBER(DW_STATE_IDLE, pass_on_to(session, DW_KIND_STATE).state);
 }
 
-/* K3 while the session is closed and after it, K2 for what waits at an expiry. */
+/* K3 while the session is being closed and after it, K2 for a call that waits at an expiry. */
 static void expect_ended(dw_session *session)
 {
     struct bytes came = NO_BYTES;

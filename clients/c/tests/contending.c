@@ -1,5 +1,5 @@
-/* Contenders of the library's own, of three sessions at three servers in memory with one history: what is told of them, that no more hold than may,
- * that tokens rise, that none holds beside names of another family, and that no place is left, wherever the connection is cut. */
+/* Contenders of the library, of three sessions at three servers in memory with one history: their outputs, that no more hold than may, that tokens
+ * rise, that none holds beside names of another family, and that no place is left, wherever the connection is cut. */
 #include "dirwolleu.h"
 #include "dirwolleu_bench.h"
 #include "expect.h"
@@ -8,7 +8,7 @@
 
 enum { SIDES = 3, TIMEOUT_MS = 9000, TICKET = 7, LISTING = 8, TREE = 9, SUBJECT = 10, MOST_MEMBERS = 64, MOST_ROUNDS = 4000, REQUESTS = 12, ROOM = 1 << 16 };
 
-#define FIRST_NODE (1ULL << 63) /* of the tickets of trees' nodes, and of those of contenders' calls */
+#define FIRST_NODE (1ULL << 63) /* the first tickets of trees' nodes, and of contenders' calls */
 #define FIRST_OWN (3ULL << 62)
 
 static const char DIRECTORY[] = "/locks/job", GUIDS[SIDES][33] = {
@@ -17,9 +17,9 @@ static const char DIRECTORY[] = "/locks/job", GUIDS[SIDES][33] = {
 struct side {
     dw_session session;
     dw_bench bench;
-    enum dw_kind told; /* what was told of its contender last */
+    enum dw_kind told; /* the last output about its contender */
     int64_t token;     /* by which it holds, or 0 */
-    size_t names;      /* of the listing that was answered last */
+    size_t names;      /* of its last listing */
     bool is_answered;
 };
 
@@ -29,7 +29,7 @@ static int64_t last_token;
 static int most = 1; /* hold at once */
 static int left; /* after this number of requests the connection of the first side is cut, if it is not below 0 */
 static uint8_t room[ROOM];
-static uint64_t members[MOST_MEMBERS], last_member; /* of the tree of the first side, by tickets that rise */
+static uint64_t members[MOST_MEMBERS], last_member; /* of the tree of the first side, by rising tickets */
 static size_t member_count;
 
 static void expect_ok(enum dw_result result)
@@ -37,7 +37,7 @@ static void expect_ok(enum dw_result result)
     EXPECT_NUMBER(DW_OK, result);
 }
 
-/* Whoever holds has a greater token than all before, and no more hold than may, by what is told and by what is looked up. */
+/* Each holder has a greater token than all before it, and no more hold than may, by the outputs and by the look-ups. */
 static void note_holder(struct side *side, int64_t token)
 {
     int64_t shown = 0;
@@ -63,7 +63,7 @@ static void note(struct side *side, const dw_output *output)
     }
 }
 
-/* A side of a node is taken on by a ticket that no other had and no call of a contender has, and who is let go was there. */
+/* A member is added by a ticket that no other had and no call of a contender has, and one that is removed was there. */
 static void note_member(const dw_output *output)
 {
     size_t place = 0;
@@ -82,7 +82,7 @@ static void note_member(const dw_output *output)
     members[place] = members[--member_count];
 }
 
-/* Does what was said. Whether there was something. */
+/* Does what the outputs say. Returns whether there were any. */
 static bool do_all(struct side *side)
 {
     dw_output output;
@@ -112,7 +112,7 @@ static bool do_all(struct side *side)
     return was_said;
 }
 
-/* The server of one side answers one request, and the others learn what it changed. Whether there was one. */
+/* The server of one side answers one request, and the others learn its changes. Returns whether there was one. */
 static bool serve_one(struct side *side)
 {
     size_t count = 0;
@@ -153,7 +153,7 @@ static void let_pass(void)
     }
 }
 
-/* Goes on until this was told of the contender of a side, or with 0 until its listing is answered. */
+/* Goes on until a side's contender has this output, or with 0 until the side's listing is answered. */
 static void go_on_until(struct side *side, int kind)
 {
     for (int i = 0; kind == 0 ? !side->is_answered : (int)side->told != kind; i++) {
@@ -169,7 +169,7 @@ static void go_on_until(struct side *side, int kind)
     }
 }
 
-/* Contends, and goes on until it was told this. */
+/* Contends, and goes on until the contender has this output. */
 static void contend(struct side *side, uint32_t naming, int kind)
 {
     side->told = (enum dw_kind)0;
@@ -206,9 +206,9 @@ static void delete_place(struct side *side)
     EXPECT_NUMBER(DW_BENCH_OK, dw_bench_change(&side->bench, now_ms, DW_BENCH_DELETED, 0, place, length, (const uint8_t *)"", 0));
 }
 
-/* ---- What is tried. ---- */
+/* ---- The cases. ---- */
 
-/* One waits for the other, and holds once the place before it is gone; who has lost its place contends on. */
+/* One contender waits for the other, and holds once the place before it is gone; one that has lost its place contends on. */
 static void hand_over(void)
 {
     contend(&sides[0], DW_NAMING_KAZOO, DW_KIND_HOLDS);
@@ -223,7 +223,7 @@ static void hand_over(void)
     EXPECT_NUMBER(0, count_names(&sides[1]));
 }
 
-/* The connection is cut after each number of requests, also where the answer to the create of the place is lost with it. */
+/* The connection is cut after each number of requests, also when the answer to the create of the place is lost with it. */
 static void cut_at_each_request(void)
 {
     for (int at = 1; at <= REQUESTS; at++) {
@@ -252,7 +252,7 @@ static void read_together(void)
     most = 1;
 }
 
-/* Two of three hold, and the third one does once either of them has left. */
+/* Two of three hold, and the third one holds once either of them has left. */
 static void lease(void)
 {
     most = 2;
@@ -269,7 +269,8 @@ static void lease(void)
     most = 1;
 }
 
-/* Beside a name of another family nobody comes to hold. Whoever gives up at that leaves no place; whoever goes on holds once that name is gone. */
+/* Beside a name of another family no contender begins to hold. One that gives up then leaves no place; one that goes on holds once that name is
+ * gone. */
 static void mix(uint32_t naming, uint32_t other)
 {
     contend(&sides[0], naming, DW_KIND_HOLDS);
@@ -300,7 +301,7 @@ static void mix_names(void)
 }
 
 /* A session that calls, follows a subject and a tree with its place, and holds, meets the premise of `held_for_life`: its tickets are below those of
- * contenders' calls. What was told of the tree is what is let go with it. */
+ * contenders' calls. The members that were added for the tree are those that are removed with it. */
 static void follow_beside(void)
 {
     do_all(&sides[0]);
@@ -347,7 +348,7 @@ static void refuse(void)
     EXPECT_NUMBER(DW_NONE, dw_session_place(session, TICKET, (char *)room, sizeof room, &count));
 }
 
-/* With the session it is over. */
+/* A contender ends with its session. */
 static void close_session(void)
 {
     contend(&sides[0], DW_NAMING_KAZOO, DW_KIND_HOLDS);

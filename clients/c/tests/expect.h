@@ -1,4 +1,4 @@
-/* What a test expects. Where it is not so, the test says where and ends. */
+/* Expectations of a test. If one does not hold, the test says where and ends. */
 #ifndef DIRWOLLEU_TESTS_EXPECT_H
 #define DIRWOLLEU_TESTS_EXPECT_H
 

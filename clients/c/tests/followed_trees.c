@@ -1,11 +1,11 @@
-/* A session by hand that follows a tree within a bound: its root and two nodes below are taken on as the names come, a notice makes another look
- * worth while, a node that has gone is let go and another one taken on, in the end all of it is let go, and of a tree of fewer nodes the bound is
- * told. What comes of it is what zookeeper.jute and the header say. */
+/* A session by hand that follows a tree within a bound: its root and two nodes below are added as the names come, a notice makes another look
+ * worth while, a node that is gone is removed and another one added, in the end all members are removed, and a tree with a smaller bound reports
+ * that. The results are those of zookeeper.jute and the header. */
 #include "by_hand.h"
 
 enum { ASKED_MS = 9000, ADDRESSES = 1, TREE = 7, MOST = 3 };
 
-/* Nodes have tickets from this one on. */
+/* The first ticket of nodes. */
 static const uint64_t FIRST = (uint64_t)1 << 63;
 
 static const dw_stat STAT = {6, 6, 1000, 1000, 0, 6, 0, 0, 0, 2, 0};
@@ -15,7 +15,7 @@ static void expect_shown(dw_session *session, uint64_t ticket)
     EXPECT(expect_next(session, DW_KIND_SHOWN).ticket == ticket);
 }
 
-/* A side of a node is taken on for the tree, by this ticket. */
+/* A side of a node is added for the tree, by this ticket. */
 static void expect_taken_on(dw_session *session, uint64_t ticket, enum dw_side side, const char *path)
 {
     dw_output told = expect_next(session, DW_KIND_MEMBER_ADDED);
@@ -34,7 +34,7 @@ static void expect_let_go(dw_session *session, uint64_t ticket)
     EXPECT_NUMBER(0, told.length);
 }
 
-/* A step is due at once, in which the tree is tended. */
+/* A step is due at once, and it tends the tree. */
 static void tend(dw_session *session, uint64_t now_ms)
 {
     uint64_t due_ms;
@@ -44,7 +44,7 @@ static void tend(dw_session *session, uint64_t now_ms)
     EXPECT_NUMBER(DW_OK, dw_session_moment(session, now_ms));
 }
 
-/* Nothing is lacking once the tree is tended. */
+/* The tree is complete once it is tended. */
 static void expect_whole(dw_session *session, uint64_t now_ms)
 {
     tend(session, now_ms);
@@ -52,7 +52,7 @@ static void expect_whole(dw_session *session, uint64_t now_ms)
     expect_no_more(session);
 }
 
-/* A node is read, which is shown by this ticket. */
+/* A node is read, and shown by this ticket. */
 static void show_data(dw_session *session, uint64_t now_ms, int32_t xid, int64_t zxid, uint64_t ticket)
 {
     HAND_IN(session, now_ms, add_data, xid, zxid, "up", &STAT);
@@ -109,7 +109,7 @@ static void grow(dw_session *session)
     expect_whole(session, 45);
 }
 
-/* It is told once that nothing is lacking, and again where a node has changed. After a report of a path its other side is shown again. */
+/* DW_KIND_TREE_COMPLETE comes once, and again when a node has changed. After a report of a path its other side is shown again. */
 static void change(dw_session *session)
 {
     int32_t read;
@@ -124,8 +124,8 @@ static void change(dw_session *session)
     expect_whole(session, 52);
 }
 
-/* A node has gone, which the reads of both sides find, and then that it is absent. It is let go once that is known, and not taken on again
- * while the names still have it. */
+/* A node is gone, as the reads of both sides find, and then that it is absent. It is removed once that is known, and not added again while the
+ * names still have it. */
 static void lose(dw_session *session)
 {
     int32_t data, names, absent_data, absent_names;
@@ -173,7 +173,7 @@ static void replace(dw_session *session)
     expect_whole(session, 61);
 }
 
-/* All that is followed still is let go, in the order in which it was taken on. */
+/* All members that are left are removed, in the order in which they were added. */
 static void uproot(dw_session *session)
 {
     static const uint64_t after[] = {0, 1, 3, 5, 6};
@@ -187,7 +187,7 @@ static void uproot(dw_session *session)
     expect_no_more(session);
 }
 
-/* A tree of fewer nodes than there are: that is told, and no node is taken on. The tickets go on. */
+/* A tree with a bound below its number of nodes: DW_KIND_TREE_BOUNDED says so, and no node is added. The tickets go on. */
 static void follow_less(dw_session *session)
 {
     EXPECT_NUMBER(DW_OK, dw_session_follow_tree(session, 80, TREE + 1, "/t", 2, MOST - 1));

@@ -65,7 +65,7 @@ void put_stat(struct bytes *bytes, const dw_stat *stat)
     put_long(bytes, stat->pzxid);
 }
 
-/* Leaves four bytes for the length of a frame, and tells where the frame begins. */
+/* Leaves four bytes for the length of a frame, and returns where the frame begins. */
 static size_t begin_frame(struct bytes *bytes)
 {
     put_int(bytes, 0);

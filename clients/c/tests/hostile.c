@@ -1,6 +1,6 @@
-/* Whatever a server sends after a right connect response, each call returns, all outputs can be read, each call is answered
- * once or times out once, and what is told is what the header has. Each seed plays a session of its own: frames that are right, out of step, changed, or random,
- * cut anywhere, between moments, cuts and calls.
+/* Whatever a server sends after a right connect response, each function returns, all outputs can be read, each call is answered once or times out
+ * once, and the header has each output. Each seed plays a session of its own: frames that are right, out of step, changed, or random, cut anywhere,
+ * between moments, cuts and calls.
  *
  *   hostile [SEEDS] */
 #include "dirwolleu.h"
@@ -22,7 +22,7 @@ struct session {
     int32_t xid;                     /* of the last request */
     uint8_t types[MOST_REQUESTS];    /* of requests, by their xids */
     int32_t pending;                 /* how many of the last requests wait for their replies */
-    int64_t zxid;                    /* the greatest that a right reply told */
+    int64_t zxid;                    /* the greatest of right replies */
     uint64_t tickets, answers;       /* how many calls were made, with the tickets from 1 on, and how many were answered or timed out */
     bool is_answered[MOST_TICKETS];
     bool is_dropped;                 /* within this step */
@@ -38,7 +38,7 @@ static uint64_t draw(struct session *s, uint64_t bound)
     return (s->random * UINT64_C(2685821657736338717) >> 11) % bound;
 }
 
-/* Reads the text from some place into little room, past which nothing is written. */
+/* Reads the text from some place into little room, and nothing is written past it. */
 static void read_text(struct session *s, size_t length)
 {
     uint8_t room[ROOM + 1];
@@ -120,7 +120,7 @@ static void take(struct session *s, const dw_output *output)
     read_text(s, output->length);
 }
 
-/* Reads all outputs of a step, which answered this. Behind a drop the session is idle. */
+/* Reads all outputs of a step, which returned this. After a drop the session is idle. */
 static void act(struct session *s, enum dw_result result)
 {
     dw_output output;
@@ -150,7 +150,7 @@ static void ask(struct session *s)
     }
 }
 
-/* Adds a right reply to the call that waits first, or a notice where none does. */
+/* Adds a right reply to the first call that waits, or a notice if none does. */
 static void add_reply(struct session *s, struct bytes *bytes)
 {
     const char path[] = {'/', (char)('a' + draw(s, 4)), 0};
@@ -218,7 +218,7 @@ static void hand_in(struct session *s)
     }
 }
 
-/* Behind the last name there is none, and all names have their lengths. Little room is enough. */
+/* There is no name after the last one, and all names have their lengths. Little room is enough. */
 static void look_up_names(struct session *s, const char *path, size_t length)
 {
     uint8_t room[ROOM + 1];

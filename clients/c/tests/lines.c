@@ -167,7 +167,7 @@ static enum dw_result expect_kept_name(dw_session *session, const char *path, si
     return result;
 }
 
-/* Adds this many names that are kept of a path, each of which comes after its length and is that of its index. */
+/* Adds this many names that are kept of a path; each comes after its length, and equals the name of its index. */
 static enum dw_result add_all_names(struct lines *lines, dw_session *session, const char *path, size_t names)
 {
     uint8_t spelled[ROOM];

@@ -1,6 +1,6 @@
-/* Locks at a server that the test is itself, with places below /l. Each way out of a lock, where the connection ends at each request in turn: before the
- * server has done it, or with its answer; once, or at the next request too; or the session expires with it. Then another one takes the lock. Whom each
- * kind of contender waits for. And what a lock has beside the library: callbacks, memory, and how long ago a server was heard. */
+/* Locks at a server that is the test itself, with places below /l. Each way out of a lock, with the connection ended at each request in turn: before
+ * the server has done it, or with its answer; once, or at the next request too; or the session expires with it. Then another one takes the lock. Whom
+ * each kind of contender waits for. And the part of a lock above the library: callbacks, memory, and how long ago a server was heard. */
 #include "served.h"
 
 #include <stdio.h>
@@ -116,7 +116,7 @@ static void read_node(struct bytes *came, int32_t xid, const char *path, bool is
     }
 }
 
-/* Of nodes that were watched and are gone the session is told. */
+/* The session gets a notice for each watched node that is gone. */
 static void set_watches(struct bytes *came, int32_t xid, const uint8_t *request)
 {
     const uint8_t *at = request + 20;
@@ -146,7 +146,7 @@ static void connect_session(struct bytes *came)
     is_to_expire = false;
 }
 
-/* Does what a request asks, and adds the answer. */
+/* Does a request, and adds the answer. */
 static void do_request(struct bytes *came, int32_t type, const uint8_t *request)
 {
     int32_t xid = (int32_t)dws_read_int(request);
@@ -162,7 +162,7 @@ static void do_request(struct bytes *came, int32_t type, const uint8_t *request)
     case TYPE_GET: read_node(came, xid, path, type == TYPE_EXISTS); break;
     case TYPE_CHILDREN: list_nodes(came, xid); break;
     case TYPE_SET_WATCHES: set_watches(came, xid, request); break;
-    case DW_OPERATION_SYNC: add_created(came, xid, zxid, "/l"); break; /* its answer has a path too */
+    case DW_OPERATION_SYNC: add_created(came, xid, zxid, "/l"); break; /* its reply has a path too */
     default: add_header(came, xid, zxid, 0); break;
     }
 }
@@ -177,7 +177,7 @@ static bool is_cut_at(int32_t type)
     return true;
 }
 
-/* Serves a request. Whether the connection goes on. */
+/* Serves a request. Returns whether the connection goes on. */
 static bool serve_request(int32_t type, const uint8_t *request)
 {
     struct bytes came = NO_BYTES;
@@ -225,7 +225,7 @@ static bool is_set(const void *pointer)
     return !is_null(pointer);
 }
 
-/* Goes on until this is so of what is there. */
+/* Goes on until this holds for the thing at this address. */
 static void go_on_until(bool (*is_so)(const void *), const void *at)
 {
     for (int i = 0; !is_so(at); i++) {
@@ -246,14 +246,14 @@ static void begin(enum manner how, size_t at)
     go_on_until(is_set, &session);
 }
 
-/* What has become of a lock, as its program was told. */
+/* Says what became of a lock, as its callback hears it. */
 static void tell_lock(dws_session *s, dws_lock *lock)
 {
     (void)s;
     say(lock->is_held ? "held\n" : lock->why != 0 ? "why %d\n" : "lost\n", (int)lock->why);
 }
 
-/* Lets a lock go, and waits until no node of it is there. */
+/* Lets a lock go, and waits until no node of it is left. */
 static void leave_no_place(dws_lock *lock)
 {
     const dws_call *gone = dws_lock_let_go(session, lock);
@@ -261,7 +261,7 @@ static void leave_no_place(dws_lock *lock)
     EXPECT(gone->why == 0 && lock->contender == NULL && !lock->is_held);
 }
 
-/* Takes a lock and holds it, and lets it go: so nobody is before it. */
+/* Another lock is taken, held and let go: so nobody is before it. */
 static void take_by_another(void)
 {
     static dws_lock another;
@@ -273,7 +273,7 @@ static void take_by_another(void)
 
 enum way { HELD, WAITING, MAKING, WAYS };
 
-/* Lets a lock go, or frees it at once. It is settled when no node of it is there. */
+/* Lets a lock go, or frees it at once. It is settled when no node of it is left. */
 static void leave(dws_lock *lock, bool is_freed)
 {
     if (is_freed) {
@@ -287,7 +287,7 @@ static void leave(dws_lock *lock, bool is_freed)
     free(lock);
 }
 
-/* A lock in this state is left, and another one takes it. Whether a connection was ended. */
+/* A lock in this state is left, and another one takes it. Returns whether a connection was ended. */
 static bool leave_by(enum way way, bool is_freed, enum manner how, size_t at)
 {
     dws_lock *lock = (dws_lock *)calloc(1, sizeof *lock);
@@ -329,7 +329,7 @@ static void leave_in_each_way(bool is_quick)
     printf("locks: %zu cuts\n", tries);
 }
 
-/* A lock is freed when it is told that it is held, or that it is lost. */
+/* A lock is freed in the callback that says that it is held, or that it is lost. */
 static void free_when_told(dws_session *s, dws_lock *lock)
 {
     bool is_lost = !lock->is_held;
@@ -360,7 +360,8 @@ static void free_in_callbacks(bool is_at_loss)
     close_all();
 }
 
-/* What a server refuses is told, with the place that is left, and is asked again, also at the next connection. The program may wait for that. */
+/* The call says that a server refuses the deletion, with the place that is left. It is asked again, also on the next connection, and the program may
+ * wait for that. */
 static void refuse_to_delete(void)
 {
     char why[DWS_LONGEST_LINE], wanted[400];
@@ -385,7 +386,7 @@ static void refuse_to_delete(void)
     dws_lock_release(&lock);
 }
 
-/* A session that fails, is ended without a connection, or is freed, leaves its place to the timeout: who waits for the end of it hears that. */
+/* A session that fails, is ended without a connection, or is freed, leaves its place to the timeout: the call that waits for its end says so. */
 enum end { FAILED, ENDED, FREED };
 
 static void end_while_it_lets_go(enum end end)
@@ -412,7 +413,7 @@ static void end_while_it_lets_go(enum end end)
     dws_lock_release(&lock);
 }
 
-/* What a server refuses a lock is told, and no more once it is asked again and done. A path that is none is told, and nothing is asked. */
+/* The lock says what a server refuses, until the request is asked again and done. It also says if its path is no path, and then nothing is asked. */
 static void refuse_to_make(void)
 {
     char why[DWS_LONGEST_LINE];
@@ -438,7 +439,7 @@ static void refuse_to_make(void)
     close_all();
 }
 
-/* Held is as of the last zxid: while there is no connection too. Whether a server was heard since is another question. */
+/* Held means at the last zxid, also without a connection. Whether a server was heard since is another question. */
 static void hear_nothing(void)
 {
     enum { AWAY_MS = 700 };
@@ -462,7 +463,7 @@ static void hear_nothing(void)
     close_all();
 }
 
-/* Many contend, and each lets go in its turn: the next one alone is woken, by four frames at most. */
+/* Many contend, and each lets go in its turn: only the next one wakes, at four frames at most. */
 static void hand_over(void)
 {
     enum { CROWD = 50, MOST_FRAMES = 4 };
@@ -489,7 +490,7 @@ static void hand_over(void)
     close_all();
 }
 
-/* Contenders of other names are met: the lock says so, and its place is given up. It may be let go meanwhile, and be taken again. */
+/* A lock meets contenders with other names: it says so, and gives its place up. It may be let go meanwhile, and taken again. */
 static void meet_other_names(enum dws_names names, enum dws_sharing sharing, const char *other, bool is_let_go)
 {
     char why[DWS_LONGEST_LINE];
@@ -533,18 +534,18 @@ static void stand_in_line(enum dws_names names, enum dws_sharing sharing, const 
     close_all();
 }
 
-/* What a kind of contender has before its number, and the names of those it waits for, if they are before it, shared ones last. */
+/* The marker before the number of each kind of contender, and the names of the rivals that it waits for if they are before it, shared ones last. */
 static const struct family {
     enum dws_names names;
     const char *markers[3], *rivals[3];
-    size_t shared; /* the place of the one that shares */
+    size_t shared; /* the index of the rival that shares */
 } FAMILIES[] = {
     {DWS_NAMES_KAZOO, {"__lock__", "__rlock__", "__lock__"}, {"1__lock__0000000000", "__lock__0000000000", "1__rlock__0000000000"}, 2},
     {DWS_NAMES_CURATOR, {"-lock-", "-__READ__", "-__WRIT__"}, {"_c_1-lock-0000000000", "_c_1-__WRIT__0000000000", "_c_1-__READ__0000000000"}, 2},
     {DWS_NAMES_LATCH, {"-latch-", "-latch-", "-latch-"}, {"_c_1-latch-0000000000", "latch-0000000000", "1-latch-0000000000"}, 3},
 };
 
-/* Beside each family: its own contenders, those of the others, and what is none. */
+/* Each family beside its own contenders, those of others, and nodes that are no contenders. */
 static void try_names_of(const struct family *own, enum dws_sharing sharing)
 {
     static const char *const others[] = {"note", "note-0000000000", "_c_1-lock-", "1__lock__000000000", "__lock__x0000000000"};
@@ -580,7 +581,7 @@ static void begin_taking(dws_lock *lock, char *place, size_t size)
     hear_about(3, TYPE_CHILDREN, "/l");
 }
 
-/* An exclusive lock waits for one that shares, and is held once that is gone. Where its place is deleted, it takes another one. */
+/* An exclusive lock waits for a shared one, and is held once that is gone. If its place is deleted, it takes another one. */
 static void wait_for_a_lock(void)
 {
     static dws_lock lock;
@@ -608,7 +609,7 @@ static void wait_for_a_lock(void)
     dws_lock_release(&lock);
 }
 
-/* With the session a lock is lost that was held, and it is waited for by the next session. */
+/* A held lock is lost with its session, and the next session waits for it again. */
 static void lose_a_lock(void)
 {
     static dws_lock lock;
@@ -633,7 +634,7 @@ static void lose_a_lock(void)
     dws_lock_release(&lock);
 }
 
-/* One that shares is held beside others that do, and waits for those that do not. A place whose making was lost is found again. */
+/* A shared lock is held beside other shared ones, and waits for exclusive ones. A place is found again if the answer that made it was lost. */
 static void share_a_lock(void)
 {
     static dws_lock lock;
@@ -645,7 +646,7 @@ static void share_a_lock(void)
     strcat(place, "0000000007");
     end_line();
     admit();
-    hear_about(2, TYPE_CREATE, "/l"); /* after which there is the place, or never is */
+    hear_about(2, TYPE_CREATE, "/l"); /* after which the place is there, or never will be */
     ANSWER(add_header, 2, 7, DW_CODE_NODE_EXISTS);
     hear_about(3, TYPE_CHILDREN, "/l");
     answer_names(3, 7, place + 3, "a__rlock__0000000001");
@@ -674,8 +675,8 @@ static bool is_settled(const void *at)
     return lock->is_held || lock->is_behind || lock->why != 0;
 }
 
-/* A lock is taken, or waited for, and is let go or freed; its create is answered, or lost. A request for memory of it is refused:
- * nothing is lost of what there was. Whether one was. */
+/* A lock is taken, or waited for, and is let go or freed; its create is answered, or lost. One of its requests for memory is refused, and nothing is
+ * lost. Returns whether one was. */
 static bool run_short(const char *other, bool is_freed, size_t at, long number_of_request)
 {
     dws_lock lock;
@@ -713,7 +714,7 @@ static void run_out_of_memory(void)
     printf("memory: %ld requests of locks were refused\n", runs);
 }
 
-/* With a word each fifth cut is tried alone. */
+/* With an argument only each fifth cut is tried. */
 int main(int argc, char **argv)
 {
     (void)argv;

@@ -1,5 +1,5 @@
-/* The log-in by SASL, at a server that the test is itself: its frames, in pieces of each size, on each connection; who is refused; what fails, and is tried
- * again; and memory that runs out within it. */
+/* The SASL log-in, at a server that is the test itself: its frames, in pieces of each size, on each connection; who is refused; what fails, and is
+ * tried again; and memory that runs out within it. */
 #define _POSIX_C_SOURCE 200809L
 #include "served.h"
 
@@ -18,7 +18,7 @@ static void count_released(void *state)
     released++;
 }
 
-/* Sends nothing, then who it is, and expects the server to say that it knows it. */
+/* Sends an empty token, then a name, and expects the server to say that it knows the name. */
 static bool step(dws_session *s, dws_sasl *step, void *context)
 {
     static int state;
@@ -139,7 +139,7 @@ static void refuse_who_is_not_taken(void)
     expect_barred("get -115\n");
 }
 
-/* What is no refusal is tried again over the next connection. */
+/* A failure that is no refusal is tried again over the next connection. */
 static void try_again(void)
 {
     for (int way = 0; way < 3; way++) {
@@ -150,7 +150,7 @@ static void try_again(void)
             ANSWER(add_header, FIRST_XID, 0, CONNECTION_LOSS);
         } else if (way == 1) {
             size_t begin = begin_answer(&came, FIRST_XID, 0);
-            put_int(&came, 7); /* and no seven bytes */
+            put_int(&came, 7); /* without seven bytes */
             end_answer(&came, begin);
             answer_all();
         } else {
@@ -194,7 +194,7 @@ static bool serve(int32_t type, const uint8_t *request)
     return true;
 }
 
-/* The request for memory of each number is refused: the session goes on over another connection, or says why it does not. */
+/* Each request for memory is refused in turn: the session goes on over another connection, or says why it does not. */
 static void refuse_memory(void)
 {
     bool was_refused = true;

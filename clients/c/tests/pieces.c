@@ -1,5 +1,5 @@
-/* However the stream of a server is cut into pieces, a session says the same. One is played at once, byte by byte, in pieces of
- * several sizes, and cut in two at each place; what came of it is compared with what zookeeper.jute and the header say. */
+/* However the stream of a server is cut into pieces, a session has the same outputs. One stream is played at once, byte by byte, in pieces of
+ * several sizes, and cut in two at each place; the outputs are compared with those of zookeeper.jute and the header. */
 #include "dirwolleu.h"
 #include "expect.h"
 #include "frames.h"
@@ -7,7 +7,7 @@
 
 #include <string.h>
 
-/* How a stream is cut: how many bytes its first piece has, and how many each that follows has. */
+/* How a stream is cut: the bytes of its first piece, and those of each later one. */
 struct cutting {
     size_t first, rest;
 };
@@ -21,7 +21,7 @@ static const dw_stat STAT = {
 enum { FIRST_MS = 1, SECOND_MS = 20000 };
 static uint64_t now_ms;
 
-/* What is to come of the session. Frames are spelled by zookeeper.jute. */
+/* The expected outputs of the session. Frames are spelled by zookeeper.jute. */
 static const char EXPECTED[] =
     "dial 0 3333\n"
     /* ConnectRequest: version 0, last zxid 0, timeout 10,000, session 0, a password of 16 zeros, read only 0 */
@@ -107,7 +107,7 @@ static void ask(dw_session *session, struct lines *lines)
     add_outputs(lines, session);
 }
 
-/* Replies to what is asked, and notices before the replies that tell a later zxid. */
+/* Replies to the requests, and notices before the replies with a later zxid. */
 static void answer(struct bytes *stream)
 {
     stream->length = 0;
@@ -121,7 +121,7 @@ static void answer(struct bytes *stream)
     add_header(stream, 6, 8, 0);
 }
 
-/* The first connection: what is asked, answered and kept. */
+/* The first connection: requests, answers, and kept answers. */
 static void play_first(dw_session *session, struct lines *lines, const struct cutting *cutting)
 {
     static struct bytes stream;

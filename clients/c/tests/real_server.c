@@ -1,5 +1,5 @@
-/* Each request of requests.h once at real servers, one after the other: real_server HOST:PORT.. It ends in `passed`. It sees that none of them leaves a
- * watch, which a server tells by its word `wchs`, and that none ends the session or its connection. Nodes with a TTL are skipped where servers do not
+/* Each request of requests.h once at real servers, one after the other: real_server HOST:PORT.. It ends in `passed`. It checks that none of them
+ * leaves a watch, by the server's command `wchs`, and that none ends the session or its connection. Nodes with a TTL are skipped if servers do not
  * know them (zookeeper.extendedTypesEnabled). */
 #define _POSIX_C_SOURCE 200809L
 #include "../requests.h"
@@ -61,7 +61,7 @@ static void make_nodes(void)
     EXPECT(strcmp(request.call.text, at("/c")) == 0 && request.call.stat.ephemeral_owner == 0);
 }
 
-/* Makes nodes with a TTL. How many are made. */
+/* Makes nodes with a TTL. Returns how many are made. */
 static int make_passing_nodes(void)
 {
     if (dws_wait(session, dws_create_with_ttl(session, &request, at("/t"), "", 0, DW_MODE_PERSISTENT, 3600000, NULL, 0)) == DW_CODE_UNIMPLEMENTED) {
@@ -128,7 +128,7 @@ static void read_all(int count)
     EXPECT(request.id_count == 1 && strcmp(request.ids[0].scheme, "ip") == 0 && strcmp(request.ids[0].id, "127.0.0.1") == 0);
 }
 
-/* The server's word on watches: there is none. */
+/* The server says that there is no watch. */
 static void expect_no_watch(const char *host)
 {
     char said[256] = "", name[64];
@@ -149,7 +149,7 @@ static void expect_no_watch(const char *host)
     EXPECT(strstr(said, "Total watches:0") != NULL);
 }
 
-/* Deletes what this run has made, with the connection that it was made by. */
+/* Deletes the nodes of this run, over the connection that made them. */
 static void clean(void)
 {
     static dws_call listing, deletion;

@@ -1,5 +1,5 @@
-/* What is built of calls, at the server in memory: paths, registrations, elections, semaphores, and what session.h has for a call: its limit, its watch,
- * other hosts, stats. The server is told commands by lines of standard output, each of which is answered:
+/* Recipes built of calls, at the server in memory: paths, registrations, elections, semaphores, and these features of session.h: the limit of a call,
+ * its watch, other hosts, stats. The server gets commands as lines of standard output, and answers each:
  *
  *   recipes HOST:PORT NAME     runs the test of this name, and ends with 0 if it has passed */
 #define _POSIX_C_SOURCE 200809L
@@ -46,7 +46,7 @@ static dws_session *open_session(int place)
     return open_at(place, "", options);
 }
 
-/* Has the server do something, and gives the number that it answers. */
+/* Gives the server a command, and returns the number that it answers. */
 static size_t command(const char *words, size_t number)
 {
     char answer[64];
@@ -93,7 +93,7 @@ static void pass(uint64_t time_ms)
 
 typedef dws_call *ask_of(dws_session *, dws_call *, const char *, bool);
 
-/* The numbers of a read's answer: what it points to is released. */
+/* The numbers of a read's answer; its texts are released. */
 static dws_call answered(dws_session *s, const char *path, ask_of *ask)
 {
     dws_call call;
@@ -155,7 +155,7 @@ static void test_paths(void)
     dws_ensure_path(s, &walk, "/a/b/d");
     expect_walk(&walk, "0 0");
     EXPECT_NUMBER(0, exists(s, "/a/b/c"));
-    dws_ensure_path(below, &walk, "/x"); /* with the chroot, where that is not there */
+    dws_ensure_path(below, &walk, "/x"); /* with the chroot, which is not there */
     expect_walk(&walk, "0 2");
     EXPECT_NUMBER(0, exists(s, "/app/x"));
     dws_ensure_path(s, &walk, "/a//b");
@@ -177,7 +177,7 @@ static void test_paths(void)
     dws_walk_release(&walk);
 }
 
-/* Walks, of which the connection ends after each number of bytes from the client. */
+/* Walks whose connection ends after each number of bytes from the client. */
 static void test_walks_are_cut(void)
 {
     dws_walk walk;
@@ -390,7 +390,7 @@ static void test_semaphore_is_cut(void)
     EXPECT_NUMBER(0, (int)children(sessions[0], "/s/two"));
 }
 
-/* ---- What a call has of its own. ---- */
+/* ---- The features of a call. ---- */
 
 static void test_limit(void)
 {
@@ -473,7 +473,7 @@ static void test_watches(void)
     command("set /a three", 0);
     WAIT_UNTIL(changes == 3 && data.is_answered && strcmp(data.text, "three") == 0);
     watch(s, &names, dws_children, call_changed);
-    command("set /a four", 0); /* which is no change of the names */
+    command("set /a four", 0); /* the names do not change */
     WAIT_UNTIL(changes == 4 && data.is_answered);
     command("create /a/b one", 0);
     WAIT_UNTIL(changes == 5);
@@ -504,14 +504,14 @@ static void test_hosts(void)
     EXPECT_SAYS("'' is no HOST:PORT", why);
     EXPECT(!dws_set_hosts(s, "one:x", NULL, 0));
     snprintf(hosts, sizeof hosts, "127.0.0.1:1,%s", real);
-    EXPECT(dws_set_hosts(s, hosts, why, sizeof why)); /* there are more of them */
+    EXPECT(dws_set_hosts(s, hosts, why, sizeof why)); /* the list has grown */
     EXPECT_NUMBER(0, exists(s, "/"));
     int64_t id = dws_id(s);
     size_t came = command("connections", 0);
-    EXPECT(dws_set_hosts(s, real, why, sizeof why)); /* it is listed still */
+    EXPECT(dws_set_hosts(s, real, why, sizeof why)); /* it is still listed */
     EXPECT_NUMBER(0, exists(s, "/"));
     EXPECT_NUMBER(came, command("connections", 0));
-    EXPECT(dws_set_hosts(s, "127.0.0.1:1", why, sizeof why)); /* of two lists in one turn the first is no list */
+    EXPECT(dws_set_hosts(s, "127.0.0.1:1", why, sizeof why)); /* of two lists in one turn only the last counts */
     snprintf(hosts, sizeof hosts, "localhost:%s", strrchr(real, ':') + 1);
     EXPECT(dws_set_hosts(s, hosts, why, sizeof why)); /* the session moves there */
     EXPECT_NUMBER(0, exists(s, "/"));
@@ -541,8 +541,8 @@ static void expect_lines(dws_session *s, const char *const *lines)
     }
 }
 
-/* By the protocol a ConnectRequest has 49 bytes, its answer 40 where the server has no read-only mode; a request without a body 12, a path and a watch 4 + 2 + 1 more; a header of a reply
- * 20 bytes, a Stat 68, data 4 more than they have. */
+/* By the protocol a ConnectRequest has 49 bytes, its answer 40 if the server has no read-only mode; a request without a body 12, a path and a watch 4
+ * + 2 + 1 more; a header of a reply 20 bytes, a Stat 68, data 4 more than they have. */
 static const char *const OF_CALLS[] = {
     "dirwolleu_connections_total 1",
     "# TYPE dirwolleu_call_seconds histogram",

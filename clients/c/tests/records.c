@@ -1,5 +1,5 @@
-/* The records of requests.h, each as zookeeper.jute has it, at a server that the test is itself: what is sent and what is read of its reply, bodies of
- * each size at the edges, replies of no bytes, connections that end after each byte. With `quick` they end at few places. */
+/* The records of requests.h, each as in zookeeper.jute, at a server that is the test itself: the request that is sent and the reply that is read,
+ * bodies of each size at the edges, replies of no bytes, connections that end after each byte. With `quick` they end at few places. */
 #define _POSIX_C_SOURCE 200809L
 #include "served.h"
 
@@ -11,7 +11,7 @@
 #define NO_SUCH_MODE "the mode is no sum of DW_MODE_EPHEMERAL and DW_MODE_SEQUENTIAL, or the naming none of enum dw_naming"
 
 
-/* The most bytes of frames after their lengths, where options name none and as these tests raise them; and of an answer besides its data. */
+/* The most bytes of frames after their lengths, if options name none and as these tests raise them; and the bytes of an answer besides its data. */
 enum { LONGEST_REQUEST = 1048575, LONGEST_ANSWER = 4194304, RAISED = 5000000, OF_HEADER = 8, OF_ANSWER = 16 + 4 + 68 };
 
 static dws_request request;
@@ -24,7 +24,7 @@ static void open_below(const char *chroot)
     admit();
 }
 
-/* A session with these limits, of which 0 is the usual one. */
+/* A session with these limits; 0 is the default. */
 static void open_within(size_t longest_answer, size_t longest_request)
 {
     dws_options options;
@@ -49,7 +49,7 @@ static void put_readable(struct bytes *bytes)
     put_text(bytes, "anyone");
 }
 
-/* The record that a server takes: CreateRequest, and in a CreateTTLRequest the milliseconds after it. */
+/* The record that a server gets: CreateRequest, and in a CreateTTLRequest the milliseconds after it. */
 static void hear_creation(int32_t xid, int32_t operation, const char *path, int32_t flags, int64_t ttl_ms)
 {
     struct bytes body = NO_BYTES;
@@ -91,7 +91,7 @@ static void make_nodes(void)
         const char *path;
         int mode;
         int64_t ttl_ms;
-        const char *sent; /* the path that the servers know, and the flags: those of CreateMode */
+        const char *sent; /* the servers' path, and the flags: those of CreateMode */
         int32_t flags;
         const char *reply, *made;
     } rows[] = {
@@ -118,7 +118,7 @@ static void make_nodes(void)
     }
 }
 
-/* What is refused before anything is sent, and what a server refuses. */
+/* Nodes that are refused before anything is sent, and nodes that a server refuses. */
 static void refuse_nodes(void)
 {
     static const struct {
@@ -156,7 +156,7 @@ static void put_read(struct bytes *bytes, int32_t type, const char *path)
     bytes->at[bytes->length++] = 0; /* no watch */
 }
 
-/* MultiResponse: data, names, the code of a read that is refused, null data, no names, and data of no bytes. */
+/* MultiResponse: data, names, the code of a refused read, null data, no names, and data of no bytes. */
 static void add_reads(struct bytes *bytes, int32_t xid)
 {
     size_t begin = begin_answer(bytes, xid, 0);
@@ -184,7 +184,7 @@ static void add_reads(struct bytes *bytes, int32_t xid)
     end_answer(bytes, begin);
 }
 
-/* Several nodes are read at one zxid, each with its own code, also where the stream is cut anywhere. */
+/* Several nodes are read at one zxid, each with its own code, wherever the stream is cut. */
 static void read_several(bool is_quick)
 {
     static const char *const paths[] = {"/a", "/a", "/nope", "/null", "/leaf", "/d", "/empty"};
@@ -221,7 +221,7 @@ static void read_several(bool is_quick)
     }
 }
 
-/* The paths of ephemeral nodes, below a chroot too; a prefix is no path there if it ends with a slash. */
+/* The paths of ephemeral nodes, also below a chroot; a prefix that ends with a slash is no path there. */
 static void tell_ephemerals(void)
 {
     static const struct {
@@ -253,7 +253,7 @@ static void tell_ephemerals(void)
     close_session();
 }
 
-/* How many nodes are below one, and whom the server knows the session by: a request of no bytes. */
+/* The number of nodes below one; and the identities that the server knows the session by, a request of no bytes. */
 static void tell_of_servers(void)
 {
     struct bytes body = NO_BYTES;
@@ -305,7 +305,7 @@ static void hear_bytes(uint8_t *room, size_t length)
     }
 }
 
-/* A body of each size at the edges is sent as it is, and one that is larger by a byte is not, by the limit that an option says, or by this one. */
+/* A body of each size at the edges is sent unchanged, and one that is a byte larger is not, by the limit of an option, or the default one. */
 static void send_edges(size_t option, size_t longest)
 {
     size_t largest = longest - OF_HEADER, sizes[] = {0, 1, largest - 1, largest};
@@ -359,7 +359,7 @@ static void answer_data(int32_t xid, size_t length)
     free(frame);
 }
 
-/* An answer that is as long as it may be, by the limit that an option says, or by this one. */
+/* An answer of the greatest length, by the limit of an option, or the default one. */
 static void take_longest(int32_t xid, size_t longest)
 {
     dws_get(session, &request.call, "/a", false);
@@ -370,7 +370,7 @@ static void take_longest(int32_t xid, size_t longest)
     EXPECT_NUMBER(longest - OF_ANSWER, request.call.length);
 }
 
-/* A longer one by a byte ends the connection, and the call is answered so. The next one is asked over the next connection. */
+/* An answer that is a byte longer ends the connection, and the call says so. The next call goes over the next connection. */
 static void take_edges(size_t option, size_t longest)
 {
     open_within(option, 0);
@@ -388,7 +388,7 @@ static void take_edges(size_t option, size_t longest)
     close_session();
 }
 
-/* The limits of the options are kept by the session that begins after an expiry, and by one that is taken up since memory ran out. */
+/* A session that begins after an expiry keeps the limits of the options, and so does one that is resumed after memory ran out. */
 static void keep_limits(void)
 {
     open_within(RAISED, 0);
@@ -422,8 +422,8 @@ static void refuse_limits(void)
     }
 }
 
-/* A reply of no bytes is that to none of them: it ends the connection, and the request is answered that it was lost. With a code it is that code. In
- * both cases its zxid counts: the next connection asks for a server that has it. */
+/* A reply of no bytes answers none of them: it ends the connection, and the request is answered DW_OUTCOME_LOST. With a code the answer is that code.
+ * In both cases its zxid counts: the next connection asks for a server that has it. */
 static void answer_nothing(void)
 {
     for (size_t i = 0; i < OPERATION_COUNT; i++) {
@@ -445,13 +445,13 @@ static void answer_nothing(void)
     }
 }
 
-/* A reply that ends within its record does not read, wherever it ends. */
+/* A reply that ends within its record cannot be read, wherever it ends. */
 static void shorten_replies(void)
 {
     dws_node_read reads[7];
     struct bytes came = NO_BYTES;
     add_reads(&came, 1);
-    for (size_t length = 20; length < came.length - 4; length++) { /* the end of a multi has four bytes that say nothing */
+    for (size_t length = 20; length < came.length - 4; length++) { /* the end of a multi has four bytes without a meaning */
         struct bytes cut = came;
         memset(reads, 0, sizeof reads);
         for (int i = 0; i < 7; i++) {
@@ -484,7 +484,7 @@ static void add_set(struct bytes *bytes, int32_t xid)
     end_answer(bytes, begin);
 }
 
-/* An answer ends, which began there and does not read. */
+/* Ends an answer that began there and cannot be read. */
 static void end_unread(size_t begin)
 {
     end_answer(&came, begin);
@@ -493,7 +493,7 @@ static void end_unread(size_t begin)
     close_session();
 }
 
-/* A reply with a null where a text has to be does not read. */
+/* A reply with a null instead of a text cannot be read. */
 static void leave_out_texts(void)
 {
     open_below("");
@@ -505,7 +505,7 @@ static void leave_out_texts(void)
     end_unread(begin);
 }
 
-/* A vector of more entries than its bytes have room for does not read, and takes no memory; nor does one of less than none. */
+/* A vector with more entries than its bytes have room for cannot be read, and takes no memory; nor can one with a negative count. */
 static void count_too_many(void)
 {
     static const int32_t operations[] = {DW_OPERATION_GET_ACL, DW_OPERATION_GET_EPHEMERALS, DW_OPERATION_WHO_AM_I}, counts[] = {-1, 1, INT32_MAX};
@@ -519,7 +519,7 @@ static void count_too_many(void)
     }
 }
 
-/* A multi whose results are of another type than what was asked does not read. */
+/* A multi whose results have another type than its requests cannot be read. */
 static void mix_types(void)
 {
     dws_node_read read;
@@ -536,7 +536,7 @@ static void mix_types(void)
         }
         hear_request(1, i == 0 ? DW_OPERATION_MULTI : DW_OPERATION_MULTI_READ, NULL);
         size_t begin = begin_answer(&came, 1, 0);
-        put_type(&came, i == 0 ? DWS_OF_DELETE : 4, 0); /* of a node that is read: data */
+        put_type(&came, i == 0 ? DWS_OF_DELETE : 4, 0); /* of a read: data */
         if (i == 1) {
             put_int(&came, 0); /* no names, or data of no bytes */
         }
@@ -561,7 +561,7 @@ static void go_on_after(int64_t zxid)
     dws_release(&get);
 }
 
-/* The connection ends after each byte of a transaction that is sent, and of its reply. Without the whole reply it is lost, and never asked again. */
+/* The connection ends after each byte of a transaction, and of its reply. Without the whole reply it is lost, and never asked again. */
 static void cut_transactions(bool is_quick)
 {
     struct bytes came = NO_BYTES;
@@ -590,7 +590,7 @@ static void cut_transactions(bool is_quick)
     }
 }
 
-/* The same of what only reads: it is asked again until it is answered. */
+/* The same for requests that only read: they are asked again until they are answered. */
 static void cut_reads(bool is_quick)
 {
     static const int32_t operations[] = {DW_OPERATION_GET_EPHEMERALS, DW_OPERATION_GET_ALL_CHILDREN_NUMBER, DW_OPERATION_WHO_AM_I,

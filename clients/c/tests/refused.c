@@ -1,6 +1,6 @@
-/* Each request for memory of a short session is refused in turn. The codes are those of the header: where a call was refused, the same
- * call succeeds after it, and all goes on as if nothing had happened; where a step halted, nothing is kept, and the saved session is
- * taken up by another handle. No block is lost. */
+/* Each request for memory of a short session is refused in turn. The codes are those of the header: if a function refused, the same one then
+ * succeeds, and all goes on as if nothing had happened; if a step halted, nothing is kept, and another handle resumes the saved session. No
+ * block is lost. */
 #include "frames.h"
 #include "lines.h"
 #include "refusing_heap.h"
@@ -26,7 +26,7 @@ static enum dw_result hand_in(struct play *play, const struct bytes *bytes)
     return dw_session_bytes(&play->session, play->now_ms, bytes->at, bytes->length);
 }
 
-/* A move that hands in one frame, which this function of frames.h adds with these words. */
+/* A move that hands in one frame, which this function of frames.h makes from these arguments. */
 #define REPLY(name, add, ...) \
     static enum dw_result name(struct play *play) \
     { \
@@ -91,7 +91,7 @@ static enum dw_result replied(struct play *play)
 MOVE(peek_data, add_kept_data(&play->lines, &play->session, "/a"))
 MOVE(peek_names, add_kept_names(&play->lines, &play->session, "/a"))
 
-/* All names of the listing that was told last: none, since no output of this step is one. */
+/* All names of the last output, if that is a listing: none, since this step has no listing. */
 static enum dw_result names(struct play *play)
 {
     uint8_t room[8];
@@ -101,7 +101,7 @@ static enum dw_result names(struct play *play)
     return result;
 }
 
-/* What is lacking below /a, which a notice has made stale: its data, and the data and names of its children. */
+/* The missing reads below /a, which a notice has made stale: its data, and the data and names of its children. */
 static enum dw_result lacking(struct play *play)
 {
     uint8_t room[256];
@@ -164,7 +164,7 @@ static enum dw_result save(struct play *play)
 MOVE(forget, dw_session_forget(&play->session))
 MOVE(cut, dw_session_cut(&play->session, play->now_ms))
 
-/* A reply for which nobody asked: the connection is given up, which is the first output. */
+/* A reply without a request: the first output says that the connection is given up. */
 static enum dw_result unasked(struct play *play)
 {
     struct bytes reply = {.length = 0};
@@ -178,7 +178,7 @@ static enum dw_result unasked(struct play *play)
     return result;
 }
 
-/* The words of the drop, which was told last. */
+/* The words of the drop, the last output. */
 static enum dw_result words(struct play *play)
 {
     char text[256];
@@ -202,7 +202,7 @@ MOVE(follow, dw_session_follow_data(&play->session, play->now_ms, 20, PATH, size
 
 REPLY(shown, add_data, 7, 8, "first", &STAT)
 
-/* A request that the caller spells, a multi of the path `/`, and its reply of no bytes. */
+/* A request whose bytes are the caller's, a multi of the path `/`, and its reply of no bytes. */
 static enum dw_result ask_multi(struct play *play)
 {
     static const uint8_t body[] = {0, 0, 0, 1, '/'};
@@ -319,7 +319,7 @@ static void expect_halted(struct play *play)
     EXPECT(dw_session_state(&play->session) >= DW_STATE_IDLE && dw_session_timeout_ms(&play->session) > 0);
 }
 
-/* What a step has told wants some room, and is told neither without it nor without memory. */
+/* The outputs of a step need room, and are not written without it, nor without memory. */
 static void want_room(struct play *play)
 {
     size_t count = 1;
@@ -332,7 +332,7 @@ static void want_room(struct play *play)
     EXPECT_NUMBER(DW_OK, result);
 }
 
-/* Makes a move, and once more where it was refused. Answers whether the session can go on. */
+/* Makes a move, and once more if it was refused. Returns whether the session can go on. */
 static bool make(struct play *play, const struct move *move)
 {
     if (make_twice(play, move) == DW_HALTED) {
@@ -349,7 +349,7 @@ static bool make(struct play *play, const struct move *move)
     return true;
 }
 
-/* Plays the session with one request refused, or none where it is 0. Answers whether it came to its end. */
+/* Plays the session with one request refused, or none if it is 0. Returns whether the session came to its end. */
 static bool run(struct play *play, long refused_at)
 {
     bool goes_on = true;
@@ -364,7 +364,7 @@ static bool run(struct play *play, long refused_at)
     return goes_on;
 }
 
-/* What a step with bytes asks for first is room for them: where that is refused, nothing has happened. */
+/* A step with bytes first asks for room for them: if that is refused, nothing has happened. */
 static void expect_room_first(void)
 {
     struct play play = {.now_ms = 1};
@@ -383,7 +383,8 @@ static void expect_room_first(void)
     EXPECT_NUMBER(0, heap.blocks);
 }
 
-/* A credential is overwritten before its block is given back: where it was told, one by one or all at once, and where the handle is freed. */
+/* A credential is overwritten before its block is freed: after the output that has it, read one by one or all at once, and when the handle is
+ * freed. */
 static void expect_overwritten(void)
 {
     static const char secret[] = "ann:secret";

@@ -10,7 +10,7 @@ struct granted {
     void *block;
 };
 
-/* How many bytes a block has stands before it. */
+/* The size of a block, before the block. */
 union head {
     size_t size;
     max_align_t aligned;
@@ -34,7 +34,7 @@ static struct granted granted(void *block)
     return (struct granted){block != NULL, block != NULL ? block : (void *)(uintptr_t)16};
 }
 
-/* A block of this size, or null. It is zeros, so that a look through it is one of bytes that were written. */
+/* A block of this size, or null. It is zeros, so that a search through it reads no uninitialized byte. */
 static void *block_of(size_t size)
 {
     union head *head = (union head *)calloc(1, sizeof *head + size);
@@ -46,7 +46,7 @@ static void *block_of(size_t size)
     return head + 1;
 }
 
-/* Gives a block back, and counts the secret in it. */
+/* Frees a block, and counts the secret in it. */
 static void give_back(void *block)
 {
     union head *head = (union head *)block - 1;

@@ -8,9 +8,9 @@
 struct counted_heap {
     long asked;      /* requests, of a new block or of another size */
     long refused_at; /* the request that is refused, counted from 1; 0 refuses none */
-    long blocks;     /* that were not given back */
-    const char *secret; /* what no block may have in it that is given back, or null */
-    long left;          /* how often one had */
+    long blocks;     /* that were not freed */
+    const char *secret; /* bytes that no block may have when it is freed, or null */
+    long left;          /* how many had them */
 };
 
 extern struct counted_heap heap;
@@ -18,8 +18,8 @@ extern struct counted_heap heap;
 /* Whether the request was there, and was refused. */
 bool was_refused(void);
 
-/* What a test does in turn: a step may halt, and a move that refuses may answer DW_NO_MEMORY, by the header. The outputs of a step are read after it,
- * unless a move that follows reads them. */
+/* The moves of a test: by the header a step may halt, and a move that refuses may return DW_NO_MEMORY. The outputs of a step are read after it,
+ * unless a later move reads them. */
 enum { STEP = 1, REFUSES = 2, BOTH = 3, UNREAD = 4 };
 struct play;
 struct move {
@@ -34,7 +34,7 @@ struct move {
         return call; \
     }
 
-/* Makes a move, and once more where it was refused. It halts only where a request was refused, and at most once is one. */
+/* Makes a move, and once more if it was refused. It halts only if a request was refused, and at most one is. */
 static inline enum dw_result make_twice(struct play *play, const struct move *move)
 {
     bool was_already = was_refused();

@@ -1,4 +1,4 @@
-/* The requests of requests.h, at a server that the test is itself, over 127.0.0.1: it reads each request, and answers in pieces. With `quick` the
+/* The requests of requests.h, at a server that is the test itself, over 127.0.0.1: it reads each request, and answers in pieces. With `quick` the
  * stream is cut at few places. Frames are spelled by zookeeper.jute. */
 #include "served.h"
 
@@ -9,7 +9,7 @@
 
 enum { BIG = 1 << 20 };
 
-/* A call that says how it was answered, by its name. */
+/* A call and a request with a name, by which they say how they were answered. */
 struct named {
     dws_call call;
     dws_request request;
@@ -50,7 +50,7 @@ static void add_changes(struct bytes *bytes, int32_t xid)
     end_answer(bytes, begin);
 }
 
-/* A transaction whose first two operations are done, and whose third one is refused, as version 3.8.0 says it. */
+/* A transaction whose first two operations are done, and whose third one is refused, as ZooKeeper 3.8.0 answers it. */
 static void add_rolled_back(struct bytes *bytes, int32_t xid, int32_t code)
 {
     const int32_t codes[] = {0, 0, code, -2};
@@ -95,7 +95,7 @@ static void hear_transaction(int32_t xid)
     hear_request(xid, DW_OPERATION_MULTI, &body);
 }
 
-/* What is kept of /a, when the answer to the transaction comes: it is stale already. */
+/* The kept answer of /a when the answer to the transaction comes: it is stale already. */
 static void tell_change(dws_session *s, dws_call *call)
 {
     dw_kept_data kept;
@@ -202,7 +202,8 @@ static void begin_within_a_frame(bool is_quick)
     }
 }
 
-/* Where a connection ends, what may have changed something is lost, in the order of calls and requests. What only reads is asked again, in its place. */
+/* When a connection ends, calls and requests that may have changed something are lost, in their order. Those that only read are asked again, in their
+ * places. */
 static void lose_both(void)
 {
     static const dws_acl acls[] = {{DWS_MAY_ALL, "world", "anyone"}};
@@ -238,7 +239,7 @@ static void lose_both(void)
     end_session();
 }
 
-/* A request waits for a connection as calls do, in one line with them, and on the next one too. */
+/* A request waits for a connection like a call, in one line with calls, and on the next connection too. */
 static void keep_the_order(void)
 {
     open_session();
@@ -267,7 +268,7 @@ static void keep_the_order(void)
     end_session();
 }
 
-/* An answer that does not read ends the connection. */
+/* An answer that cannot be read ends the connection. */
 static void give_up(void)
 {
     begin_session();
@@ -283,7 +284,7 @@ static void give_up(void)
     end_session();
 }
 
-/* What is refused, by the server and before anything is sent, has its words. */
+/* Refusals by the server, and before anything is sent, have their words. */
 static void tell_refusals(void)
 {
     static const struct {
@@ -329,7 +330,7 @@ static void show_paths(void)
         {"/\xc3\xa4\xe2\x82\xac\xf0\x9f\x98\x80/../b", "/\xc3\xa4\xe2\x82\xac\xf0\x9f\x98\x80/../b is no path: a name that is . or .."},
         {"/a//\xff\xc3", "/a//\\xff\\xc3 is no path: an empty name"},
         {"/a//\xc2\x85\xc2\xa0", "/a//\\xc2\\x85\xc2\xa0 is no path: an empty name"},           /* U+0085 and U+00A0 */
-        {"/a//\xc1\x81\xe0\x9f\xbf", "/a//\\xc1\\x81\\xe0\\x9f\\xbf is no path: an empty name"}, /* longer than they are to be */
+        {"/a//\xc1\x81\xe0\x9f\xbf", "/a//\\xc1\\x81\\xe0\\x9f\\xbf is no path: an empty name"}, /* overlong encodings */
         {"/a//\xed\xa0\x80\xf4\x90\x80\x80", "/a//\\xed\\xa0\\x80\\xf4\\x90\\x80\\x80 is no path: an empty name"}, /* no characters */
         {"", "\"\" is no path: it is empty"},
     };
@@ -361,13 +362,13 @@ static void expect_credentials(const char *words)
     hear_request(-4, TYPE_AUTH, &body);
 }
 
-/* Credentials are told first on each connection, in the order in which they were handed in, and answered once. */
+/* Credentials go first on each connection, in the order in which they were handed in, and each call is answered once. */
 static void introduce(void)
 {
     open_session();
     EXPECT(dws_introduce(session, "digest", "ann:secret", 10) && dws_introduce(session, "digest", "ann:secret", 10));
     dws_get(session, named(&get.call, "get"), "/", false);
-    admit_by(-4); /* that is no xid */
+    admit_by(-4); /* a version, and no xid */
     expect_credentials("ann:secret");
     hear_request(1, TYPE_GET, NULL);
     dws_add_auth(session, asked(&sync_call, "bob"), "digest", "bob:secret", 10);
@@ -375,7 +376,7 @@ static void introduce(void)
     expect_credentials("bob:secret");
     expect_credentials("eve:secret");
     add_header(&came, -4, 0, 0);
-    add_header(&came, -4, 0, 0); /* a server answers credentials before what it was asked before */
+    add_header(&came, -4, 0, 0); /* a server answers credentials before earlier requests */
     add_data(&came, 1, 5, "one", &STAT);
     answer_came(7, 11);
     wait_for(&get.call);
@@ -395,7 +396,7 @@ static void introduce(void)
     end_session();
 }
 
-/* A server that never answers credentials: the call has its limit, as all have. */
+/* A server that never answers credentials: the call has its limit, like any other. */
 static void wait_in_vain(void)
 {
     dws_options options;
@@ -429,7 +430,7 @@ static void wipe_credentials(void)
     expect_credentials("ann:secret");
     expect_credentials("eve:secret");
     EXPECT(session->unsent.room >= 129);
-    for (size_t i = 0; i < 123; i++) { /* a ConnectRequest has 49 bytes, and both credentials that come after it 40 each */
+    for (size_t i = 0; i < 123; i++) { /* a ConnectRequest has 49 bytes, and both credentials after it 40 each */
         EXPECT(memcmp(session->unsent.at + i, "secret", 6) != 0);
     }
     watch_secret((const uint8_t *)session->credentials->text, session->credentials->length);
@@ -471,7 +472,7 @@ static void introduce_first(void)
     end_session();
 }
 
-/* What the library does not take is told to the call, or ends the session where there is none. */
+/* The call says if the library refuses a credential; without a call, that ends the session. */
 static void refuse_credentials(void)
 {
     char *large = (char *)calloc(1, BIG);
@@ -495,7 +496,7 @@ static void see_mark(dws_session *s, dws_subject *subject)
     say("mark %d\n", (int)subject->mark);
 }
 
-/* Credentials that are refused end the session, all calls, and what is good: those that are added too. */
+/* Refused credentials, also those added later, end the session, all calls, and good answers. */
 static void bar(void)
 {
     static dws_subject node;
@@ -530,7 +531,7 @@ static void bar(void)
 
 static dws_subject followed;
 
-/* What is kept of a node that is followed, when the answer to a transaction comes. */
+/* The mark of a followed node when the answer to a transaction comes. */
 static void tell_followed(dws_session *s, dws_call *call)
 {
     say("change %d mark %d zxid %d\n", (int)call->why, (int)followed.mark, (int)dws_last_zxid(s));
@@ -568,7 +569,7 @@ static void change_followed(void)
 }
 
 /* Servers in memory: the first one is behind, at zxid 40, and ends the connection of a session that has seen more, as real servers do. The session
- * tells each one of the answer to its transaction, and keeps that away too. */
+ * sends each one the zxid of its transaction's answer, and saves that too. */
 static void leave_servers_behind(void)
 {
     uint8_t saved[DWS_LONGEST_SAVED];
@@ -595,7 +596,7 @@ static void leave_servers_behind(void)
     end_session();
 }
 
-/* The zxid of each answer counts, of those that refuse too. */
+/* The zxid of each answer counts, also of refusals. */
 static void count_each_zxid(void)
 {
     static const int32_t operations[] = {DW_OPERATION_SYNC, DW_OPERATION_GET_ACL, DW_OPERATION_SET_ACL, DW_OPERATION_CREATE2};
@@ -617,7 +618,7 @@ static void count_each_zxid(void)
     end_session();
 }
 
-/* A frame with an xid for which nobody waits ends the connection. */
+/* A frame with an xid that nobody waits for ends the connection. */
 static void leave_the_rest(void)
 {
     begin_session();

@@ -1,6 +1,6 @@
 /* Memory that runs out, at the server in memory. Each request for memory of walks, registrations, elections, semaphores and the end of a session is
- * refused in turn: what was asked ends well or says why, and once more it ends well. No node is left that is said to be gone. The memory of locks is
- * refused in locks.c, that of log-ins in logins.c, and that of the library in served.c. */
+ * refused in turn: each ends well or says why, and ends well when it is asked once more. No node is left that is said to be gone. The memory of
+ * locks is refused in locks.c, that of log-ins in logins.c, and that of the library in served.c. */
 #include "scarce.h"
 
 #include "../election.h"
@@ -11,7 +11,7 @@
 
 enum { MOST_REFUSED = 1000, NO_MEMORY = DWS_REFUSED - (int)DW_NO_MEMORY };
 
-/* ---- What is asked. ---- */
+/* ---- The cases. ---- */
 
 static void refuse_at(long at)
 {
@@ -19,7 +19,7 @@ static void refuse_at(long at)
     refused_at = at;
 }
 
-/* Nothing is refused any more. Whether a request was. */
+/* Ends the refusal. Returns whether a request was refused. */
 static bool end_refusal(void)
 {
     bool was_refused = asked_for >= refused_at;
@@ -27,7 +27,7 @@ static bool end_refusal(void)
     return was_refused;
 }
 
-/* It has ended well, or says that memory ran out. */
+/* A case has ended well, or says that memory ran out. */
 static void expect_told(int32_t why, bool was_refused)
 {
     EXPECT(why == 0 || (why == NO_MEMORY && was_refused));
@@ -68,7 +68,7 @@ static bool delete_all(long at)
     return walk(at, dws_delete_all, "/a");
 }
 
-/* It is answered with 0 when nothing is left, and else once more. What a session that is over has left is there until its timeout. */
+/* The call is answered with 0 when nothing is left; else it is asked once more. A session that is over leaves its nodes until its timeout. */
 static void expect_left(dws_call *(*leave)(void), bool was_refused)
 {
     const dws_call *gone = leave();
@@ -169,7 +169,7 @@ static bool take_late_lock(long at)
     return was_refused;
 }
 
-/* A read with a watch that has failed hears of no change: it may be freed. */
+/* A failed read with a watch hears of no change: it may be freed. */
 static bool watch_node(long at)
 {
     static dws_call read;
@@ -197,7 +197,7 @@ static void ask_again(dws_session *s, enum dws_event event, const char *server, 
     }
 }
 
-/* A call that is refused within a step is answered when the step is whole, and has no answer before. */
+/* A call that is refused within a step is answered at the end of the step, and not before. */
 static void refuse_within_a_step(void)
 {
     open_session();

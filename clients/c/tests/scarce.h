@@ -1,5 +1,5 @@
-/* The server in memory, at the socket of served.h. It does not know sync, which is answered here. It can hold a create back until a sync comes, or the
- * create of the lock's node by which its contender finds that out. */
+/* The server in memory, at the socket of served.h. It does not know sync, which this file answers. It can hold a create back until a sync comes, or
+ * until a contender, to find out about it, creates the lock's node. */
 #ifndef DIRWOLLEU_TESTS_SCARCE_H
 #define DIRWOLLEU_TESTS_SCARCE_H
 
@@ -25,7 +25,7 @@ static inline void make_node(const char *path, const char *data)
     EXPECT_NUMBER(DW_BENCH_OK, change(DW_BENCH_MADE, 0, path, data));
 }
 
-/* Whether there was no node; one that has nothing below it is deleted. */
+/* Returns whether there was no node, and deletes one without children. */
 static inline bool was_no_node(const char *path)
 {
     return change(DW_BENCH_DELETED, 0, path, "") == DW_BENCH_NO_NODE;
@@ -64,7 +64,7 @@ static inline bool serve_request(int32_t type, const uint8_t *request)
         snprintf(held, sizeof held - 10, "%.*s", (int)dws_read_int(request + 8), (const char *)request + 12);
     } else if (type == DW_OPERATION_SYNC) {
         make_held();
-        add_created(&came, xid, dw_bench_zxid(&bench), "/"); /* its answer has a path too */
+        add_created(&came, xid, dw_bench_zxid(&bench), "/"); /* its reply has a path too */
     } else {
         EXPECT(type != TYPE_CONNECT || dw_bench_connect(&bench, 1) == DW_BENCH_OK);
         if (type == TYPE_CREATE) {
@@ -88,7 +88,7 @@ static inline bool serve_request(int32_t type, const uint8_t *request)
     return true;
 }
 
-/* Goes on until this is so, or there is a reason why it will not be, or the session is over. */
+/* Goes on until this is so, or there is a reason why it cannot be, or the session is over. */
 static inline void go_on_until(const bool *is_so, const int32_t *why)
 {
     for (int i = 0; !*is_so && (why == NULL || *why == 0) && !dws_is_over(session); i++) {

@@ -1,5 +1,5 @@
-/* A session of session.h at a server that the test is itself: the moment of a ping, when the server was heard, expired sessions, what is
- * lost with a session, trees of which reads are refused, and memory that runs out within a session, each request for it in turn. */
+/* A session of session.h at a server that is the test itself: the moment of a ping, when the server was heard, expired sessions, the losses at the
+ * end of a session, trees with refused reads, and memory that runs out within a session, each request for it in turn. */
 #define _POSIX_C_SOURCE 200809L
 #include "refusing_heap.h"
 #include "served.h"
@@ -26,13 +26,13 @@ static void answer_data(int32_t xid)
     ANSWER(add_data, xid, 5, "one", &STAT);
 }
 
-/* A reply that brings nothing. */
+/* A reply without a body. */
 static void answer_nothing(int32_t xid, int64_t zxid)
 {
     ANSWER(add_header, xid, zxid, 0);
 }
 
-/* The first ping comes a third of the timeout that was granted after the session was admitted, and the session wants to be woken for it. */
+/* The first ping comes a third of the granted timeout after the session was admitted, and the session wants to be woken for it. */
 static void ping_in_time(void)
 {
     struct pollfd polled;
@@ -41,7 +41,7 @@ static void ping_in_time(void)
     admit();
     uint64_t admitted_ms = clock_ms;
     EXPECT_NUMBER(0, dws_heard_ms(session));
-    turn(0); /* what there was to tell was told */
+    turn(0); /* all callbacks so far come */
     EXPECT_NUMBER(GRANTED_MS / 3, dws_wanted(session, &polled));
     let_pass(GRANTED_MS / 3 - 1);
     turn(0);
@@ -58,7 +58,7 @@ static void ping_in_time(void)
     close_all();
 }
 
-/* How long ago the server was heard counts the time in which the system was suspended. What is read after that may have come before. */
+/* The time since the server was heard includes the time that the system was suspended. Bytes that are read afterwards may have come before. */
 static void be_suspended(void)
 {
     enum { HOUR_MS = 3600000 };
@@ -86,7 +86,7 @@ static void be_suspended(void)
     dws_release(&get);
 }
 
-/* Pings are answered and a call is not: the connection is left two thirds of the timeout after the call was asked. */
+/* Pings are answered and a call is not: the connection is given up two thirds of the timeout after the call was asked. */
 static void answer_pings_alone(void)
 {
     begin_session();
@@ -107,7 +107,7 @@ static void answer_pings_alone(void)
     close_all();
 }
 
-/* The next connection begins with the request to connect, whatever was not written on the one before. */
+/* The next connection begins with the request to connect, whatever the one before left unwritten. */
 static void expect_new_connection(void)
 {
     end_line();
@@ -122,7 +122,7 @@ static void expect_new_connection(void)
     EXPECT_NUMBER(SESSION, dws_read_long(out.at + 16));
 }
 
-/* What was not written is forgotten with its connection: a call that it has no room for, and a ping that is due when it ends. */
+/* Unwritten bytes are forgotten with their connection: a call that it has no room for, and a ping that is due when it ends. */
 static void forget_unsent(void)
 {
     struct bytes connected = NO_BYTES;
@@ -149,7 +149,7 @@ static bool are_all_expired(void)
     return are_all;
 }
 
-/* The session has a connection, loses it, and is told on the next one that it has expired. Reads wait meanwhile, and all are told so. */
+/* The session loses its connection, and hears on the next one that it has expired. Reads wait meanwhile, and all are answered DW_OUTCOME_EXPIRED. */
 static void expire(bool is_over_at_expiry)
 {
     dws_options options;
@@ -195,7 +195,7 @@ static void renew_at_expiry(void)
     close_all();
 }
 
-/* The call waits for as long as it is to, and no longer. */
+/* The call waits exactly as long as its limit. */
 static void let_be_late(void)
 {
     let_pass(PATIENCE_MS - 1);
@@ -231,14 +231,14 @@ static void be_late(void)
     close_all();
 }
 
-/* What is kept of the node, when a call is answered. */
+/* The mark of the node when a call is answered. */
 static void tell_mark(dws_session *s, dws_call *call)
 {
     say("%s %d mark %d zxid %d\n", (const char *)call->context, (int)call->why, (int)node.mark, (int)dws_last_zxid(s));
 }
 
-/* A node is stale in each callback of a step that has the notice of its change, whether that comes before an answer or after it: the last zxid is that
- * of the whole step. */
+/* A node is stale in each callback of a step that has the notice of its change, whether that comes before an answer or after it: the last zxid is the
+ * whole step's. */
 static void mark_before_callbacks(bool is_told_first)
 {
     begin_session();
@@ -267,7 +267,7 @@ static void mark_before_callbacks(bool is_told_first)
     get.then = set.then = NULL;
 }
 
-/* After the server's word that the session is closed nothing more is done. */
+/* After the server's reply to the close nothing more is done. */
 static void close_once(void)
 {
     begin_session();
@@ -299,7 +299,7 @@ static void refuse(int32_t xid)
     ANSWER(add_header, xid, 6, DW_CODE_NO_AUTH);
 }
 
-/* What a session has at its end: a lock that is held, and a node and names that are good. Each is told that it is lost, once. */
+/* The possessions of a session at its end: a lock that is held, and a node and names that are good. Each callback hears once that they are lost. */
 static struct {
     dws_lock *lock;
     dws_subject node, names, unread;
@@ -310,7 +310,7 @@ static void see_owned(dws_session *s, dws_subject *subject)
 {
     say("%s %d\n", (const char *)subject->context, (int)subject->mark);
     EXPECT(subject->mark != 0 || (subject->kind == DW_KEPT_NOTHING && subject->length == 0 && subject->count == 0));
-    if (owned.ends && subject->mark == 0) { /* what is told may end the session, and what is followed */
+    if (owned.ends && subject->mark == 0) { /* a callback may end the session, and unfollow */
         dws_end(s);
         dws_unfollow(s, subject);
     }
@@ -328,7 +328,7 @@ static void see_owned_lock(dws_session *s, dws_lock *lock)
     }
 }
 
-/* Nothing is good any more when the end of the session is told. */
+/* Nothing is good any longer when `told` hears of the end of the session. */
 static void note_end(dws_session *s, enum dws_event event, const char *server, const char *words)
 {
     note(s, event, server, words);
@@ -342,7 +342,7 @@ static void follow_owned(dws_subject *subject, const char *path)
     EXPECT_NUMBER(DW_OK, (is_of_names ? dws_follow_children : dws_follow)(session, subject, path, see_owned));
 }
 
-/* A lock is asked for, as far as to the names of its contenders. */
+/* Takes a lock, up to the request for the names of its contenders. */
 static void ask_for_lock(char *place, size_t size)
 {
     owned.lock = (dws_lock *)calloc(1, sizeof *owned.lock);
@@ -378,7 +378,7 @@ static void own(bool ends)
     expect_said("lock 1\nnode 1\nnames 1\n");
 }
 
-/* All of it is lost. Of what was not read there is nothing to be told. */
+/* All of it is lost. A subject that was not read has no callback. */
 static void expect_nothing_owned(const char *lost)
 {
     EXPECT(dws_is_over(session) && !owned.was_good && owned.lock == NULL);
@@ -390,7 +390,7 @@ static void expect_nothing_owned(const char *lost)
     close_all();
 }
 
-/* After an expiry, where no other session begins. */
+/* After an expiry, if no other session begins. */
 static void lose_all_at_expiry(bool ends)
 {
     own(ends);
@@ -400,7 +400,7 @@ static void lose_all_at_expiry(bool ends)
     expect_nothing_owned("lock 0\nnode 0\nnames 0\n");
 }
 
-/* After a close: by the server's word, without it after a second, and a second time at once. */
+/* After a close: at the server's reply, without one after a second, and a second time at once. */
 static void lose_all_at_close(bool is_answered, bool is_at_once)
 {
     own(false);
@@ -429,7 +429,7 @@ static ssize_t read_few(dws_wire *wire, void *room, size_t size, void *context)
     return read_counted(wire, room, size < 8 ? size : 8, context);
 }
 
-/* A lock that is held by the last answer before the end, in one turn with it, is told to be lost, and is not held for ever. */
+/* A lock that the last answer before the end makes held, in one turn with the end, is reported lost, and does not stay held. */
 static void close_before_a_lock(void)
 {
     char place[256];
@@ -469,7 +469,7 @@ static void begin_tree(const char *second)
     answer_names(2, 6, "a", second);
 }
 
-/* The rest of what is read of `a` and `b`, and its answers: data are refused, and no names are below. */
+/* The other reads of `a` and `b`, and their answers: data are refused, and no names are below. */
 static void answer_rest(void)
 {
     hear_about(4, TYPE_GET, "/t/b");
@@ -480,7 +480,8 @@ static void answer_rest(void)
     answer_no_names(6);
 }
 
-/* Two nodes of a tree are refused: the first one is told, and the other one once that is read, though it was refused long before. */
+/* Two nodes of a tree are refused: the callback hears of the first one, and once that is read, of the other one, though it was refused long
+ * before. */
 static void refuse_nodes(void)
 {
     begin_tree("b");
@@ -503,7 +504,7 @@ static void refuse_nodes(void)
     close_all();
 }
 
-/* A tree that is followed no more while its nodes are read is told nothing, and what comes of it is nobody's. */
+/* A tree that is unfollowed while its nodes are read has no callback, and the answers go to nobody. */
 static void unfollow_tree(void)
 {
     begin_tree("b");
@@ -525,7 +526,7 @@ static void unfollow_tree(void)
     close_all();
 }
 
-/* Where a name makes no path no read makes the tree whole, and that is told. */
+/* If a name makes no path, no read makes the tree whole, and the callback says so. */
 static void find_no_path(void)
 {
     begin_tree("..");
@@ -539,7 +540,7 @@ enum { CROWD = 40 };
 
 static dws_subject crowd[CROWD], *unwanted;
 
-/* What is shown of one of many that are followed lets another one go. */
+/* The callback of one of many subjects unfollows another one. */
 static void see_of_crowd(dws_session *s, dws_subject *subject)
 {
     say("%d mark %d %s\n", (int)(subject - crowd), (int)subject->mark, subject->text);
@@ -558,8 +559,8 @@ static void answer_next(const char *data, int64_t mzxid)
     ANSWER(add_data, (int32_t)dws_read_int(out.at), 9, data, &stat);
 }
 
-/* Of many nodes that are followed, each by two, those are looked at that a step names: by a notice of its path, by what is read again, and by the answer
- * to a call with a watch that nothing announced. One of them is let go before it is shown. */
+/* Of many nodes, each followed by two subjects, only those that a step names are looked at: by a notice of the path, by a read that is made again,
+ * and by the unannounced answer to a call with a watch. One of them is unfollowed before it is shown. */
 static void name_few_of_many(void)
 {
     char path[16];
@@ -594,7 +595,7 @@ static void name_few_of_many(void)
 }
 
 static bool introduces;    /* the session has credentials */
-static bool is_introduced; /* the last connection has told credentials before all else */
+static bool is_introduced; /* the last connection has sent credentials before all else */
 
 static bool serve_request(int32_t type, const uint8_t *request)
 {
@@ -621,7 +622,7 @@ static void serve(void)
     serve_by(serve_request);
 }
 
-/* As many paths are watched as may be. So the root of a tree is refused, which is said before the library says which node that is. */
+/* As many paths are watched as may be. So the root of a tree is refused, before the library says which node that is. */
 static void watch_all(void)
 {
     enum { ALL = 65536 };
@@ -646,7 +647,7 @@ static void watch_all(void)
     }
 }
 
-/* Serves until both calls are answered, and what is followed is shown, or the session is over. */
+/* Serves until both calls are answered and the subject and the tree are shown, or the session is over. */
 static void serve_all(enum dw_result followed, enum dw_result planted)
 {
     bool is_shown = false;
@@ -658,7 +659,7 @@ static void serve_all(enum dw_result followed, enum dw_result planted)
     EXPECT(get.is_answered && set.is_answered);
 }
 
-/* A session that follows, reads and writes, of which one request of the library for memory is refused. Whether it was, and went on. */
+/* A session that follows, reads and writes while one request of the library for memory is refused. Returns whether the session goes on. */
 static bool run_short(long refused_at)
 {
     dws_options options;
@@ -690,7 +691,7 @@ static bool run_short(long refused_at)
     return goes_on;
 }
 
-/* Each request is refused in turn. Where one call was refused, it says so; where memory ran out within a step, the session is taken up again. */
+/* Each request is refused in turn. If that refuses a call, the call says so; if memory runs out within a step, the session is resumed. */
 static void run_out_of_memory(void)
 {
     long resumed = 0, refused_at = 1;
@@ -705,7 +706,7 @@ static void run_out_of_memory(void)
     close(line);
 }
 
-/* With a word some tests are left out that take long by valgrind. */
+/* With an argument, tests that take long under valgrind are left out. */
 int main(int argc, char **argv)
 {
     (void)argv;

@@ -1,5 +1,5 @@
-/* A session and a server that is the test itself, over 127.0.0.1: it reads each request, and answers in pieces. Frames are spelled by zookeeper.jute.
- * Time passes by stand_ins.h, where nothing is under way and the session waits for a moment. */
+/* A session and a server, which is the test itself, over 127.0.0.1: the test reads each request, and answers in pieces. Frames are spelled by
+ * zookeeper.jute. Time passes by stand_ins.h, when nothing is under way and the session waits for a moment. */
 #ifndef DIRWOLLEU_TESTS_SERVED_H
 #define DIRWOLLEU_TESTS_SERVED_H
 
@@ -43,11 +43,11 @@ static int listener, line;
 static const char *root = ""; /* the chroot of the sessions that are opened */
 static char said[8192], events[64];
 static struct bytes out;
-static size_t heard, told;    /* bytes of this connection that the session has read, and that it was sent */
+static size_t heard, told;    /* bytes of this connection that the session has read, and that the test has sent it */
 static size_t written, taken; /* bytes of it that the session has sent, and that the test has read */
 static bool is_ended;         /* the test has ended it, and the session has not noticed */
 
-/* Adds to what was said, as printf does. */
+/* Adds to `said`, as printf does. */
 static inline void say(const char *format, ...)
 {
     va_list words;
@@ -113,7 +113,7 @@ static inline ssize_t write_plain(dws_wire *wire, const void *bytes, size_t size
     return sent;
 }
 
-/* What the test reads of the connection without waiting, as recv says it. */
+/* Reads from the connection for the test without waiting, and returns what recv does. */
 static inline ssize_t take(uint8_t *at, size_t size)
 {
     ssize_t count = recv(line, at, size, MSG_DONTWAIT);
@@ -138,7 +138,7 @@ static inline bool is_under_way(void)
     return session->is_connecting || heard < told || taken < written || is_ended;
 }
 
-/* The turn of this number of a wait: the first ones do not wait for the socket. Later ones may wait for a moment, which then has come. */
+/* The turn of this number in a wait: the first ones do not wait for the socket. A later one that waits for a moment makes it come. */
 static inline void turn(int number)
 {
     struct pollfd polled;
@@ -151,7 +151,7 @@ static inline void turn(int number)
     dws_go_on(session, polled.revents);
 }
 
-/* Opens a session, where there is memory for one. */
+/* Opens a session, if there is memory for one. */
 static inline void try_session_with(dws_options options)
 {
     char address[64];
@@ -185,7 +185,7 @@ static inline void close_all(void)
     close(line);
 }
 
-/* The payload of the next frame that the session sends, into `out`. */
+/* Reads the payload of the session's next frame into `out`. */
 static inline void hear(void)
 {
     size_t wanted = 4, count = 0;
@@ -218,7 +218,7 @@ static inline void hear_request(int32_t xid, int32_t type, const struct bytes *b
     }
 }
 
-/* Sends bytes, and has the session take them. */
+/* Sends bytes, and turns until the session has read them. */
 static inline void send_all(const uint8_t *bytes, size_t length)
 {
     size_t wanted = heard + length;
@@ -234,7 +234,7 @@ static inline void send_all(const uint8_t *bytes, size_t length)
     }
 }
 
-/* Sends bytes: this many by themselves at first, and then pieces of a number of bytes. Each piece is taken before the next one. */
+/* Sends bytes: first a piece of `first` of them, and then pieces of `rest`. The session reads each piece before the next one. */
 static inline void answer(const struct bytes *bytes, size_t first, size_t rest)
 {
     for (size_t at = 0, count = first; at < bytes->length; at += count, count = rest) {
@@ -248,7 +248,7 @@ static inline void answer_at_once(const struct bytes *bytes)
     answer(bytes, bytes->length, bytes->length);
 }
 
-static struct bytes came; /* what is answered next, as far as it is spelled */
+static struct bytes came; /* the next answer, as far as it is spelled */
 
 static inline void answer_came(size_t first, size_t rest)
 {
@@ -261,10 +261,10 @@ static inline void answer_all(void)
     answer_came(came.length, came.length);
 }
 
-/* Answers with one frame, which this function of frames.h adds with these words. */
+/* Answers with one frame, which this function of frames.h makes from these arguments. */
 #define ANSWER(add, ...) (add(&came, __VA_ARGS__), answer_all())
 
-/* Takes the next connection. */
+/* Accepts the next connection. */
 static inline void accept_line(void)
 {
     int on = 1;
@@ -275,7 +275,7 @@ static inline void accept_line(void)
     EXPECT(setsockopt(line, IPPROTO_TCP, TCP_NODELAY, &on, sizeof on) == 0);
 }
 
-/* Takes the next connection, and admits the session, in this version of the protocol. */
+/* Accepts the next connection, and admits the session, in this version of the protocol. */
 static inline void admit_by(int32_t version)
 {
     struct bytes connected = NO_BYTES, spelled = NO_BYTES;
@@ -292,7 +292,7 @@ static inline void admit(void)
     admit_by(0);
 }
 
-/* Takes the next connection, and says that the session has expired. */
+/* Accepts the next connection, and says that the session has expired. */
 static inline void expire_session(void)
 {
     accept_line();
@@ -309,7 +309,7 @@ static inline void begin_session(void)
     admit();
 }
 
-/* Serves what the session asks, over any number of connections, as far as it has asked: by this function, which says whether the connection goes on. */
+/* Serves the requests of the session so far, over any number of connections, by this function, which returns whether the connection goes on. */
 static inline void serve_by(bool (*serve_request)(int32_t type, const uint8_t *request))
 {
     static uint8_t in[1 << 12];
@@ -341,13 +341,13 @@ static inline void wait_for(const dws_call *call)
     }
 }
 
-/* The text that stands at this place of the request that was read last. */
+/* The text at this place of the last request. */
 static inline void text_at(size_t place, char *room, size_t size)
 {
     snprintf(room, size, "%.*s", (int)dws_read_int(out.at + place), (const char *)out.at + place + 4);
 }
 
-/* The place that a lock asks for is made, with this number. */
+/* Makes the place that a lock asks for, with this number. */
 static inline void make_place(int32_t xid, const char *number, char *place, size_t size)
 {
     hear_request(xid, TYPE_CREATE, NULL);

@@ -1,5 +1,5 @@
 /* A session by hand, with no socket and no clock: it dials, follows a node that is not there and then is made, loses its connection, lets a call
- * wait, and is closed. What comes of it is what zookeeper.jute and the header say. */
+ * wait, and is closed. The results are those of zookeeper.jute and the header. */
 #include "by_hand.h"
 
 enum { ASKED_MS = 9000, ADDRESSES = 2, FOLLOWED = 1 };
@@ -13,7 +13,7 @@ static void expect_deadline(dw_session *session, uint64_t wanted_ms)
     EXPECT_NUMBER(wanted_ms, first_ms);
 }
 
-/* Dials an address now, for so long, and says nothing more. Gives its place. */
+/* The session dials an address now, for this long, and has no other output. Returns the address's place. */
 static size_t expect_dialled(dw_session *session, uint64_t now_ms, uint64_t within_ms)
 {
     dw_output dial = expect_next(session, DW_KIND_DIAL);
@@ -24,7 +24,7 @@ static size_t expect_dialled(dw_session *session, uint64_t now_ms, uint64_t with
     return dial.place;
 }
 
-/* An address is to be dialled at this moment, for so long. */
+/* An address is to be dialled at this moment, for this long. */
 static size_t expect_dial(dw_session *session, uint64_t now_ms, uint64_t within_ms)
 {
     EXPECT_NUMBER(DW_OK, dw_session_moment(session, now_ms));
@@ -37,7 +37,7 @@ static void answer(dw_session *session, uint64_t now_ms, int32_t xid, int64_t zx
     HAND_IN(session, now_ms, add_header, xid, zxid, code);
 }
 
-/* What is kept of the node that is followed is good. */
+/* The kept answer of the followed node is good. */
 static void expect_shown(dw_session *session, enum dw_kept kind)
 {
     dw_kept_data kept;
@@ -49,7 +49,7 @@ static void expect_shown(dw_session *session, enum dw_kept kind)
     EXPECT_NUMBER(DW_MARK_GOOD, kept.mark);
 }
 
-/* What a report has made stale is forgotten, and what was said is there still. */
+/* An answer that a report made stale is forgotten, and the outputs are still there. */
 static void forget_what_is_stale(dw_session *session)
 {
     dw_kept_data kept;
@@ -107,8 +107,8 @@ static void lose_the_connection(dw_session *session)
     expect_no_more(session);
 }
 
-/* An address refuses, and the other one is dialled at once. What is kept stays good over a connection that is lost: its watch is set again, by
- * a length, the xid, the number of the operation, the last zxid, and three lists, of which the first has one path. */
+/* An address refuses, and the other one is dialled at once. A kept answer stays good when a connection is lost: its watch is set again, by a
+ * length, the xid, the number of the operation, the last zxid, and three lists, of which the first has one path. */
 static void connect_again(dw_session *session)
 {
     enum { SET_WATCHES_LENGTH = 4 + 4 + 4 + 8 + (4 + 4 + 7) + 4 + 4 };
@@ -144,7 +144,7 @@ static void ask_and_close(dw_session *session)
     expect_no_more(session);
 }
 
-/* What is refused is no step: what was said before is still told. */
+/* A refused call is no step: earlier outputs are still there. */
 static void refuse_arguments(dw_session *session)
 {
     EXPECT_NUMBER(DW_OK, dw_session_moment(session, 0));
@@ -158,7 +158,7 @@ static void refuse_arguments(dw_session *session)
     expect_deadline(session, ASKED_MS / 3);
 }
 
-/* A session that is put away is taken up by another handle: it asks for the same session, and what was seen is kept. */
+/* Another handle resumes a saved session: it asks for the same session, and keeps the last seen zxid. */
 static void take_up(dw_session *session)
 {
     static dw_session second;

@@ -1,5 +1,5 @@
 /* Much of everything, handed to a session whole and in pieces of 7 bytes: no step halts while there is memory, which no clause says. The rows of
- * WANTED are what zookeeper.jute and the limits of docs/GUIDE.md make of it. */
+ * WANTED follow from zookeeper.jute and the limits of docs/GUIDE.md. */
 #include "dirwolleu.h"
 #include "expect.h"
 
@@ -17,8 +17,8 @@ enum {
     NAMES = 100000,
     MOST_PENDING = 1024,
     /* This many paths of 4,096 bytes, with numbers of five digits, are watched. Each weighs 4 more; of 131,072, which are the most of a part, 31 take
-     * 127,100, and one more would be 131,200. So they are set again in 500 parts, and no fewer bytes could be: a part that is not the last has at
-     * least 126,973. */
+     * 127,100, and one more would be 131,200. So they are set again in 500 parts, and fewer bytes are not possible: a part that is not the last has
+     * at least 126,973. */
     LONG_WATCHES = 15500,
     FIRST_LONG = 10000,
     LONGEST_PATH = 4096,
@@ -40,8 +40,8 @@ static const char *const WANTED[] = {
     "long paths: restored in 500 parts: 15500 good",
 };
 
-/* A session, its moment, whether it asks for a connection, how long the pieces are in which bytes come, how long its paths are at least, the ticket
- * and the xid of the last call, and how many outputs of a kind there were since `forget`. */
+/* A session, its moment, whether it asks for a connection, the length of the pieces in which bytes come, the least length of its paths, the ticket
+ * and the xid of the last call, and the number of outputs of each kind since `forget`. */
 struct peer {
     dw_session session;
     uint64_t now_ms, ticket;
@@ -51,7 +51,7 @@ struct peer {
     size_t frames, replies, losses, refusals;
 };
 
-/* A frame that is spelled: its length goes first. */
+/* A spelled frame, with its length first. */
 static uint8_t frame[LENGTH + LONGEST_PAYLOAD];
 static size_t frame_length;
 
@@ -152,7 +152,8 @@ static void receive(struct peer *peer)
     }
 }
 
-/* A connection begins once it is asked for, and its session is accepted with a password of this many bytes. How many frames are sent after it. */
+/* A connection begins once it is asked for, and its session is accepted with a password of this many bytes. Returns how many frames are sent after
+ * it. */
 static size_t begin_connection(struct peer *peer, size_t password)
 {
     count(peer, dw_session_moment(&peer->session, peer->now_ms));
@@ -168,7 +169,7 @@ static size_t begin_connection(struct peer *peer, size_t password)
     return peer->frames;
 }
 
-/* The connection is over, and another one begins, where requests begin from xid 1. */
+/* The connection is over, and another one begins, on which requests begin from xid 1. */
 static size_t begin_again(struct peer *peer, size_t password)
 {
     peer->xid = 0;
@@ -224,7 +225,7 @@ static void watch_names(struct peer *peer, size_t number)
     receive(peer);
 }
 
-/* Comes back, and has the watches set again. In how many parts. */
+/* Connects again, and the watches are set again. Returns in how many parts. */
 static size_t restore(struct peer *peer)
 {
     size_t parts = begin_again(peer, PASSWORD);
@@ -235,7 +236,7 @@ static size_t restore(struct peer *peer)
     return parts;
 }
 
-/* How many bytes of good data are kept of a path, or none; and how many good names. */
+/* The good data and names that are kept of a path: whether there are any, and how many bytes and names. */
 struct kept {
     bool has_data, has_names;
     size_t length, names;
@@ -328,7 +329,7 @@ static void long_password(struct peer *peer, char *row, size_t room)
 
 typedef void size_row(struct peer *peer, char *row, size_t room);
 
-/* One of the sizes, at a session of its own that is connected, whose bytes come in pieces of this length at most. */
+/* Tries one size at a connected session of its own, whose bytes come in pieces of this length at most. */
 static void try_size(size_row *size, size_t piece, const char *wanted)
 {
     struct peer peer = {.piece = piece};
@@ -343,7 +344,7 @@ static void try_size(size_row *size, size_t piece, const char *wanted)
     }
 }
 
-/* With a word, such as `quick`, whole alone. */
+/* With an argument, such as `quick`, only whole. */
 int main(int argc, char **argv)
 {
     static size_row *const SIZES[] = {watches, long_reply, many_names, many_calls, long_password};

@@ -1,6 +1,6 @@
-/* What stands in for the clocks and the memory of a session in tests: the Makefile links them in place of clock_gettime, malloc, calloc, realloc and
- * free of the library. The clocks stand, until the test has them go on, or suspends the system: so a machine that is busy changes nothing of what
- * is seen, and each moment is exact. */
+/* Stand-ins for the clocks and the memory of a session in tests: the Makefile links them instead of clock_gettime, malloc, calloc, realloc and free
+ * of the library. The clocks stand still until the test moves them, or suspends the system: so a busy machine changes no result, and each moment is
+ * exact. */
 #ifndef DIRWOLLEU_TESTS_STAND_INS_H
 #define DIRWOLLEU_TESTS_STAND_INS_H
 
@@ -16,7 +16,7 @@ extern uint64_t clock_ms, suspended_ms;
 /* Requests for memory: the one of this number is refused, if it is not 0. */
 extern long asked_for, refused_at;
 
-/* The bytes of which a test wants to know how many are wiped when they are freed. */
+/* Bytes of which a test counts how many are wiped when they are freed. */
 struct watched_bytes {
     const uint8_t *at;
     size_t length, wiped;
