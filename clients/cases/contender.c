@@ -1,5 +1,6 @@
-/* A contender for a lock by session.h, for the trials of all pairs and of contenders at work: contender HOST:PORT PATH KIND NAMES. README.md says what
- * it prints and reads. The kind is lock, read, write or election, which is a lock too, or work; the names are kazoo or curator. It ends with its input. */
+/* A contender for a lock by session.h, for the trials of all pairs and of contenders at work: contender HOST:PORT PATH KIND NAMES. README.md
+ * describes its output and its input. The kind is lock, read, write or election, which is a lock too, or work; the names are kazoo or curator. It
+ * ends with its input. */
 #define _POSIX_C_SOURCE 200809L
 #include "lock.h"
 
@@ -32,7 +33,7 @@ static void tell(dws_session *session, dws_lock *told)
     }
 }
 
-/* Waits until no place is there any more, and prints that, or why one is left. */
+/* Waits until no place is left, and prints that, or why one is left. */
 static void leave(dws_session *session, const char *left)
 {
     char why[DWS_LONGEST_LINE];
@@ -46,7 +47,7 @@ static void leave(dws_session *session, const char *left)
     }
 }
 
-/* Does what a line of the input says. At its end nothing is to be done. */
+/* Obeys a line of the input, and does nothing at the end of the input. */
 static void obey(dws_session *session)
 {
     char line[100] = "";
@@ -63,7 +64,7 @@ static void obey(dws_session *session)
     }
 }
 
-/* Goes on until something happens, for so long at most. Whether the input has nothing to say. */
+/* Goes on until something happens, for this long at most. Returns whether the input has no line. */
 static bool go_on(dws_session *session, int most_ms)
 {
     struct pollfd polled[2];
@@ -76,7 +77,7 @@ static bool go_on(dws_session *session, int most_ms)
     return polled[0].revents == 0;
 }
 
-/* Contends until a line is read, or there are other names. */
+/* Contends until a line comes, or until there are other names. */
 static void contend(dws_session *session)
 {
     bool goes_on = true;
@@ -99,7 +100,7 @@ static int64_t now_ms(void)
     return (int64_t)now.tv_sec * 1000 + now.tv_nsec / 1000000;
 }
 
-/* Says by which token it holds and at which zxid, and writes the token through the fence, which takes none below the one that it has. */
+/* Prints the token by which it holds and the zxid, and writes the token through the fence, which refuses one below its own. */
 static void write_through_fence(dws_session *session, const char *path)
 {
     static dws_call read, set;

@@ -1,4 +1,4 @@
-/* A session at servers in memory that does the rows of cuts.txt: cuts TABLE [K], for each Kth cut alone. */
+/* A session at servers in memory that plays the rows of cuts.txt: cuts TABLE [K], for each Kth cut only. */
 #include "dirwolleu.h"
 #include "dirwolleu_bench.h"
 
@@ -19,7 +19,7 @@ enum { MORE_CONNECTIONS = 2 };
 /* Types of requests, and the xid of a notice, which has no zxid. */
 enum { EXISTS = 3, GET_DATA = 4, GET_CHILDREN_2 = 12, SET_WATCHES = 101, NOTICE = -1 };
 
-/* How many bytes come at a time: at last all. */
+/* How many bytes come at a time: in the last size all. */
 static const size_t PIECES[] = {1, 2, 3, 7, 64, ROOM};
 enum { SIZES = sizeof PIECES / sizeof PIECES[0] };
 
@@ -27,7 +27,7 @@ struct row {
     char text[LINE]; /* with its sign */
 };
 
-/* Of the rows, the first ones are done before those of which connections are cut. */
+/* The rows of a play. The first ones are done before those in which connections are cut. */
 struct play {
     char name[LINE];
     struct row rows[MOST_ROWS];
@@ -43,7 +43,7 @@ struct lines {
 struct subject {
     char name[LINE], path[LINE];
     unsigned long most;
-    struct lines shown; /* when it was told last that it is good, or that the tree is whole */
+    struct lines shown; /* when an output last said that it is good, or that the tree is whole */
 };
 
 /* After how many bytes the connection ends, or 0, and how many have passed. */
@@ -57,9 +57,9 @@ struct asked {
     char path[LINE];
 };
 
-/* The connection, and what its bytes say: whether there is one, whether what was sent comes on it and nothing else, and whether nothing was sent to
- * the server yet; the server that is dialled or connected, and the one that the session is at or was last; which of the transactions each server
- * has; what has come of a frame; and the greatest zxid of a reply. */
+/* The connection, and the state of its bytes: whether there is one, whether only bytes that were sent already still come on it, and whether nothing
+ * was sent to the server yet; the server that is dialled or connected, and the one that the session is at or was last; which of the transactions
+ * each server has; the part of a frame that has come; and the greatest zxid of a reply. */
 static struct {
     bool is_dialled, is_there, is_leaving, is_new, is_open, was_cut;
     int32_t asked_server, server;
@@ -78,7 +78,7 @@ static struct subject subjects[MOST_SUBJECTS];
 static size_t subject_count;
 static struct play plays[MOST_CASES];
 static size_t play_count;
-static char what[3 * LINE]; /* what is played */
+static char what[3 * LINE]; /* the case, the cut and the size */
 
 static void fail(const char *format, ...)
 {
@@ -140,7 +140,7 @@ static void connect_wire(void)
     wire.connections++;
 }
 
-/* Nothing more comes, and the connection is to be found over. */
+/* Nothing more comes, and the session is to find the connection over. */
 static void leave(void)
 {
     need(dw_bench_cut(&bench) == DW_BENCH_OK, "no connection is cut");
@@ -153,7 +153,7 @@ static void hang_up(void)
     wire.is_dialled = wire.is_there = false;
 }
 
-/* The server admits the session: it is not behind. It takes what it lacks. */
+/* The server admits the session: it is not behind. It takes the transactions that it does not have. */
 static void admit(void)
 {
     wire.server = wire.asked_server;
@@ -161,7 +161,7 @@ static void admit(void)
     take_all(wire.server);
 }
 
-/* How many of these bytes pass, and whether the last one that is to pass is among them. */
+/* Returns how many of these bytes pass, and writes whether the last one that is to pass is among them. */
 static size_t pass(struct way *way, size_t count, bool *is_end)
 {
     *is_end = way->end > 0 && way->passed + count >= way->end;
@@ -174,7 +174,7 @@ static size_t pass(struct way *way, size_t count, bool *is_end)
     return count;
 }
 
-/* A ConnectRequest has the greatest zxid that was seen. One for another session is admitted. */
+/* A ConnectRequest has the greatest zxid seen. One for a new session is admitted. */
 static void greet(const uint8_t *frame)
 {
     int64_t zxid = number_at(frame + 8, 8);
@@ -200,7 +200,7 @@ static size_t most_of(const char *path)
     return most;
 }
 
-/* A request. A path has no more reads under way than subjects, and but one of its data and one of its names. */
+/* A request. A path has at most as many reads under way as subjects, and only one of its data and one of its names. */
 static void note(const uint8_t *frame)
 {
     struct asked *asked = &wire.asked[wire.asked_count];
@@ -243,7 +243,7 @@ static void carry(size_t length)
     }
 }
 
-/* What is answered is under way no more. The answer to a ConnectRequest has no xid, and comes while nothing is asked. */
+/* An answered read is no longer under way. The answer to a ConnectRequest has no xid, and comes while nothing is asked. */
 static void hear_frame(const uint8_t *frame)
 {
     int32_t xid = (int32_t)number_at(frame + 4, 4);
@@ -309,7 +309,7 @@ static void add_line(struct lines *lines, const char *format, ...)
     va_end(more);
 }
 
-/* The line of a node, with what stands after it. What follows from its numbers is as the servers have it. */
+/* The line of a node, with the text after it. The numbers that follow from others are as the servers have them. */
 static void add_node(struct lines *lines, const char *path, const char *data, size_t length, const dw_data_stat *stat, const char *after)
 {
     need(stat->ctime == 1000 * stat->czxid && stat->mtime == 1000 * stat->mzxid && stat->ephemeral_owner == 0, "a node has other numbers");
@@ -352,7 +352,7 @@ static void look_at_names(const char *path, struct lines *lines)
     add_line(lines, "%s: %s %" PRId64, path, names, kept.pzxid);
 }
 
-/* A node of a tree, as the header spells it. Tells where it ends. */
+/* A node of a tree, as the header spells it. Returns where it ends. */
 static const uint8_t *look_at_node(const uint8_t *at, struct lines *lines)
 {
     char path[LINE], data[LINE], after[LINE];
@@ -401,7 +401,7 @@ static void look(const struct subject *subject, struct lines *lines)
     }
 }
 
-/* A subject is good. Of a tree that is told by DW_KIND_TREE_COMPLETE, and other tickets are of its nodes. */
+/* A subject is good. For a tree DW_KIND_TREE_COMPLETE says so; other tickets are those of its nodes. */
 static void show(uint64_t ticket, bool is_tree)
 {
     if (ticket < subject_count && (strcmp(subjects[ticket].name, "tree") == 0) == is_tree) {
@@ -452,14 +452,14 @@ static void perform(enum dw_result result)
     }
 }
 
-/* Whether a step is due at this moment: a tree is to be tended. */
+/* Whether a step is due at this moment, to tend a tree. */
 static bool is_due(void)
 {
     uint64_t due_ms;
     return dw_session_deadline(&session, &due_ms) == DW_OK && due_ms <= now_ms;
 }
 
-/* What is under way goes on by a step. Whether there was something. */
+/* Moves all that is under way by one step. Returns whether anything was. */
 static bool go_on(void)
 {
     uint8_t bytes[ROOM];
@@ -527,7 +527,7 @@ static void expect(struct lines *wanted)
     expect_lines(wanted, &kept);
 }
 
-/* What happens, by its words. */
+/* An event, by the words of its row. */
 static void happen(const char *name, const char *path, const char *data)
 {
     if (strcmp(name, "level") == 0) {
@@ -546,7 +546,7 @@ static void happen(const char *name, const char *path, const char *data)
     }
 }
 
-/* A subject, whose place is its ticket. */
+/* A subject, whose index is its ticket. */
 static void follow(const char *name, const char *path, const char *most)
 {
     struct subject *subject = &subjects[subject_count];
@@ -588,7 +588,7 @@ static void do_rows(const struct row *rows, size_t count)
     }
 }
 
-/* Plays the rows, where the connection ends after this many bytes that are sent or heard, and they come in pieces. */
+/* Plays the rows; the connection ends after this many bytes sent or heard, and bytes come in pieces. */
 static void play(const struct play *one, size_t sent, size_t heard, size_t piece)
 {
     snprintf(what, sizeof what, "%s, cut after %zu bytes sent or %zu heard, in pieces of %zu", one->name, sent, heard, piece);
@@ -625,7 +625,8 @@ static void play_whole(const struct play *one, size_t piece)
     }
 }
 
-/* Plays it in pieces of each size: without a cut, and after each byte, of those whose number and that of the size make a multiple. */
+/* Plays a case in pieces of each size: without a cut, and with a cut after each byte whose number and that of the size add up to a multiple of
+ * `every`. */
 static void try_play(const struct play *one, size_t every)
 {
     size_t cuts = 0;

@@ -1,5 +1,5 @@
-/* A session by session.h that does what it is told, for the table of cases: session HOSTS TRIES [RECORD]. Reads that are lost are asked again by the
- * library, whatever the tries. */
+/* A session by session.h that obeys its input, for the table of cases: session HOSTS TRIES [RECORD]. The library asks lost reads again, whatever the
+ * tries. */
 #define _POSIX_C_SOURCE 200809L
 #include "requests.h"
 #include "lock.h"
@@ -12,7 +12,7 @@
 
 enum { MOST_WORDS = 40, MOST_ACLS = 8, LONGEST = 4000 };
 
-/* What is followed: whether there is news of it, and what was printed of it last. */
+/* A followed thing: whether there is news of it, and the last line printed of it. */
 struct shown {
     bool is_news;
     char told[LONGEST];
@@ -49,7 +49,7 @@ static int compare(const void *one, const void *other)
     return strcmp(*(char *const *)one, *(char *const *)other);
 }
 
-/* Waits for the call, and prints why it has failed. Whether it has not. */
+/* Waits for the call, and prints why it failed. Returns whether it did not. */
 static bool is_well(dws_session *session, dws_call *asked)
 {
     char why[DWS_LONGEST_LINE];
@@ -129,7 +129,7 @@ static void write_by(dws_session *session, const char *name, const char *path, c
     }
 }
 
-/* Prints what is written of it next, where that is another thing than before. */
+/* Prints the next text that differs from the last one. */
 static void print_next(dws_session *session, struct shown *shown, void (*write)(dws_session *, char *, size_t))
 {
     char said[LONGEST];
@@ -220,7 +220,7 @@ static void take_lock(dws_session *session, const char *path)
     last_token = lock.token;
 }
 
-/* Contends for a lock until another place is waited for. */
+/* Contends for a lock until it waits for another place. */
 static void contend(dws_session *session, const char *path)
 {
     dws_lock_take(session, &lock, path, DWS_EXCLUSIVE, "", NULL);
@@ -244,7 +244,7 @@ static const char *data_of(const char *word)
     return strcmp(word, "-") == 0 ? "" : word;
 }
 
-/* Takes an operation of a transaction out of the words, and gives how many it has. */
+/* Takes an operation of a transaction out of the words, and returns how many words it has. */
 static int add_operation(dws_session *session, char **words)
 {
     const char *name = words[0], *path = words[1];
@@ -280,7 +280,7 @@ static void commit(dws_session *session, char **words, int count)
 
 static const char LETTERS[] = "rwcda";
 
-/* The lines of an ACL, SCHEME:ID:LETTERS each, whose words are cut. */
+/* The entries of an ACL, SCHEME:ID:LETTERS each. It cuts the words. */
 static size_t read_acls(dws_acl *acls, char **words, int count)
 {
     for (int i = 0; i < count; i++) {
@@ -309,7 +309,7 @@ static void print_acls(void)
     fflush(stdout);
 }
 
-/* Asks one of requests.h. False where the first word is no such question. */
+/* Asks a request of requests.h. False if the first word names none. */
 static bool ask_request(dws_session *session, char **words, int count)
 {
     dws_acl acls[MOST_ACLS];
@@ -345,7 +345,7 @@ static bool ask_request(dws_session *session, char **words, int count)
     return true;
 }
 
-/* Does what a line says. False where it is the last one. */
+/* Obeys a line. False if it is the last one. */
 static bool obey(dws_session *session, char *line)
 {
     char *words[MOST_WORDS] = {0};
@@ -416,7 +416,7 @@ int main(int argc, char **argv)
         fprintf(stderr, "%s\n", why);
         return EXIT_FAILURE;
     }
-    setvbuf(stdin, NULL, _IONBF, 0); /* so that poll tells of each line */
+    setvbuf(stdin, NULL, _IONBF, 0); /* so that poll reports each line */
     while (next_line(session, line, sizeof line) && obey(session, line)) {
     }
     dws_release(&call);

@@ -1,4 +1,5 @@
-/* Many sessions by session.h, for trials over real servers: crowd HOSTS COUNT PATH. Each follows the node of the path. README.md says what it prints. */
+/* Many sessions by session.h, for trials over real servers: crowd HOSTS COUNT PATH. Each follows the node of the path. README.md describes its
+ * output. */
 #define _POSIX_C_SOURCE 200809L
 #include "session.h"
 
@@ -47,7 +48,7 @@ static void show(dws_session *session, dws_subject *node)
     }
 }
 
-/* Opens a session. False where that can't be. */
+/* Opens a session. False if that fails. */
 static bool begin(int number, const char *hosts, const char *path)
 {
     dws_options options;
