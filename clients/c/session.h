@@ -332,8 +332,8 @@ void dws_write_code(char *room, size_t size, int32_t code, const char *path);
 /* Frees what a call holds. The call has been answered, or was never asked, and no watch waits for its `changed`. */
 void dws_release(dws_call *call);
 
-/* Follows the data of a node. It calls `changed` with what is kept of them, at first and at each change of that or of its mark: also after an expiry
- * and when the session is over, when nothing is kept. Returns DW_OK, DW_NO_MEMORY, DW_NOT_TEXT or DW_NOT_PATH; unless it is DW_OK, nothing is
+/* Follows the data of a node. It calls `changed` with the kept answer, at first and at each change of it or of its mark: also after an expiry and
+ * when the session is over, when nothing is kept. Returns DW_OK, DW_NO_MEMORY, DW_NOT_TEXT or DW_NOT_PATH; unless it is DW_OK, nothing is
  * followed. */
 enum dw_result dws_follow(dws_session *s, dws_subject *subject, const char *path,
                           void (*changed)(dws_session *, dws_subject *));
@@ -345,7 +345,7 @@ enum dw_result dws_follow_children(dws_session *s, dws_subject *subject, const c
 /* Follows a subject no longer, and frees what it holds. */
 void dws_unfollow(dws_session *s, dws_subject *subject);
 
-/* Whether what is kept of a subject is good. */
+/* Whether the kept answer of a subject is good. */
 bool dws_is_good(const dws_subject *subject);
 
 /* Follows all nodes at and below a path, at most `most` of them; 0 is 65,536. It calls `shown` with each subtree that is whole, when tree->why is 0;
@@ -379,15 +379,15 @@ bool dws_read_lacking(const uint8_t **at, const uint8_t *end, const char **path,
 /* The context of the options. */
 void *dws_context(const dws_session *s);
 
-/* The greatest zxid seen: what is marked good holds at it. */
+/* The greatest zxid seen: answers that are marked good hold at it. */
 int64_t dws_last_zxid(dws_session *s);
 
 /* Forgets all stale answers. Only memory bounds how many answers are kept: a program that reads path after path, without following them, calls this
  * now and then. Subjects stay followed. */
 void dws_forget(dws_session *s);
 
-/* How many milliseconds ago the server was last heard, or -1 if it never was. What is marked good was so on the server when it sent that, or later:
- * how long it was on its way nobody says. Time that the system was suspended counts too, on a system with CLOCK_BOOTTIME. */
+/* How many milliseconds ago the server was last heard, or -1 if it never was. An answer that is marked good was so on the server when it sent that,
+ * or later: how long it was on its way nobody says. Time that the system was suspended counts too, on a system with CLOCK_BOOTTIME. */
 int64_t dws_heard_ms(dws_session *s);
 
 /* The id of the session: the owner of its ephemeral nodes. It is 0 before a server has accepted it. */

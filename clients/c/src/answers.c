@@ -55,7 +55,7 @@ char *dws_outer(const dws_session *s, const char *path)
     return outer;
 }
 
-/* Looks up what is kept of a node's data, without the data. DW_OK if the library takes the text as a path. */
+/* Looks up the kept answer about a node's data, without the data. DW_OK if the library takes the text as a path. */
 enum dw_result dws_peek(dws_session *s, const char *path, dw_kept_data *kept)
 {
     uint8_t none;

@@ -76,7 +76,7 @@ struct dws_gone {
     bool is_tree;
 };
 
-/* What a step said of a ticket: why its read was refused, or 0 if what is kept of it is good. */
+/* The news of a ticket in a step: why its read was refused, or 0 if its kept answer is good. */
 struct dws_seen {
     uint64_t ticket;
     int32_t why;

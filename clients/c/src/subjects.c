@@ -98,7 +98,7 @@ static uint64_t dws_number_of_path(const char *path)
     return number;
 }
 
-/* Names the subjects of a path: what is kept of them may have changed. Those that the library does not follow yet are handed to it first. */
+/* Names the subjects of a path: their kept answers may have changed. Those that the library does not follow yet are handed to it first. */
 void dws_name_path(dws_session *s, const char *path)
 {
     uint64_t key = s->subject_count > 0 ? dws_number_of_path(path) : 0;
@@ -154,7 +154,7 @@ static enum dw_result dws_look_at_data(dws_session *s, dws_subject *subject, dw_
     return dw_session_peek_data(&s->machine, subject->path, strlen(subject->path), kept, (uint8_t *)subject->text, kept->length);
 }
 
-/* Looks at what is kept of a subject's data. Returns whether it has changed. */
+/* Looks at the kept answer about a subject's data. Returns whether it has changed. */
 static bool dws_look_at_node(dws_session *s, dws_subject *subject, enum dw_result *result)
 {
     dw_kept_data kept;
