@@ -90,7 +90,8 @@ dws_call *dws_lock_let_go(dws_session *s, dws_lock *lock);
 /* Writes why a lock has no place, in words: the reason, the path, and what to do. */
 void dws_lock_words(dws_session *s, const dws_lock *lock, char *room, size_t size);
 
-/* Lets a lock go unless it was, and frees what it holds; `changed` may call this. The session does the rest by itself: the lock may be freed. */
+/* Frees what a lock holds, and first lets it go if it was not; `changed` may call this. The session does the rest by itself: the lock may be
+ * freed. */
 void dws_lock_release(dws_lock *lock);
 
 #ifdef __cplusplus

@@ -28,7 +28,7 @@ void put_long(struct bytes *bytes, int64_t number);
 void put_buffer(struct bytes *bytes, const void *from, size_t length);
 void put_text(struct bytes *bytes, const char *text);
 void put_stat(struct bytes *bytes, const dw_stat *stat);
-void put_changes(struct bytes *bytes, const dw_stat *stat); /* the first five numbers of a Stat: when the node was made and changed, its version */
+void put_changes(struct bytes *bytes, const dw_stat *stat); /* the first five numbers of a Stat: when the node was made and changed, and its version */
 
 /* ConnectResponse: version 0, GRANTED_MS, SESSION, the password 0 to 15, and that the server is not read-only. */
 void add_connected(struct bytes *bytes);
