@@ -1,19 +1,19 @@
 /* A server of ZooKeeper in memory, for tests of clients in every language: bytes of a client go in, and bytes of a server come out.
  *
- * It is for tests alone, and no part of the library that programs link. It opens no socket, reads no clock and starts no thread, and no function of
- * it waits: a test says what happens when, and cuts the bytes where it likes.
+ * It is only for tests, and not part of the library that programs link. It opens no socket, reads no clock and starts no thread, and none of its
+ * functions waits: a test decides what happens when, and where bytes are cut.
  *
- * Each function is proved of the server of the model. A dw_bench is eight servers, each of which holds a beginning of one history, and the
- * connection of one client to one of them, for one session. Clients of other sessions have servers of their own: what one history has more, the
- * others learn by dw_bench_learn, so that all have the same transactions.
+ * Each function is proved to do what the server of the model does. A dw_bench is eight servers, each of which holds a beginning of one history, and
+ * the connection of one client to one of them, for one session. Clients of other sessions have servers of their own: these learn the newer
+ * transactions of a history by dw_bench_learn, so that all have the same transactions.
  *
  * A server answers connect requests, create, delete, exists, getData, setData, getChildren, getChildren2, setWatches, ping and closeSession.
  * It ends the connection at other requests. It keeps no ACL, knows no credentials, and no session ends by silence.
  *
- * What the caller promises is what dirwolleu.h says: a handle is all zeros before its first use, one call at a time uses it, pointers are not
- * null, and what a call writes does not overlap with what else it is given. A handle stays on its thread.
+ * The caller makes the promises of dirwolleu.h: a handle is all zeros before its first use, one call at a time uses it, pointers are not null, and
+ * the memory that a call writes does not overlap with its other arguments. A handle stays on its thread.
  *
- * This is a header of C11 and of C++11. Paths are UTF-8 with a length, and no 0 is needed after them. */
+ * This header is C11 and C++11. Paths are UTF-8 with a length, and no 0 is needed after them. */
 #ifndef DIRWOLLEU_BENCH_H
 #define DIRWOLLEU_BENCH_H
 
@@ -32,7 +32,7 @@
 extern "C" {
 #endif
 
-/* What functions answer. If one below 0 is answered nothing has happened, unless DW_BENCH_NO_MEMORY says otherwise. */
+/* Results of functions. After a result below 0 nothing has happened, unless DW_BENCH_NO_MEMORY says otherwise. */
 enum dw_bench_result DW_AS_INT32 {
   DW_BENCH_OK = 0,
   DW_BENCH_NONE = 1, /* there is none */
@@ -65,19 +65,19 @@ typedef struct dw_bench {
 enum dw_bench_result dw_bench_open(dw_bench *handle, int64_t session);
 void dw_bench_close(dw_bench *handle);
 
-/* The history. dw_bench_change is what another session does: it makes a node with an owner, or 0 for none, or writes its data, or deletes it, at
- * this moment in milliseconds since 1970. What the tree does not admit is answered by the code of a server. No server has taken it yet. */
+/* The history. dw_bench_change is a change by another session: it makes a node with an owner, or 0 for none, or writes its data, or deletes it, at
+ * this moment in milliseconds since 1970. A change that the tree does not admit returns a server's code. No server has taken the change yet. */
 enum dw_bench_result dw_bench_change(dw_bench *handle, uint64_t now_ms, enum dw_bench_change_kind kind, int64_t owner,
                                      const char *path, size_t length, const uint8_t *content, size_t count);
 
-/* Takes over the next transaction that the other one has and this one has not. DW_BENCH_NONE says that there is none. The tree has to admit it
+/* Takes over the next transaction that the other one has and this one does not have. DW_BENCH_NONE says that there is none. The tree has to admit it
  * here too: so histories that are changed apart do not learn from one another. */
 enum dw_bench_result dw_bench_learn(dw_bench *handle, dw_bench *other);
 
 /* The zxid of the last transaction, or DW_BENCH_CLOSED. */
 int64_t dw_bench_zxid(dw_bench *handle);
 
-/* The connection: a new one to a server, 1 to 8, or none any more. What was on its way is lost. */
+/* The connection: a new one to a server, 1 to 8, or the end of one. Bytes on their way are lost. */
 enum dw_bench_result dw_bench_connect(dw_bench *handle, int32_t number);
 enum dw_bench_result dw_bench_cut(dw_bench *handle);
 
@@ -85,7 +85,7 @@ enum dw_bench_result dw_bench_cut(dw_bench *handle);
 enum dw_bench_result dw_bench_hear(dw_bench *handle, const uint8_t *bytes, size_t length);
 
 /* Takes out the first bytes that the server sent, as many as there is room for, and writes how many. DW_BENCH_NONE says that no server has the
- * connection any more: what is written was sent before it ended. */
+ * connection any longer: the bytes that are written were sent before it ended. */
 enum dw_bench_result dw_bench_say(dw_bench *handle, uint8_t *out, size_t room, size_t *count);
 
 /* The connected server processes the next whole request, at this moment in milliseconds since 1970. DW_BENCH_NONE says that there is none. */
@@ -94,7 +94,7 @@ enum dw_bench_result dw_bench_process(dw_bench *handle, uint64_t now_ms);
 /* A server, 1 to 8, takes the next transaction, if there is one. The one that is connected sends the notices of the watches that fire. */
 enum dw_bench_result dw_bench_take(dw_bench *handle, int32_t number);
 
-/* From now on clients are told that the session has expired, or are admitted again. */
+/* From now on servers answer clients that the session has expired, or admit them again. */
 enum dw_bench_result dw_bench_expire(dw_bench *handle, bool is_expired);
 
 #undef DW_AS_INT32

@@ -129,15 +129,15 @@ pub(crate) mod kept {
 /// ```
 #[derive(Clone, Copy, Debug, PartialEq, Eq, Hash)]
 pub enum State {
-    /// There is no connection. What is kept stays kept, with its marks.
+    /// There is no connection. Kept answers stay, with their marks.
     Idle = 0,
-    /// The connection stands, and the server has not answered for the session yet.
+    /// There is a connection, and the server has not accepted the session yet.
     Connecting = 1,
     /// A server has accepted the session.
     Connected = 2,
     /// The servers have given the session up. Nothing is kept or watched, and that is final.
     Expired = 3,
-    /// The session was closed, as it was asked. Nothing is kept or watched, and that is final.
+    /// The session was closed, as asked. Nothing is kept or watched, and that is final.
     Closed = 4,
 }
 
@@ -187,7 +187,7 @@ pub enum Side {
     Children = 2,
 }
 
-/// Why a call has no reply. But for [`NoReply::ConnectionLoss`], nothing has changed, and nothing was sent but a read whose answer is too long.
+/// Why a call has no reply. Except with [`NoReply::ConnectionLoss`] nothing has changed, and nothing was sent but a read whose answer is too long.
 ///
 /// ```
 /// use dirwolleu::NoReply;
@@ -214,7 +214,7 @@ pub enum NoReply {
     TooManyPending = 7,
 }
 
-/// Whether anything that the client was told has ended what is kept. It tells of a zxid, and not of a time.
+/// Whether a report has ended a kept answer. A mark is about a zxid, and not about a time.
 ///
 /// ```
 /// use dirwolleu::{Machine, Mark, Moment, Watch};
@@ -238,9 +238,9 @@ pub enum NoReply {
 /// ```
 #[derive(Clone, Copy, Debug, PartialEq, Eq, Hash)]
 pub enum Mark {
-    /// ZooKeeper held this at the greatest zxid seen, and nothing that the client was told has ended it.
+    /// ZooKeeper held this at the greatest zxid seen, and no report has ended it.
     Good = 1,
-    /// A change was told since, and the path was not read again.
+    /// A change was reported since, and the path was not read again.
     Stale = 2,
 }
 
@@ -287,7 +287,7 @@ impl Code {
     pub const NO_NODE: Code = Code(-101);
     /// The node's ACL does not admit this client with the credentials that it has.
     pub const NO_AUTH: Code = Code(-102);
-    /// The node's version is another one than the call says.
+    /// The node has another version than the call says.
     pub const BAD_VERSION: Code = Code(-103);
     /// The parent is an ephemeral node.
     pub const NO_CHILDREN_FOR_EPHEMERALS: Code = Code(-108);
@@ -295,7 +295,7 @@ impl Code {
     pub const NODE_EXISTS: Code = Code(-110);
     /// The node has children.
     pub const NOT_EMPTY: Code = Code(-111);
-    /// The session has expired, by the word of this reply; the state of the client tells it by the next connection.
+    /// The session has expired, according to this reply; the client's state shows it on the next connection.
     pub const SESSION_EXPIRED: Code = Code(-112);
     /// The server does not take this ACL.
     pub const INVALID_ACL: Code = Code(-114);
@@ -307,7 +307,7 @@ impl Code {
     pub const RUNTIME_INCONSISTENCY: Code = Code(-2);
     /// The server has found its data inconsistent.
     pub const DATA_INCONSISTENCY: Code = Code(-3);
-    /// The server can not read the request.
+    /// The server cannot read the request.
     pub const MARSHALLING_ERROR: Code = Code(-5);
     /// The server has not done it in time.
     pub const OPERATION_TIMEOUT: Code = Code(-7);
@@ -327,11 +327,11 @@ impl Code {
     pub const NOT_READ_ONLY: Code = Code(-119);
     /// A local session makes no ephemeral nodes.
     pub const EPHEMERAL_ON_LOCAL_SESSION: Code = Code(-120);
-    /// There is no watch to be removed.
+    /// There is no watch to remove.
     pub const NO_WATCHER: Code = Code(-121);
     /// The leader has not answered the server in time.
     pub const REQUEST_TIMEOUT: Code = Code(-122);
-    /// The configuration of the servers is not to be changed by clients.
+    /// Clients may not change the configuration of the servers.
     pub const RECONFIG_DISABLED: Code = Code(-123);
     /// The server admits clients by SASL alone, and has closed the session.
     pub const SESSION_CLOSED_REQUIRE_SASL_AUTH: Code = Code(-124);
