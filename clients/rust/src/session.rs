@@ -160,7 +160,7 @@ impl Drop for Session {
 impl Session {
     calls! { self: [&self] &mut &*self }
 
-    /// Makes a request, waits for its answer, and repeats it if the session's [`Retry`] says so.
+    /// Makes a request, waits for its answer, and repeats it if the session's [`Retry`](crate::Retry) says so.
     ///
     /// # Errors
     ///
