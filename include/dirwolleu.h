@@ -31,10 +31,10 @@
  *   - each call is answered once or times out once, and each followed subject is kept good, or is being read, or its turn has not come (960 others are
  *     being read, or 1,024 calls are on their way; no call is sent while it could be read), or its read was refused and is made again, or no server
  *     has accepted the connection;
- *   - a ticket follows what the program follows by it and what DW_KIND_MEMBER_ADDED has added by it and DW_KIND_MEMBER_REMOVED has not removed, and
- *     nothing else, unless one step has both; the trees are those that the program follows; and the members of a tree are those that
- *     DW_KIND_MEMBER_ADDED has added for its ticket and DW_KIND_MEMBER_REMOVED has not removed, if that ticket is below 2^63 and no other tree has it
- *     at the same time;
+ *   - the subjects of a ticket are those that the program follows by it and those that DW_KIND_MEMBER_ADDED has added by it and
+ *     DW_KIND_MEMBER_REMOVED has not removed, and no others, unless one step has both; the trees are those that the program follows; and the
+ *     members of a tree are those that DW_KIND_MEMBER_ADDED has added for its ticket and DW_KIND_MEMBER_REMOVED has not removed, if that ticket
+ *     is below 2^63 and no other tree has it at the same time;
  *   - a contender that holds, by dw_session_held, does so by a listing that its session got as an answer, if the tickets are as that function says;
  *   - each function returns, whatever bytes a server sends.
  * If memory runs out within a step, these still hold: good answers are good, nothing is kept after an end, and functions return. The rest is proved
