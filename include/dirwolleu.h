@@ -479,8 +479,8 @@ size_t dw_session_copy(dw_session *handle, size_t from, void *out, size_t room);
 size_t dw_session_name(dw_session *handle, size_t index, char *out, size_t room);
 
 /* Copies all names of the last output, a DW_REPLY_NAMES, in the order of the reply, as many bytes as there is room for, and writes how many bytes
- * there are: 0 for any other output. Each name comes after its length, as dw_session_peek_names spells it. It takes memory for them too, within the
- * call. Returns DW_OK, DW_NO_MEMORY or DW_CLOSED; unless it is DW_OK, the count is 0. */
+ * there are: 0 for any other output. Each name comes after its length, as dw_session_peek_names spells it. It takes no memory. Returns DW_OK, or
+ * DW_CLOSED with a count of 0. */
 enum dw_result dw_session_names(dw_session *handle, uint8_t *out, size_t room, size_t *count);
 
 /* Writes in words why the connection is given up, by the last output, a DW_KIND_DROP, as many bytes as there is room for, and how many there are: 0
@@ -576,7 +576,7 @@ enum dw_result dw_session_peek_name(dw_session *handle, const char *path, size_t
                                     size_t room, size_t *count);
 
 /* Copies all names that are kept of a path, in byte order, as many bytes as there is room for, and writes how many bytes there are. Each name comes
- * after its length, which is four bytes, the highest first: so zookeeper.jute spells a ustring. It takes memory for them too, within the call.
+ * after its length, which is four bytes, the highest first: so zookeeper.jute spells a ustring. It takes memory for the path alone, within the call.
  * Returns what dw_session_peek_data does; unless that is DW_OK, the count is 0. */
 enum dw_result dw_session_peek_names(dw_session *handle, const char *path, size_t path_length, uint8_t *out, size_t room,
                                      size_t *count);

@@ -1,13 +1,11 @@
 //! What a session said at its last step.
 
-ghost use Rattle.std.specs.Prelude.{◌≡◌, ◌++◌, Some, None, drop, length, take};
+ghost use Rattle.std.specs.Prelude.{◌≡◌, ◌++◌, Some, None, drop, length, pos, take};
 ghost use Rattle.ffi_device.specs.declared.device.Device.{Device};
 ghost use Rattle.ffi_device.specs.Kept.{WritesText};
 ghost use Rattle.ffi_device.specs.Outputs.{told_name, told_names, told_text, told_words};
-ghost use Rattle.ffi_device.specs.Refused.{RefusesMemory};
 ghost use Rattle.ffi_device.specs.Texts.{AreTexts};
 ghost use Rattle.ffi_c.specs.Held.{Holds, IsClosed, LeavesRoom, Tells, TellsAll, Writes};
-ghost use Rattle.ffi_c.specs.Kept.{FindsText};
 
 use crate::handle::DwSession;
 use crate::taking::{CLOSED, NONE};
@@ -94,22 +92,16 @@ pub extern "C" fn dw_session_names(
 ) -> i32
     ensures closed { handle.old.slot.held ≡ None → LeavesRoom result out.old out.new count.new }
     ensures names { (d : Device) → handle.old.slot.held ≡ Some d
-        → FindsText RefusesMemory (WritesText (AreTexts (told_names d.said.items d.read))) result out.old out.new count.new }
+        → (result ≡ pos 0) × WritesText (AreTexts (told_names d.said.items d.read)) out.old out.new count.new }
     ensures same { handle.new.slot.held ≡ handle.old.slot.held }
 {
     *count = 0;
     let Some(session) = take_value(alloc, handle) else {
         return CLOSED;
     };
-    let names = session.copy_names(alloc, out);
+    *count = session.copy_names(out);
     *handle = DwSession::of(session);
-    match names {
-        Ok(length) => {
-            *count = length;
-            0
-        }
-        Err(_) => DeviceRefusal::Memory.code(),
-    }
+    0
 }
 
 /// Writes the words of why a connection is given up, if that was told last, as many bytes as there is room for, and how many there are.

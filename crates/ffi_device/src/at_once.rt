@@ -114,7 +114,7 @@ fn rest_of(alloc: Global, action: &Action<Global>) -> Result<Vec<u8>, AllocError
     ensures { IfOk result (λ rest. rest.items ≡ joined (names_in (Some action.now)) ++ words_of (Some action.now)) }
 {
     match action {
-        Action::Answer { outcome, .. } => outcome_names(alloc, outcome),
+        Action::Answer { outcome, .. } => Vec::from_slice(alloc, outcome_names(outcome)),
         Action::GivenUp(fault) => Ok(format!(in alloc; "{fault}")?.into_bytes()),
         _ => Ok(Vec::new(alloc)),
     }

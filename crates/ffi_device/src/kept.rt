@@ -13,7 +13,7 @@ use crate::copying::copy_into;
 use crate::paths::{path_of, refuse_no_path, text_of};
 use crate::refusal::DeviceRefusal;
 use crate::texts::{spelled_texts, text_at};
-use std::alloc::{AllocError, Global};
+use std::alloc::Global;
 use zk_client::{Children, Client, DataAnswer, DataStat, Mark};
 
 /// What is kept of the fields of a node that change only if a data watch fires.
@@ -167,26 +167,22 @@ fn name_at(kept: Option<(&Children<Global>, Mark)>, index: usize) -> &[u8]
     }
 }
 
-// The names in byte order, each after its length. An error says that memory ran out: a name from a frame is never too long.
-fn spelled_names(alloc: Global, names: &Children<Global>) -> Result<Vec<u8>, AllocError>
-    ensures { IfOk result (λ text. AreSpelled (names_in names.now).names text.items) }
+// The names in byte order, each after its length.
+fn spelled_names(names: &Children<Global>) -> &[u8]
+    ensures { AreSpelled (names_in names.now).names result.now }
 {
     // `len` is called for its clause that the names are in byte order, which the proof cites.
     let _ = names.names.len();
-    spelled_texts(alloc, names.names.as_texts())
+    spelled_texts(names.names.as_texts())
 }
 
-/// The names that are kept, in byte order and each after its length. An error says that memory ran out.
-pub(crate) fn names_text(
-    alloc: Global,
-    kept: Option<(&Children<Global>, Mark)>,
-) -> Result<Vec<u8>, AllocError>
-    ensures { IfOk result
-        (λ text. AreKeptNames (option_map (λ kept. record { answer = names_in kept.0.now; mark = kept.1 }) kept.entry) text.items) }
+/// The names that are kept, in byte order and each after its length.
+pub(crate) fn names_text(kept: Option<(&Children<Global>, Mark)>) -> &[u8]
+    ensures { AreKeptNames (option_map (λ kept. record { answer = names_in kept.0.now; mark = kept.1 }) kept.entry) result.now }
 {
     match kept {
-        Some((names, _)) => spelled_names(alloc, names),
-        None => Ok(Vec::new(alloc)),
+        Some((names, _)) => spelled_names(names),
+        None => b"",
     }
 }
 
@@ -290,6 +286,5 @@ pub fn peek_names(
     ensures same { OnErr result (room.new ≡ room.old) }
 {
     let path = path_of(alloc, path)?;
-    let text = names_text(alloc, client.peek_children(&path))?;
-    Ok(copy_into(text.as_slice(), room))
+    Ok(copy_into(names_text(client.peek_children(&path)), room))
 }

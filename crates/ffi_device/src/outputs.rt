@@ -19,16 +19,16 @@ use zk_agent::Action;
 use zk_client::{CallResult, Outcome};
 use zk_contend::LockStatus;
 
-/// The names of a listing, each after its length, and nothing if the answer is none. An error says that memory ran out.
-pub(crate) fn outcome_names(alloc: Global, outcome: &Outcome<Global>) -> Result<Vec<u8>, AllocError>
-    ensures { IfOk result (λ text. AreTexts (outcome_names outcome.now) text.items) }
+/// The names of a listing, each after its length, and nothing if the answer is none.
+pub(crate) fn outcome_names(outcome: &Outcome<Global>) -> &[u8]
+    ensures { AreTexts (outcome_names outcome.now) result.now }
 {
     match outcome {
         Outcome::Replied {
             result: CallResult::Names { names, .. },
             ..
-        } => spelled_texts(alloc, names),
-        _ => Ok(Vec::new(alloc)),
+        } => spelled_texts(names),
+        _ => b"",
     }
 }
 
@@ -158,16 +158,21 @@ impl Device {
         copy_into(self.told_name(index), room)
     }
 
-    /// Copies all names of the listing that was told last, in the order of the reply and each after its length in four bytes, as many
-    /// bytes of them as there is room for, and tells how many there are. An error says that memory ran out.
-    pub fn copy_names(&self, alloc: Global, room: &mut [u8]) -> Result<usize, AllocError>
-        ensures written { IfOk result (WritesText (AreTexts (told_names self.now.said.items self.now.read)) room.old room.new) }
-        ensures same { OnErr result (room.new ≡ room.old) }
+    // The names of the listing that was told last, each after its length, and nothing if none was.
+    fn spelled_names(&self) -> &[u8]
+        ensures { AreTexts (told_names self.now.said.items self.now.read) result.now }
     {
-        let text = match self.told() {
-            Some(Action::Answer { outcome, .. }) => outcome_names(alloc, outcome)?,
-            _ => Vec::new(alloc),
-        };
-        Ok(copy_into(text.as_slice(), room))
+        match self.told() {
+            Some(Action::Answer { outcome, .. }) => outcome_names(outcome),
+            _ => b"",
+        }
+    }
+
+    /// Copies all names of the listing that was told last, in the order of the reply and each after its length in four bytes, as many
+    /// bytes of them as there is room for, and tells how many there are.
+    pub fn copy_names(&self, room: &mut [u8]) -> usize
+        ensures { WritesText (AreTexts (told_names self.now.said.items self.now.read)) room.old room.new result }
+    {
+        copy_into(self.spelled_names(), room)
     }
 }

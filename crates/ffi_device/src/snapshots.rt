@@ -81,7 +81,6 @@ fn write_parent(path: &str, names: &[u8], pzxid: i64, text: &mut Vec<u8>) -> Res
 
 // Writes the names that are kept below a path.
 fn write_names(
-    alloc: Global,
     client: &Client<Global>,
     path: &Path<Global>,
     text: &mut Vec<u8>,
@@ -89,8 +88,7 @@ fn write_names(
     ensures { OnOk result ((one : List ℕ) × (text.new.items ≡ text.old.items ++ one) × IsParent (view_of client.now).cache path.now one) }
 {
     let kept = client.peek_children(path);
-    let names = names_text(alloc, kept)?;
-    match write_parent(path.as_str(), names.as_slice(), pzxid_in(kept), text) {
+    match write_parent(path.as_str(), names_text(kept), pzxid_in(kept), text) {
         Ok(()) => Ok(()),
         Err(_) => Err(AllocError),
     }
@@ -106,7 +104,7 @@ fn spelled_parents(
 {
     let mut text = Vec::new(alloc);
     for path in paths {
-        let Ok(()) = write_names(alloc, client, path, &mut text) else {
+        let Ok(()) = write_names(client, path, &mut text) else {
             return Err(AllocError);
         };
     }

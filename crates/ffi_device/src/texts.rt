@@ -12,7 +12,7 @@ ghost use Rattle.ffi_device.specs.inner.Texts.{RefusesTexts};
 use crate::refusal::DeviceRefusal;
 use std::alloc::{AllocError, Global};
 use zk_client::JoinedTexts;
-use zk_jute::{Cursor, Record, TextRef, take};
+use zk_jute::{Cursor, TextRef, take};
 
 /// The text of this index, and the empty one if there is none.
 pub(crate) fn text_at(texts: &JoinedTexts<Global>, index: usize) -> &str
@@ -24,33 +24,11 @@ pub(crate) fn text_at(texts: &JoinedTexts<Global>, index: usize) -> &str
     }
 }
 
-// How many bytes the texts and their lengths have together, as far as that can be counted.
-fn spelled_len(texts: &JoinedTexts<Global>) -> usize
-    ensures { sum_by (λ text. 4 + length text) texts.now < 2 ^ 64 → result ≡ sum_by (λ text. 4 + length text) texts.now }
+/// The texts, each after its length.
+pub(crate) fn spelled_texts(texts: &JoinedTexts<Global>) -> &[u8]
+    ensures { AreTexts texts.now result.now }
 {
-    let mut count: usize = 0;
-    for at in 0..texts.len() {
-        let text = text_at(texts, at);
-        count = count.saturating_add(4).saturating_add(text.len());
-    }
-    count
-}
-
-/// The texts, each after its length. An error says that memory ran out: a text from a frame is never too long.
-pub(crate) fn spelled_texts(
-    alloc: Global,
-    texts: &JoinedTexts<Global>,
-) -> Result<Vec<u8>, AllocError>
-    ensures { IfOk result (λ spelled. AreTexts texts.now spelled.items) }
-{
-    let mut spelled = Vec::with_capacity(alloc, spelled_len(texts))?;
-    for at in 0..texts.len() {
-        let text = text_at(texts, at);
-        let Ok(()) = text.write(&mut spelled) else {
-            return Err(AllocError);
-        };
-    }
-    Ok(spelled)
+    texts.spelled()
 }
 
 /// The next text, which the cursor moves past, and nothing if there is none. It takes no memory.

@@ -4,5 +4,5 @@ pub mod Code
 pub mod Contents
 pub mod Kept
 pub mod Look
-pub mod Segments
+pub mod Spelled
 pub mod inner

@@ -1,6 +1,6 @@
 //! Lists that may be null: vectors of the encoding, an int count and that many elements, or the count -1.
 
-ghost use Rattle.std.specs.Prelude.{◌≡◌, ◌<◌, ◌^◌, ◌++◌, pos, length, map, take, OnOk, IsErrOf, true};
+ghost use Rattle.std.specs.Prelude.{◌≡◌, ◌<◌, ◌≤◌, ◌*◌, ◌^◌, ◌++◌, pos, length, map, take, OnOk, IsErrOf, true};
 ghost use Rattle.std.specs.List.{flat_map, AllByRecursion};
 ghost use Rattle.std.specs.Option.{option_map};
 ghost use Rattle.zk_jute.specs.Layout.{vector};
@@ -17,8 +17,9 @@ use std::alloc::Allocator;
 
 /// Elements, or null.
 ///
-/// Reading takes memory as the elements come and never by the count alone, so a short payload with a large count
-/// costs nothing.
+/// Reading takes memory by what is there and never by the count alone: at first room for as many elements as the rest of the
+/// payload may hold, at four bytes each, and for no more than the count says; then as they come. So a short payload with a large
+/// count costs little.
 #[derive(Drop)]
 pub struct List<R, A: Allocator> {
     pub elements: Option<Vec<R, A>>,
@@ -75,7 +76,15 @@ fn write_counted<A: Allocator + Copy, R: Record<A>>(
     Ok(())
 }
 
-/// Reads as many elements. The memory for them is taken as they come.
+/// How many elements there is to be room for at first: the count, but no more than what is left may hold, at four bytes each.
+fn first_room(count: usize, at: &Cursor<'_>) -> usize
+    ensures count { result ≤ count }
+    ensures left { result * 4 ≤ length (bytes_left at.now) }
+{
+    count.min(at.rest().len() / 4)
+}
+
+/// Reads as many elements. The memory for them is taken by what is left, and then as they come.
 fn read_elements<'a, A: Allocator + Copy, R: Readable<'a, A> + Drop>(
     alloc: A,
     count: usize,
@@ -85,7 +94,7 @@ fn read_elements<'a, A: Allocator + Copy, R: Readable<'a, A> + Drop>(
     ensures gives { Gives (λ v. map R.view v.items) result (bytes_left at.new)
         (elements_at (reading R.layout (payload_len at.old)) count (bytes_left at.old)) }
 {
-    let mut elements = Vec::new(alloc);
+    let mut elements = Vec::with_capacity(alloc, first_room(count, at))?;
     for _ in 0..count {
         let element = R::read(alloc, at)?;
         elements.push(element)?;

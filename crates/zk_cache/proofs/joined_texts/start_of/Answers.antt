@@ -1,6 +1,6 @@
 -- A segment begins where the one before it ends.
 use Rattle.std.proofs.Common.{arith}
-use Rattle.zk_cache.proofs.CutLemmas.{start_at-later}
+use Rattle.zk_cache.proofs.SpelledLemmas.{start_at-later}
 use Rattle.zk_cache.proofs.joined_texts.start_of.Goals as goal
 
 pub returns-else-index-eq0 : goal.returns-else-index-eq0
