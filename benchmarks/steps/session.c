@@ -206,15 +206,17 @@ static void count_moments(const char *row)
 int main(int count, char **words)
 {
     followed = count == 2 ? strtoul(words[1], NULL, 10) : 0;
-    if (followed < 1 || followed > MOST) {
-        fprintf(stderr, "usage: session NODES, of 1 to %d\n", MOST);
+    if (count != 2 || followed > MOST) {
+        fprintf(stderr, "usage: session NODES, of 0 to %d\n", MOST);
         return 2;
     }
     connect_first();
     follow_all();
     count_moments("a turn in which nothing happens");
     count_reads("a read elsewhere");
-    count_changes("a node that is followed changes, and is read again");
+    if (followed > 0) {
+        count_changes("a node that is followed changes, and is read again");
+    }
     dws_release(&call);
     dws_free(session);
     return 0;

@@ -238,6 +238,7 @@ impl<A: Allocator + Copy> Agent<A> {
     }
 
     /// [`step`](Agent::step), whose actions take the place of those that were given, in the same room.
+    #[inline(always)]
     pub fn step_into(
         &mut self,
         now: u64,
@@ -276,7 +277,9 @@ impl<A: Allocator + Copy> Agent<A> {
         Ok(())
     }
 
-    /// Takes what has happened at a moment that is the latest, with the trees and the credentials. Nothing was said before.
+    /// Takes what has happened at a moment that is the latest. Nothing was said before.
+    // A hint: where the input is known to be a moment, as in a tick, nothing is made of it if nothing is due.
+    #[inline(always)]
     fn go_on(
         &mut self,
         now: u64,
@@ -305,6 +308,34 @@ impl<A: Allocator + Copy> Agent<A> {
             drop(input);
             return self.pass(now);
         }
+        self.go_further(now, input, actions)
+    }
+
+    /// The same with the trees and the credentials, whether or not something is due.
+    fn go_further(
+        &mut self,
+        now: u64,
+        input: AgentInput<A>,
+        actions: &mut Vec<Action<A>, A>,
+    ) -> Result<(), FollowerStop>
+        requires { actions.old.items ≡ [] }
+        ensures comes { OnOk result (Comes now (moves_of (is_open self.new.dialler.phase) now input self.old) (trail_of self.old [])
+            (trail_of self.new actions.new.items)) }
+        ensures followed { OnOk result
+            (AreFollowed now (view_of self.new.asker.follower.client) self.new.asker.follower.subjects.items) }
+        ensures served { OnOk result (All (IsServed (view_of self.new.asker.follower.client)) self.new.asker.line.entries.items) }
+        ensures limits { OnOk result (All (IsInTime now) self.new.asker.line.entries.items) }
+        ensures closed { OnOk result
+            ((view_of self.new.asker.follower.client).standing.state ≡ Closed → self.new.asker.line.entries.items ≡ []) }
+        ensures renewed { OnOk result ((view_of self.new.asker.follower.client).standing.state ≢ Expired) }
+        ensures dials { OnOk result ((view_of self.new.asker.follower.client).standing.state ≢ Closed
+            → IsDecided now (trail_of self.new actions.new.items)) }
+        ensures answers { OnOk result (has_come now (ends_of (trail_of self.new actions.new.items)) ≡ false) }
+        ensures trees { OnOk result (GoesOn now input self.old self.new actions.new.items) }
+        ensures credentials { OnOk result
+            (papers_of self.new.credentials ≡ all_written (is_open self.new.dialler.phase) (papers_in input self.old)) }
+        ensures broke { OnErr result (IsBroken self.old self.new) }
+    {
         let mut trees = std::mem::replace(&mut self.trees, Trees::new(self.alloc));
         let mut credentials = std::mem::replace(
             &mut self.credentials,

@@ -1,6 +1,6 @@
 -- Subjects are visited one after the other: those before are followed, and those after it are as they were.
 use Rattle.std.proofs.Common.{◌≡◌, ◌≢◌, ◌≤◌, ◌<◌, ◌^◌, ◌+◌, ◌++◌, ◌⊎◌, append_assoc, cond, ℕ, ℤ, Bool, true, false, List, [], ◌∷◌, inl, inr}
-use Rattle.std.proofs.Common.{length, get_or, map, set, take, refl, sym, ap, subst, ◌∙◌, arith}
+use Rattle.std.proofs.Common.{drop, length, get_or, map, set, take, refl, sym, ap, subst, ◌∙◌, arith}
 use Rattle.std.proofs.lemmas.List.{append-nil, get_or-map, get_or-set_other, length-map, nil_from_length}
 use Rattle.std.proofs.Math.Seq.{take-append_seam}
 use Rattle.std.proofs.lemmas.Grind.{flat_map-append}
@@ -108,6 +108,12 @@ taken_visited {A} now outputs old middle new is seen k d within =
 
 pub whole_written : {X : Type 0} (count : ℕ) (written rest : List X) → count ≡ length written → take count (written ++ rest) ≡ written
 whole_written count written rest size = ap (λ n. take n (written ++ rest)) size ∙ take-append_seam written rest
+
+-- and each was changed in the same way
+pub mapped_back : {X : Type 0} (f : X → X) (count : ℕ) (slice written items : List X) → count ≡ length written → written ≡ map f slice
+    → slice ≡ items → take count (written ++ drop (length written) items) ≡ map f items
+mapped_back f count slice written items size changed same =
+    whole_written count written (drop (length written) items) size ∙ changed ∙ ap (map f) same
 
 -- ---- where a subject counts as refused, its moment is after this one
 

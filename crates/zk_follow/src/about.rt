@@ -6,7 +6,7 @@ ghost use Rattle.zk_conversation.specs.Questions.{question_of, watched_side};
 ghost use Rattle.zk_conversation.specs.Views.{call_view};
 ghost use Rattle.zk_client.specs.Views.{input_view, outcome_view, output_view, said};
 ghost use Rattle.zk_follow.specs.inner.Owning.{asks_to_watch};
-ghost use Rattle.zk_follow.specs.inner.Resting.{is_about_all, is_reply, may_show_any, tells_fields};
+ghost use Rattle.zk_follow.specs.inner.Resting.{is_about_all, is_about_some, is_reply, may_show_any, tells_fields};
 
 use std::alloc::Allocator;
 use zk_client::{Call, CallResult, Input, Outcome, Output};
@@ -71,6 +71,23 @@ pub(crate) fn has_one_showing_any<A: Allocator>(is_foreign: bool, outputs: &[Out
     outputs
         .iter()
         .any(|output| may_show_any(is_foreign, output))
+}
+
+/// Whether an output may be about some subject: it is an answer, a report or another state.
+fn is_about_some<A: Allocator>(output: &Output<A>) -> bool
+    ensures { result ≡ is_about_some (output_view output.now) }
+{
+    matches!(
+        output,
+        Output::Answer { .. } | Output::Report { .. } | Output::State(_)
+    )
+}
+
+/// Whether one of these outputs may be about some subject.
+pub(crate) fn has_one_about_some<A: Allocator>(outputs: &[Output<A>]) -> bool
+    ensures { result ≡ list_any is_about_some (said outputs.now) }
+{
+    outputs.iter().any(|output| is_about_some(output))
 }
 
 /// Whether an output may be about each subject, where it is known whether a watch may be that of none.

@@ -301,20 +301,14 @@ fn advance_all<A: Allocator + Copy>(
         return Ok(());
     }
     stir(is_foreign, heard, subjects.len(), waiting, awake)?;
-    let mut places = index.with_those_about(alloc, is_foreign, subjects, awake.as_slice(), heard)?;
+    *awake = index.with_those_about(alloc, is_foreign, subjects, awake.as_slice(), heard)?;
+    if is_nobody(awake.as_slice(), waiting) {
+        return Ok(());
+    }
     let mut made = Vec::new(alloc);
     visit_all(
-        alloc,
-        subjects,
-        index,
-        &mut places,
-        waiting,
-        client,
-        now,
-        heard,
-        &mut made,
+        alloc, subjects, index, awake, waiting, client, now, heard, &mut made,
     )?;
-    *awake = places;
     match outputs.append(&mut made) {
         Ok(()) => Ok(()),
         Err(_) => Err(FollowerStop::Memory),

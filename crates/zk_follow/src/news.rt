@@ -245,12 +245,12 @@ fn awake_among<A: Allocator + Copy>(
     Ok(awake)
 }
 
-/// Whether no place is awake, and nothing was said.
+/// Whether no place is awake, and no output is a report: then there is nothing to tell.
 fn is_silent<A: Allocator>(awake: &[usize], outputs: &[Output<A>]) -> bool
     ensures awake { result ≡ true → length awake.now ≡ 0 }
-    ensures outputs { result ≡ true → length outputs.now ≡ 0 }
+    ensures outputs { result ≡ true → list_any is_report (said outputs.now) ≡ false }
 {
-    if !outputs.is_empty() {
+    if has_report(outputs) {
         return false;
     }
     awake.is_empty()

@@ -7,9 +7,9 @@ ghost use Rattle.zk_client.specs.Clients.{view_of};
 ghost use Rattle.zk_client.specs.Views.{said};
 ghost use Rattle.zk_follow.specs.Following.{is_among, IsBusy};
 ghost use Rattle.zk_follow.specs.inner.Places.{IsAscending};
-ghost use Rattle.zk_follow.specs.inner.Resting.{may_show_any};
+ghost use Rattle.zk_follow.specs.inner.Resting.{is_about_some, may_show_any};
 
-use crate::about::has_one_showing_any;
+use crate::about::{has_one_about_some, has_one_showing_any};
 use crate::places::{add_one, put_in_order};
 use crate::reads::MOST_READS;
 use crate::subject::{Subject, has_room, is_connected};
@@ -183,17 +183,17 @@ pub(crate) fn is_nobody<A: Allocator + Copy>(places: &[usize], waiting: &VecDequ
     places.is_empty()
 }
 
-/// Whether nothing was said, no place is awake, and none waits: then a step visits nobody.
+/// Whether no output is about a subject, no place is awake, and none waits: then a step visits nobody.
 pub(crate) fn is_over<A: Allocator + Copy>(
     heard: &[Output<A>],
     awake: &[usize],
     waiting: &VecDeque<usize, A>,
 ) -> bool
-    ensures heard { result ≡ true → length heard.now ≡ 0 }
+    ensures heard { result ≡ true → list_any is_about_some (said heard.now) ≡ false }
     ensures awake { result ≡ true → length awake.now ≡ 0 }
     ensures waiting { result ≡ true → waiting.now.items ≡ [] }
 {
-    if !heard.is_empty() {
+    if has_one_about_some(heard) {
         return false;
     }
     is_nobody(awake, waiting)

@@ -31,6 +31,13 @@ is_about is_foreign all ticket path (turns.Report at side event) = bytes_eq at p
 is_about is_foreign all ticket path (Enters state) = true
 is_about is_foreign all ticket path _ = false
 
+-- whether an output may be about some subject
+abbrev pub is_about_some : Output → Bool
+is_about_some (turns.Answer its outcome) = true
+is_about_some (turns.Report at side event) = true
+is_about_some (Enters state) = true
+is_about_some _ = false
+
 -- whether an output may be about each subject
 abbrev pub is_about_all : (is_foreign : Bool) → Output → Bool
 is_about_all is_foreign (turns.Answer its outcome) = is_foreign && tells_fields outcome

@@ -1,23 +1,23 @@
--- After the client's step each subject counts as it did, once it has heard the outputs; who is not visited is still (`still_stays`), and
--- quiet if it does not wait (`quiet_stays`), and so after the visits of others (`after_visits`).
+-- After the client's step each subject counts as it did, once it has heard the outputs; who is not visited is still (`stays_after`), and
+-- quiet if it does not wait (`rests_after`), and so after the visits of others (`after_visits`).
 use Rattle.std.proofs.lemmas.List.{map-append}
-use Rattle.std.proofs.Common.{◌≡◌, ◌<◌, ◌∙◌, ◌++◌, ℕ, true, ap, arith, get_or, length, sym, subst}
+use Rattle.std.proofs.Common.{◌≡◌, ◌<◌, ◌∙◌, ◌++◌, true, ap, arith, get_or, length, refl, sym, subst}
 use Rattle.std.specs.Prelude.{All}
-use Rattle.std.specs.List.{list_any}
 use Rattle.zk_client.specs.Clients.{view_of}
 use Rattle.zk_client.specs.Views.{input_view, output_view, said, turn_of}
-use Rattle.zk_follow.specs.Following.{heard_all, how_many_reading, is_among, is_quiet, is_still, AreVisited, IsCounted}
+use Rattle.zk_follow.specs.Following.{heard_all, how_many_reading, is_quiet, is_still, AreQuiet, AreQuietBut, AreStillBut, AreVisited}
+use Rattle.zk_follow.specs.Following.{IsCounted}
 use Rattle.zk_follow.specs.inner.Following.{Reads}
-use Rattle.zk_follow.specs.inner.Places.{HasEach}
-use Rattle.zk_follow.specs.inner.Resting.{is_about, is_beside, AreLeft}
 use Rattle.zk_follow.proofs.Visiting.{all_ahead, all_counted, going_at, steps}
-use Rattle.zk_follow.proofs.Finding.{after_visits, awake_also, found_visited, left_by, quiet_stays, still_stays, stirred_quiet}
+use Rattle.zk_follow.proofs.Finding.{after_visits, found_visited}
+use Rattle.zk_follow.proofs.Passing.{quiet_followed}
 use Rattle.zk_follow.proofs.Resting.{quiet_parts}
-use Rattle.zk_follow.proofs.Silent.{none_of_both, none_said, silent_ahead, silent_counted, silent_followed, silent_quiet, silent_steps}
-use Rattle.zk_follow.proofs.Silent.{silent_still}
-use Rattle.zk_follow.proofs.Still.{among_all, among_first, among_left, quiet_on, still_on}
+use Rattle.zk_follow.proofs.Silent.{left_after, none_after, none_of_both, over_after, quiet_but, quiet_counted, quiet_still, rests_after}
+use Rattle.zk_follow.proofs.Silent.{stays_after, steps_over}
+use Rattle.zk_follow.proofs.Still.{among_all, among_left, quiet_on, still_on}
 use Rattle.zk_follow.proofs.Breaking.{after_step, after_turns, beside, err_always, within_step}
 use Rattle.zk_follow.proofs.follower.advance_all.Goals as goal
+use Rattle.zk_follow.proofs.follower.advance_all.Goals.{After-is_nobody, After-is_over, In_ok-awake}
 
 pub returns-in_default-clause-broke : goal.returns-in_default-clause-broke
 returns-in_default-clause-broke g c =
@@ -29,10 +29,10 @@ returns-in_err-stir-clause-broke g c =
     err_always c.from_residual.result (after_step c.args.now (view_of c.args.client.now)
     (turn_of c.args.input c.step_at_into.new.outputs.items) here here c.in-Ok.ensures.rule (beside here))
 
-pub returns-in_err-places-clause-broke : goal.returns-in_err-places-clause-broke
-returns-in_err-places-clause-broke g c =
+pub returns-in_err-awake-clause-broke : goal.returns-in_err-awake-clause-broke
+returns-in_err-awake-clause-broke g c =
     let here = view_of c.step_at_into.new.self in
-    err_always c.from_residual-in_err-places.result (after_step c.args.now (view_of c.args.client.now)
+    err_always c.from_residual-in_err-awake.result (after_step c.args.now (view_of c.args.client.now)
     (turn_of c.args.input c.step_at_into.new.outputs.items) here here c.in-Ok.ensures.rule (beside here))
 
 pub visit_all-requires-clause-counted : goal.visit_all-requires-clause-counted
@@ -48,78 +48,48 @@ visit_all-requires-clause-goes_on g c =
     (view_of c.step_at_into.new.self) c.in-Ok.ensures.rule
 
 pub visit_all-requires-clause-ascend : goal.visit_all-requires-clause-ascend
-visit_all-requires-clause-ascend g c = c.in_ok-places.ensures.ascend
+visit_all-requires-clause-ascend g c = c.in_ok-awake.ensures.ascend
 
 pub visit_all-requires-clause-below : goal.visit_all-requires-clause-below
 visit_all-requires-clause-below g c =
-    subst (λ count. All (λ at. at < count) c.in_ok-places.places.items) c.requires.count
-    c.in_ok-places.ensures.below
+    subst (λ count. All (λ at. at < count) c.in_ok-awake.field-0.items) c.requires.count
+    c.in_ok-awake.ensures.below
+
+-- what the client's step leaves of those that the index does not find
+places_rest : (g : _) (c : In_ok-awake g) → AreQuietBut (view_of c.step_at_into.new.self) c.args.index.now.count c.args.subjects.now
+    (c.in_ok-awake.field-0.items ++ c.stir.new.waiting.items)
+places_rest g c =
+    rests_after c.args.index.now c.args.subjects.now c.requires.count c.args.is_foreign c.args.now (view_of c.args.client.now)
+    (input_view c.args.input) c.as_slice-heard.result.now c.step_at_into.new.outputs.items c.as_slice-heard.ensures.value
+    (view_of c.step_at_into.new.self) c.in-Ok.ensures.rule c.requires.asks c.requires.own
+    c.in_ok-awake.field-0.items c.in_ok-awake.ensures.about c.in_ok-awake.ensures.beside
+    c.args.awake.now.items c.args.waiting.now.items c.stir.new.awake.items c.stir.new.waiting.items
+    c.as_slice-2.result.now c.as_slice-2.ensures.value c.in_ok-awake.ensures.had c.requires.rest c.in_ok-stir.ensures.kept
+
+places_still : (g : _) (c : In_ok-awake g)
+    → AreStillBut (view_of c.step_at_into.new.self) c.args.index.now.count c.args.subjects.now c.in_ok-awake.field-0.items
+places_still g c =
+    stays_after c.args.index.now c.args.subjects.now c.requires.count c.args.is_foreign c.args.now (view_of c.args.client.now)
+    (input_view c.args.input) c.as_slice-heard.result.now c.step_at_into.new.outputs.items c.as_slice-heard.ensures.value
+    (view_of c.step_at_into.new.self) c.in-Ok.ensures.rule c.requires.asks c.requires.own
+    c.in_ok-awake.field-0.items c.in_ok-awake.ensures.about c.in_ok-awake.ensures.beside
+    c.args.awake.now.items c.args.waiting.now.items c.stir.new.awake.items c.stir.new.waiting.items
+    c.as_slice-2.result.now c.as_slice-2.ensures.value c.in_ok-awake.ensures.had c.requires.rest
+    c.in_ok-stir.ensures.had c.in_ok-stir.ensures.stirred c.requires.still
 
 pub visit_all-requires-clause-left : goal.visit_all-requires-clause-left
 visit_all-requires-clause-left g c =
-    let index = c.args.index.now in
-    let first = c.args.subjects.now in
-    let awake = c.stir.new.awake.items in
-    let waiting = c.stir.new.waiting.items in
-    let places = c.in_ok-places.places.items in
-    let view = view_of c.args.client.now in
-    let here = view_of c.step_at_into.new.self in
-    let turn = turn_of c.args.input c.step_at_into.new.outputs.items in
-    let had = subst (λ some. (at : ℕ) → at < index.count → is_among at some ≡ true → is_among at places ≡ true)
-    c.as_slice-2.ensures.value c.in_ok-places.ensures.had in
-    let about = subst (λ outputs. HasEach (λ s. list_any (is_about c.args.is_foreign first s.ticket s.path) (said outputs))
-    index.count first places)
-    c.as_slice-heard.ensures.value c.in_ok-places.ensures.about in
-    let beside = subst (λ outputs. HasEach (λ s. list_any (is_beside first s.path) (said outputs)) index.count first places)
-    c.as_slice-heard.ensures.value c.in_ok-places.ensures.beside in
-    let stays = still_stays index first c.requires.count c.args.is_foreign c.args.now view turn here
-    c.in-Ok.ensures.rule c.requires.asks c.requires.own places about beside awake
-    (stirred_quiet index first c.requires.count view c.args.is_foreign c.as_slice-heard.result.now
-    c.step_at_into.new.outputs.items c.as_slice-heard.ensures.value c.args.awake.now.items c.args.waiting.now.items awake
-    c.in_ok-stir.ensures.stirred c.requires.rest)
-    (awake_also (is_still view) index.count first c.args.awake.now.items awake
-    (λ at fits. c.in_ok-stir.ensures.had at (omega (arith, fits, c.requires.count))) c.requires.still) had in
-    let rests = quiet_stays index first c.requires.count c.args.is_foreign c.args.now view turn here
-    c.in-Ok.ensures.rule c.requires.asks c.requires.own places about beside (awake ++ waiting) (places ++ waiting)
-    (awake_also (is_quiet view) index.count first (c.args.awake.now.items ++ c.args.waiting.now.items) (awake ++ waiting)
-    (λ at fits. among_all at c.args.awake.now.items c.args.waiting.now.items awake waiting
-    (c.in_ok-stir.ensures.kept at (omega (arith, fits, c.requires.count)))) c.requires.rest)
-    (λ at fits. among_first at awake places waiting (had at fits)) (λ at. among_left at places waiting) in
-    let left = left_by index first c.requires.count c.args.is_foreign c.args.now view turn here
-    c.in-Ok.ensures.rule c.requires.asks c.requires.own places about beside stays in
-    subst (λ outputs. AreLeft here (said outputs) first places) (sym c.as_slice-heard.ensures.value) left
+    left_after c.args.index.now c.args.subjects.now c.requires.count c.args.is_foreign c.args.now (view_of c.args.client.now)
+    (input_view c.args.input) c.as_slice-heard.result.now c.step_at_into.new.outputs.items c.as_slice-heard.ensures.value
+    (view_of c.step_at_into.new.self) c.in-Ok.ensures.rule c.requires.asks c.requires.own
+    c.in_ok-awake.field-0.items c.in_ok-awake.ensures.about c.in_ok-awake.ensures.beside
+    (places_still g (goal.at.visit_all-requires-clause-left g c).In_ok-awake)
 
 pub visit_all-requires-clause-rest : goal.visit_all-requires-clause-rest
 visit_all-requires-clause-rest g c =
-    let index = c.args.index.now in
-    let first = c.args.subjects.now in
-    let awake = c.stir.new.awake.items in
-    let waiting = c.stir.new.waiting.items in
-    let places = c.in_ok-places.places.items in
-    let view = view_of c.args.client.now in
-    let here = view_of c.step_at_into.new.self in
-    let turn = turn_of c.args.input c.step_at_into.new.outputs.items in
-    let had = subst (λ some. (at : ℕ) → at < index.count → is_among at some ≡ true → is_among at places ≡ true)
-    c.as_slice-2.ensures.value c.in_ok-places.ensures.had in
-    let about = subst (λ outputs. HasEach (λ s. list_any (is_about c.args.is_foreign first s.ticket s.path) (said outputs))
-    index.count first places)
-    c.as_slice-heard.ensures.value c.in_ok-places.ensures.about in
-    let beside = subst (λ outputs. HasEach (λ s. list_any (is_beside first s.path) (said outputs)) index.count first places)
-    c.as_slice-heard.ensures.value c.in_ok-places.ensures.beside in
-    let stays = still_stays index first c.requires.count c.args.is_foreign c.args.now view turn here
-    c.in-Ok.ensures.rule c.requires.asks c.requires.own places about beside awake
-    (stirred_quiet index first c.requires.count view c.args.is_foreign c.as_slice-heard.result.now
-    c.step_at_into.new.outputs.items c.as_slice-heard.ensures.value c.args.awake.now.items c.args.waiting.now.items awake
-    c.in_ok-stir.ensures.stirred c.requires.rest)
-    (awake_also (is_still view) index.count first c.args.awake.now.items awake
-    (λ at fits. c.in_ok-stir.ensures.had at (omega (arith, fits, c.requires.count))) c.requires.still) had in
-    let rests = quiet_stays index first c.requires.count c.args.is_foreign c.args.now view turn here
-    c.in-Ok.ensures.rule c.requires.asks c.requires.own places about beside (awake ++ waiting) (places ++ waiting)
-    (awake_also (is_quiet view) index.count first (c.args.awake.now.items ++ c.args.waiting.now.items) (awake ++ waiting)
-    (λ at fits. among_all at c.args.awake.now.items c.args.waiting.now.items awake waiting
-    (c.in_ok-stir.ensures.kept at (omega (arith, fits, c.requires.count)))) c.requires.rest)
-    (λ at fits. among_first at awake places waiting (had at fits)) (λ at. among_left at places waiting) in
-    λ k d within none. (quiet_parts here (get_or first k d) (rests k d (omega (arith, within, c.requires.count)) none)).0
+    let rests = places_rest g (goal.at.visit_all-requires-clause-rest g c).In_ok-awake in
+    λ k d within none. (quiet_parts (view_of c.step_at_into.new.self) (get_or c.args.subjects.now k d)
+    (rests k d (omega (arith, within, c.requires.count)) none)).0
 
 pub returns-in-Ok-append-clause-found : goal.returns-in-Ok-append-clause-found
 returns-in-Ok-append-clause-found g c =
@@ -128,79 +98,27 @@ returns-in-Ok-append-clause-found g c =
 
 pub returns-in-Ok-append-clause-still : goal.returns-in-Ok-append-clause-still
 returns-in-Ok-append-clause-still g c =
-    let index = c.args.index.now in
-    let first = c.args.subjects.now in
-    let awake = c.stir.new.awake.items in
-    let waiting = c.stir.new.waiting.items in
-    let places = c.in_ok-places.places.items in
-    let view = view_of c.args.client.now in
     let here = view_of c.step_at_into.new.self in
-    let turn = turn_of c.args.input c.step_at_into.new.outputs.items in
-    let had = subst (λ some. (at : ℕ) → at < index.count → is_among at some ≡ true → is_among at places ≡ true)
-    c.as_slice-2.ensures.value c.in_ok-places.ensures.had in
-    let about = subst (λ outputs. HasEach (λ s. list_any (is_about c.args.is_foreign first s.ticket s.path) (said outputs))
-    index.count first places)
-    c.as_slice-heard.ensures.value c.in_ok-places.ensures.about in
-    let beside = subst (λ outputs. HasEach (λ s. list_any (is_beside first s.path) (said outputs)) index.count first places)
-    c.as_slice-heard.ensures.value c.in_ok-places.ensures.beside in
-    let stays = still_stays index first c.requires.count c.args.is_foreign c.args.now view turn here
-    c.in-Ok.ensures.rule c.requires.asks c.requires.own places about beside awake
-    (stirred_quiet index first c.requires.count view c.args.is_foreign c.as_slice-heard.result.now
-    c.step_at_into.new.outputs.items c.as_slice-heard.ensures.value c.args.awake.now.items c.args.waiting.now.items awake
-    c.in_ok-stir.ensures.stirred c.requires.rest)
-    (awake_also (is_still view) index.count first c.args.awake.now.items awake
-    (λ at fits. c.in_ok-stir.ensures.had at (omega (arith, fits, c.requires.count))) c.requires.still) had in
-    let rests = quiet_stays index first c.requires.count c.args.is_foreign c.args.now view turn here
-    c.in-Ok.ensures.rule c.requires.asks c.requires.own places about beside (awake ++ waiting) (places ++ waiting)
-    (awake_also (is_quiet view) index.count first (c.args.awake.now.items ++ c.args.waiting.now.items) (awake ++ waiting)
-    (λ at fits. among_all at c.args.awake.now.items c.args.waiting.now.items awake waiting
-    (c.in_ok-stir.ensures.kept at (omega (arith, fits, c.requires.count)))) c.requires.rest)
-    (λ at fits. among_first at awake places waiting (had at fits)) (λ at. among_left at places waiting) in
     let after = view_of c.visit_all.new.client in
     let new = c.visit_all.new.places.items in
-    after_visits (is_still here) (is_still after) (λ s. still_on here after s c.in_ok-visit_all.ensures.asks) index.count first
-    c.visit_all.new.subjects places new new
+    after_visits (is_still here) (is_still after) (λ s. still_on here after s c.in_ok-visit_all.ensures.asks) c.args.index.now.count
+    c.args.subjects.now c.visit_all.new.subjects c.in_ok-awake.field-0.items new new
     (λ at fits. c.in_ok-visit_all.ensures.had at (omega (arith, fits, c.requires.count))) (λ at e. e)
-    c.in_ok-visit_all.ensures.left stays
+    c.in_ok-visit_all.ensures.left (places_still g (goal.at.returns-in-Ok-append-clause-still g c).In_ok-awake)
 
 pub returns-in-Ok-append-clause-rest : goal.returns-in-Ok-append-clause-rest
 returns-in-Ok-append-clause-rest g c =
-    let index = c.args.index.now in
-    let first = c.args.subjects.now in
-    let awake = c.stir.new.awake.items in
+    let places = c.in_ok-awake.field-0.items in
     let waiting = c.stir.new.waiting.items in
-    let places = c.in_ok-places.places.items in
-    let view = view_of c.args.client.now in
     let here = view_of c.step_at_into.new.self in
-    let turn = turn_of c.args.input c.step_at_into.new.outputs.items in
-    let had = subst (λ some. (at : ℕ) → at < index.count → is_among at some ≡ true → is_among at places ≡ true)
-    c.as_slice-2.ensures.value c.in_ok-places.ensures.had in
-    let about = subst (λ outputs. HasEach (λ s. list_any (is_about c.args.is_foreign first s.ticket s.path) (said outputs))
-    index.count first places)
-    c.as_slice-heard.ensures.value c.in_ok-places.ensures.about in
-    let beside = subst (λ outputs. HasEach (λ s. list_any (is_beside first s.path) (said outputs)) index.count first places)
-    c.as_slice-heard.ensures.value c.in_ok-places.ensures.beside in
-    let stays = still_stays index first c.requires.count c.args.is_foreign c.args.now view turn here
-    c.in-Ok.ensures.rule c.requires.asks c.requires.own places about beside awake
-    (stirred_quiet index first c.requires.count view c.args.is_foreign c.as_slice-heard.result.now
-    c.step_at_into.new.outputs.items c.as_slice-heard.ensures.value c.args.awake.now.items c.args.waiting.now.items awake
-    c.in_ok-stir.ensures.stirred c.requires.rest)
-    (awake_also (is_still view) index.count first c.args.awake.now.items awake
-    (λ at fits. c.in_ok-stir.ensures.had at (omega (arith, fits, c.requires.count))) c.requires.still) had in
-    let rests = quiet_stays index first c.requires.count c.args.is_foreign c.args.now view turn here
-    c.in-Ok.ensures.rule c.requires.asks c.requires.own places about beside (awake ++ waiting) (places ++ waiting)
-    (awake_also (is_quiet view) index.count first (c.args.awake.now.items ++ c.args.waiting.now.items) (awake ++ waiting)
-    (λ at fits. among_all at c.args.awake.now.items c.args.waiting.now.items awake waiting
-    (c.in_ok-stir.ensures.kept at (omega (arith, fits, c.requires.count)))) c.requires.rest)
-    (λ at fits. among_first at awake places waiting (had at fits)) (λ at. among_left at places waiting) in
     let after = view_of c.visit_all.new.client in
     let new = c.visit_all.new.places.items in
     let last = c.visit_all.new.waiting.items in
-    after_visits (is_quiet here) (is_quiet after) (λ s. quiet_on here after s c.in_ok-visit_all.ensures.asks) index.count first
-    c.visit_all.new.subjects (places ++ waiting) new (new ++ last)
+    after_visits (is_quiet here) (is_quiet after) (λ s. quiet_on here after s c.in_ok-visit_all.ensures.asks) c.args.index.now.count
+    c.args.subjects.now c.visit_all.new.subjects (places ++ waiting) new (new ++ last)
     (λ at fits. among_all at places waiting new last (c.in_ok-visit_all.ensures.kept at (omega (arith, fits, c.requires.count))))
     (λ at. among_left at new last)
-    c.in_ok-visit_all.ensures.left rests
+    c.in_ok-visit_all.ensures.left (places_rest g (goal.at.returns-in-Ok-append-clause-rest g c).In_ok-awake)
 
 pub returns-in-Ok-append-clause-steps : goal.returns-in-Ok-append-clause-steps
 returns-in-Ok-append-clause-steps g c =
@@ -236,80 +154,91 @@ returns-clause-broke g c =
     after_step c.args.now (view_of c.args.client.now) (turn_of c.args.input c.step_at_into.new.outputs.items) here new
     c.in-Ok.ensures.rule (after_turns reads.calls here new new reads.chain (beside new))
 
+-- where no output is about a subject, and nobody was awake or waited
+over : (g : _) (c : After-is_over g) → c.is_over.result ≡ true → AreQuiet (view_of c.step_at_into.new.self) c.args.subjects.now
+    × AreVisited c.args.now (said c.step_at_into.new.outputs.items) c.args.subjects.now c.args.subjects.now
+over g c is =
+    over_after c.args.index.now c.args.subjects.now c.requires.count c.args.is_foreign c.args.now (view_of c.args.client.now)
+    (input_view c.args.input) c.as_slice-heard.result.now c.step_at_into.new.outputs.items c.as_slice-heard.ensures.value
+    (view_of c.step_at_into.new.self) c.in-Ok.ensures.rule c.requires.asks c.requires.own
+    (c.is_over.ensures.heard is) (c.args.awake.now.items ++ c.args.waiting.now.items)
+    (none_of_both c.args.awake.now.items c.args.waiting.now.items
+    (subst (λ its. length its ≡ 0) c.as_slice.ensures.value (c.is_over.ensures.awake is)) (c.is_over.ensures.waiting is))
+    c.requires.rest
+
 pub returns-then-is_over-clause-followed : goal.returns-then-is_over-clause-followed
 returns-then-is_over-clause-followed g c =
-    silent_followed c.args.index.now c.args.subjects.now c.requires.count c.args.is_foreign c.args.now (view_of c.args.client.now)
-    (input_view c.args.input) (said c.step_at_into.new.outputs.items) (view_of c.step_at_into.new.self) c.in-Ok.ensures.rule
-    c.requires.asks c.requires.own
-    (none_said c.as_slice-heard.result.now c.step_at_into.new.outputs.items c.as_slice-heard.ensures.value
-    (c.is_over.ensures.heard c.if-is_over.true))
-    (c.args.awake.now.items ++ c.args.waiting.now.items)
-    (none_of_both c.args.awake.now.items c.args.waiting.now.items
-    (subst (λ its. length its ≡ 0) c.as_slice.ensures.value (c.is_over.ensures.awake c.if-is_over.true))
-    (c.is_over.ensures.waiting c.if-is_over.true))
-    c.requires.rest
+    quiet_followed c.args.now (view_of c.step_at_into.new.self) c.args.subjects.now
+    (over g (goal.at.returns-then-is_over-clause-followed g c).After-is_over c.if-is_over.true).0
 
 pub returns-then-is_over-clause-counted : goal.returns-then-is_over-clause-counted
 returns-then-is_over-clause-counted g c =
-    silent_counted c.args.index.now c.args.subjects.now c.requires.count c.args.is_foreign c.args.now (view_of c.args.client.now)
-    (input_view c.args.input) (said c.step_at_into.new.outputs.items) (view_of c.step_at_into.new.self) c.in-Ok.ensures.rule
-    c.requires.asks c.requires.own
-    (none_said c.as_slice-heard.result.now c.step_at_into.new.outputs.items c.as_slice-heard.ensures.value
-    (c.is_over.ensures.heard c.if-is_over.true))
-    (c.args.awake.now.items ++ c.args.waiting.now.items)
-    (none_of_both c.args.awake.now.items c.args.waiting.now.items
-    (subst (λ its. length its ≡ 0) c.as_slice.ensures.value (c.is_over.ensures.awake c.if-is_over.true))
-    (c.is_over.ensures.waiting c.if-is_over.true))
-    c.requires.rest c.requires.counted
+    quiet_counted c.args.index.now c.args.subjects.now c.requires.count (view_of c.step_at_into.new.self)
+    (over g (goal.at.returns-then-is_over-clause-counted g c).After-is_over c.if-is_over.true).0
 
 pub returns-then-is_over-clause-still : goal.returns-then-is_over-clause-still
 returns-then-is_over-clause-still g c =
-    silent_still c.args.index.now c.args.subjects.now c.requires.count c.args.is_foreign c.args.now (view_of c.args.client.now)
-    (input_view c.args.input) (said c.step_at_into.new.outputs.items) (view_of c.step_at_into.new.self) c.in-Ok.ensures.rule
-    c.requires.asks c.requires.own
-    (none_said c.as_slice-heard.result.now c.step_at_into.new.outputs.items c.as_slice-heard.ensures.value
-    (c.is_over.ensures.heard c.if-is_over.true))
-    (c.args.awake.now.items ++ c.args.waiting.now.items)
-    (none_of_both c.args.awake.now.items c.args.waiting.now.items
-    (subst (λ its. length its ≡ 0) c.as_slice.ensures.value (c.is_over.ensures.awake c.if-is_over.true))
-    (c.is_over.ensures.waiting c.if-is_over.true))
-    c.requires.rest c.args.awake.now.items
+    quiet_still c.args.index.now c.args.subjects.now c.requires.count (view_of c.step_at_into.new.self)
+    (over g (goal.at.returns-then-is_over-clause-still g c).After-is_over c.if-is_over.true).0 c.args.awake.now.items
 
 pub returns-then-is_over-clause-rest : goal.returns-then-is_over-clause-rest
 returns-then-is_over-clause-rest g c =
-    silent_quiet c.args.index.now c.args.subjects.now c.requires.count c.args.is_foreign c.args.now (view_of c.args.client.now)
-    (input_view c.args.input) (said c.step_at_into.new.outputs.items) (view_of c.step_at_into.new.self) c.in-Ok.ensures.rule
-    c.requires.asks c.requires.own
-    (none_said c.as_slice-heard.result.now c.step_at_into.new.outputs.items c.as_slice-heard.ensures.value
-    (c.is_over.ensures.heard c.if-is_over.true))
+    quiet_but c.args.index.now c.args.subjects.now c.requires.count (view_of c.step_at_into.new.self)
+    (over g (goal.at.returns-then-is_over-clause-rest g c).After-is_over c.if-is_over.true).0
     (c.args.awake.now.items ++ c.args.waiting.now.items)
-    (none_of_both c.args.awake.now.items c.args.waiting.now.items
-    (subst (λ its. length its ≡ 0) c.as_slice.ensures.value (c.is_over.ensures.awake c.if-is_over.true))
-    (c.is_over.ensures.waiting c.if-is_over.true))
-    c.requires.rest (c.args.awake.now.items ++ c.args.waiting.now.items)
 
 pub returns-then-is_over-clause-ahead : goal.returns-then-is_over-clause-ahead
 returns-then-is_over-clause-ahead g c =
-    silent_ahead c.args.index.now c.args.subjects.now c.requires.count c.args.is_foreign c.args.now (view_of c.args.client.now)
-    (input_view c.args.input) (said c.step_at_into.new.outputs.items) (view_of c.step_at_into.new.self) c.in-Ok.ensures.rule
-    c.requires.asks c.requires.own
-    (none_said c.as_slice-heard.result.now c.step_at_into.new.outputs.items c.as_slice-heard.ensures.value
-    (c.is_over.ensures.heard c.if-is_over.true))
-    (c.args.awake.now.items ++ c.args.waiting.now.items)
-    (none_of_both c.args.awake.now.items c.args.waiting.now.items
-    (subst (λ its. length its ≡ 0) c.as_slice.ensures.value (c.is_over.ensures.awake c.if-is_over.true))
-    (c.is_over.ensures.waiting c.if-is_over.true))
-    c.requires.rest c.ranges.now.fits
+    all_ahead c.args.now c.ranges.now.fits (said c.step_at_into.new.outputs.items) c.args.subjects.now c.args.subjects.now refl
+    (over g (goal.at.returns-then-is_over-clause-ahead g c).After-is_over c.if-is_over.true).1
 
 pub returns-then-is_over-clause-steps : goal.returns-then-is_over-clause-steps
 returns-then-is_over-clause-steps g c =
-    silent_steps c.args.index.now c.args.subjects.now c.requires.count c.args.is_foreign c.args.now (view_of c.args.client.now)
-    (input_view c.args.input) (said c.step_at_into.new.outputs.items) (view_of c.step_at_into.new.self) c.in-Ok.ensures.rule
-    c.requires.asks c.requires.own
-    (none_said c.as_slice-heard.result.now c.step_at_into.new.outputs.items c.as_slice-heard.ensures.value
-    (c.is_over.ensures.heard c.if-is_over.true))
-    (c.args.awake.now.items ++ c.args.waiting.now.items)
-    (none_of_both c.args.awake.now.items c.args.waiting.now.items
-    (subst (λ its. length its ≡ 0) c.as_slice.ensures.value (c.is_over.ensures.awake c.if-is_over.true))
-    (c.is_over.ensures.waiting c.if-is_over.true))
-    c.requires.rest
+    steps_over c.args.now (view_of c.args.client.now) (input_view c.args.input) (said c.step_at_into.new.outputs.items)
+    (view_of c.step_at_into.new.self) c.args.subjects.now c.in-Ok.ensures.rule
+    (over g (goal.at.returns-then-is_over-clause-steps g c).After-is_over c.if-is_over.true).1
+
+-- where the index finds none, and none waits
+nobody : (g : _) (c : After-is_nobody g) → c.is_nobody.result ≡ true → AreQuietBut (view_of c.step_at_into.new.self)
+    c.args.index.now.count c.args.subjects.now (c.in_ok-awake.field-0.items ++ c.stir.new.waiting.items)
+    → AreQuiet (view_of c.step_at_into.new.self) c.args.subjects.now
+    × AreVisited c.args.now (said c.step_at_into.new.outputs.items) c.args.subjects.now c.args.subjects.now
+nobody g c is rests =
+    let places = c.in_ok-awake.field-0.items in
+    let none : length places ≡ 0 = subst (λ its. length its ≡ 0) c.as_slice-3.ensures.value (c.is_nobody.ensures.places is) in
+    none_after c.args.index.now c.args.subjects.now c.requires.count c.args.is_foreign c.args.now (view_of c.args.client.now)
+    (input_view c.args.input) c.as_slice-heard.result.now c.step_at_into.new.outputs.items c.as_slice-heard.ensures.value
+    (view_of c.step_at_into.new.self) c.in-Ok.ensures.rule c.requires.asks c.requires.own
+    places c.in_ok-awake.ensures.about c.in_ok-awake.ensures.beside none (places ++ c.stir.new.waiting.items)
+    (none_of_both places c.stir.new.waiting.items none (c.is_nobody.ensures.waiting is)) rests
+
+pub returns-then-is_nobody-clause-followed : goal.returns-then-is_nobody-clause-followed
+returns-then-is_nobody-clause-followed g c =
+    quiet_followed c.args.now (view_of c.step_at_into.new.self) c.args.subjects.now
+    (nobody g (goal.at.returns-then-is_nobody-clause-followed g c).After-is_nobody c.if-is_nobody.true
+    (places_rest g (goal.at.returns-then-is_nobody-clause-followed g c).In_ok-awake)).0
+
+pub returns-then-is_nobody-clause-counted : goal.returns-then-is_nobody-clause-counted
+returns-then-is_nobody-clause-counted g c =
+    quiet_counted c.args.index.now c.args.subjects.now c.requires.count (view_of c.step_at_into.new.self)
+    (nobody g (goal.at.returns-then-is_nobody-clause-counted g c).After-is_nobody c.if-is_nobody.true
+    (places_rest g (goal.at.returns-then-is_nobody-clause-counted g c).In_ok-awake)).0
+
+pub returns-then-is_nobody-clause-still : goal.returns-then-is_nobody-clause-still
+returns-then-is_nobody-clause-still g c = places_still g (goal.at.returns-then-is_nobody-clause-still g c).In_ok-awake
+
+pub returns-then-is_nobody-clause-rest : goal.returns-then-is_nobody-clause-rest
+returns-then-is_nobody-clause-rest g c = places_rest g (goal.at.returns-then-is_nobody-clause-rest g c).In_ok-awake
+
+pub returns-then-is_nobody-clause-ahead : goal.returns-then-is_nobody-clause-ahead
+returns-then-is_nobody-clause-ahead g c =
+    all_ahead c.args.now c.ranges.now.fits (said c.step_at_into.new.outputs.items) c.args.subjects.now c.args.subjects.now refl
+    (nobody g (goal.at.returns-then-is_nobody-clause-ahead g c).After-is_nobody c.if-is_nobody.true
+    (places_rest g (goal.at.returns-then-is_nobody-clause-ahead g c).In_ok-awake)).1
+
+pub returns-then-is_nobody-clause-steps : goal.returns-then-is_nobody-clause-steps
+returns-then-is_nobody-clause-steps g c =
+    steps_over c.args.now (view_of c.args.client.now) (input_view c.args.input) (said c.step_at_into.new.outputs.items)
+    (view_of c.step_at_into.new.self) c.args.subjects.now c.in-Ok.ensures.rule
+    (nobody g (goal.at.returns-then-is_nobody-clause-steps g c).After-is_nobody c.if-is_nobody.true
+    (places_rest g (goal.at.returns-then-is_nobody-clause-steps g c).In_ok-awake)).1

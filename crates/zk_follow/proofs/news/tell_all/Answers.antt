@@ -14,6 +14,21 @@ use Rattle.zk_follow.proofs.Finding.{found_told, told_but, told_by}
 use Rattle.zk_follow.proofs.Silent.{nothing_new}
 use Rattle.zk_follow.proofs.Still.{among_both, among_or, among_told}
 use Rattle.zk_follow.proofs.news.tell_all.Goals as goal
+use Rattle.zk_follow.proofs.news.tell_all.Goals.{In_ok-places}
+
+-- who is awake is among those who are told of, and of others there is nothing to tell
+had_awake : (g : _) (c : In_ok-places g) → (at : ℕ) → at < c.fit_all.new.index.count
+    → is_among at c.fit_all.new.awake.items ≡ true → is_among at c.in_ok-places.places.items ≡ true
+had_awake g c =
+    subst (λ some. (at : ℕ) → at < c.fit_all.new.index.count → is_among at some ≡ true → is_among at c.in_ok-places.places.items ≡ true)
+    c.as_slice-2.ensures.value c.in_ok-places.ensures.had
+
+are_told : (g : _) (c : In_ok-places g)
+    → AreTold (view_of c.args.client.now) (said c.args.outputs.now) c.args.subjects.now c.in_ok-places.places.items
+are_told g c =
+    told_by c.fit_all.new.index c.args.subjects.now c.in_ok-fit_all.ensures.count (view_of c.args.client.now) c.args.outputs.now
+    c.fit_all.new.awake.items c.in_ok-places.places.items
+    (c.in_ok-fit_all.ensures.still (view_of c.args.client.now) c.requires.still) (had_awake g c) c.in_ok-places.ensures.named
 
 pub tell_each-requires-clause-ascend : goal.tell_each-requires-clause-ascend
 tell_each-requires-clause-ascend g c = subst IsAscending (sym c.as_slice-3.ensures.value) c.in_ok-places.ensures.ascend
@@ -25,14 +40,8 @@ tell_each-requires-clause-below g c =
 
 pub tell_each-requires-clause-told : goal.tell_each-requires-clause-told
 tell_each-requires-clause-told g c =
-    let places = c.in_ok-places.places.items in
-    let index = c.fit_all.new.index in
-    let view = view_of c.args.client.now in
-    let had = subst (λ some. (at : ℕ) → at < index.count → is_among at some ≡ true → is_among at places ≡ true)
-    c.as_slice-2.ensures.value c.in_ok-places.ensures.had in
-    let told = told_by index c.args.subjects.now c.in_ok-fit_all.ensures.count view c.args.outputs.now c.fit_all.new.awake.items places
-    (c.in_ok-fit_all.ensures.still view c.requires.still) had c.in_ok-places.ensures.named in
-    subst (AreTold view (said c.args.outputs.now) c.args.subjects.now) (sym c.as_slice-3.ensures.value) told
+    subst (AreTold (view_of c.args.client.now) (said c.args.outputs.now) c.args.subjects.now) (sym c.as_slice-3.ensures.value)
+    (are_told g (goal.at.tell_each-requires-clause-told g c).In_ok-places)
 
 pub awake_among-requires : goal.awake_among-requires
 awake_among-requires g c =
@@ -50,10 +59,8 @@ returns-clause-still g c =
     let places = c.in_ok-places.places.items in
     let index = c.fit_all.new.index in
     let view = view_of c.args.client.now in
-    let had = subst (λ some. (at : ℕ) → at < index.count → is_among at some ≡ true → is_among at places ≡ true)
-    c.as_slice-2.ensures.value c.in_ok-places.ensures.had in
-    let told = told_by index c.args.subjects.now c.in_ok-fit_all.ensures.count view c.args.outputs.now c.fit_all.new.awake.items places
-    (c.in_ok-fit_all.ensures.still view c.requires.still) had c.in_ok-places.ensures.named in
+    let had = had_awake g (goal.at.returns-clause-still g c).In_ok-places in
+    let told = are_told g (goal.at.returns-clause-still g c).In_ok-places in
     let awake = c.in_ok-awake.field-0.items in
     told_but (is_still view) view (said c.args.outputs.now) index.count c.args.subjects.now c.tell_each.new.subjects places
     c.fit_all.new.awake.items awake c.in_ok-fit_all.ensures.count c.in_ok-tell_each.ensures.told told
@@ -66,10 +73,8 @@ returns-clause-rest g c =
     let places = c.in_ok-places.places.items in
     let index = c.fit_all.new.index in
     let view = view_of c.args.client.now in
-    let had = subst (λ some. (at : ℕ) → at < index.count → is_among at some ≡ true → is_among at places ≡ true)
-    c.as_slice-2.ensures.value c.in_ok-places.ensures.had in
-    let told = told_by index c.args.subjects.now c.in_ok-fit_all.ensures.count view c.args.outputs.now c.fit_all.new.awake.items places
-    (c.in_ok-fit_all.ensures.still view c.requires.still) had c.in_ok-places.ensures.named in
+    let had = had_awake g (goal.at.returns-clause-rest g c).In_ok-places in
+    let told = are_told g (goal.at.returns-clause-rest g c).In_ok-places in
     let awake = c.in_ok-awake.field-0.items in
     let old = c.fit_all.new.awake.items in
     let waiting = c.args.waiting.now.items in
@@ -104,8 +109,8 @@ pub returns-then-is_silent-clause-news : goal.returns-then-is_silent-clause-news
 returns-then-is_silent-clause-news g c =
     let view = view_of c.args.client.now in
     let index = c.fit_all.new.index in
-    let silent = nothing_new index c.args.subjects.now c.in_ok-fit_all.ensures.count view c.args.outputs.now
-    (nil_from_length c.args.outputs.now (c.is_silent.ensures.outputs c.if-is_silent.true)) c.fit_all.new.awake.items
+    let silent = nothing_new index c.args.subjects.now c.in_ok-fit_all.ensures.count view (said c.args.outputs.now)
+    (c.is_silent.ensures.outputs c.if-is_silent.true) c.fit_all.new.awake.items
     (subst (λ its. length its ≡ 0) c.as_slice.ensures.value (c.is_silent.ensures.awake c.if-is_silent.true))
     (c.in_ok-fit_all.ensures.still view c.requires.still) in
     sym (ap (λ news. c.args.all.now.items ++ news) silent.1 ∙ append-nil c.args.all.now.items)
@@ -114,8 +119,8 @@ pub returns-then-is_silent-clause-told : goal.returns-then-is_silent-clause-told
 returns-then-is_silent-clause-told g c =
     let view = view_of c.args.client.now in
     let index = c.fit_all.new.index in
-    let silent = nothing_new index c.args.subjects.now c.in_ok-fit_all.ensures.count view c.args.outputs.now
-    (nil_from_length c.args.outputs.now (c.is_silent.ensures.outputs c.if-is_silent.true)) c.fit_all.new.awake.items
+    let silent = nothing_new index c.args.subjects.now c.in_ok-fit_all.ensures.count view (said c.args.outputs.now)
+    (c.is_silent.ensures.outputs c.if-is_silent.true) c.fit_all.new.awake.items
     (subst (λ its. length its ≡ 0) c.as_slice.ensures.value (c.is_silent.ensures.awake c.if-is_silent.true))
     (c.in_ok-fit_all.ensures.still view c.requires.still) in
     sym silent.0
