@@ -18,8 +18,9 @@ FIRST, SECOND = ((HERE / "logs" / name).read_bytes() for name in ("log.1", "log.
 PRINTED = (HERE / "logs/printed").read_text(encoding="utf-8").splitlines(keepends=True)
 RECORDS = {13: 975, 14: 1142, 15: 1278, 16: 1390, 20: 195, 22: 402}
 """The place of the record of a zxid in its log."""
-END = 1478
-"""The place after the last record of the first log."""
+END, LATER_END = 1478, 459
+"""The place after the last record of each log."""
+Files = dict[str, bytes]
 
 
 def lines(first: int, last: int, more: int = 0) -> str:
@@ -34,7 +35,7 @@ def put(log: bytes, place: int, part: bytes) -> bytes:
 
 def with_unknown(log: bytes) -> bytes:
     """The second log with a record more, of an unknown operation, with its right checksum."""
-    return log[:459] + record(struct.pack(">qiqqi", 0, 0, 23, 0, 77)) + log[459:]
+    return log[:LATER_END] + record(struct.pack(">qiqqi", 0, 0, 23, 0, 77)) + log[LATER_END:]
 
 
 def record(entry: bytes) -> bytes:
@@ -87,6 +88,34 @@ def place_after(bodies: list[tuple[int, bytes]]) -> int:
     return END + sum(13 + 32 + len(body) + 12 for _, body in bodies)
 
 
+def with_plain(log: bytes, zxid: int, bodies: list[tuple[int, bytes]], session: int = 7) -> bytes:
+    """The log, without its zeros, with these operations more, from a zxid on, without digests."""
+    return log + b"".join(record(struct.pack(">qiqqi", session, 1, zxid + i, 8, kind) + body) for i, (kind, body) in enumerate(bodies))
+
+
+def alone(kind: int, body: bytes, session: int = 7) -> bytes:
+    """The first log with an operation more, without a digest."""
+    return with_plain(FIRST[:END], 17, [(kind, body)], session)
+
+
+Z = struct.pack(">i2s", 2, b"/z")
+MAKE = (1, CREATE)
+MAKE_OWN = (1, CREATE[:14] + b"\1" + CREATE[15:])
+SET, DELETE = (5, Z + bytes(4) + struct.pack(">i", 1)), (2, Z)
+CLOSE, CLOSE_NONE = (-11, struct.pack(">i", 1) + Z), (-11, bytes(4))
+"""The path /z; its create, one that is the session's, its set and its delete; closes that tell it, and that tell no path."""
+
+
+def later(path: str, bodies: list[tuple[int, bytes]], wanted: str, fault: str = "", at: int = 0) -> tuple[Files, str, str]:
+    """The second log alone, which begins later, with these operations more: what is told of a path, and of a fault in the last of them."""
+    whole, before = (with_plain(SECOND[:LATER_END], 23, some) for some in (bodies, bodies[:-1]))
+    told = f"|b: byte {len(before)}: {fault}\n|1" if fault else "||0"
+    words, begin = (f" --at {at}", "") if at else ("", f"unknown {path}\nunchecked b 16\n")
+    return {"b": whole}, f"--log b --path {path}{words}", f"{begin}{wanted}{told}"
+
+
+RULED_OUT = "the tree as it stands does not admit a change"
+"""What is told of an operation that what is known rules out."""
 QUIET = [(5, WRITE), *1000 * [(-10, struct.pack(">i", 9))]]
 """A write of the root, and as many transactions after it as are not compared."""
 QUIET_LINES = "17 8 7 set / \\e 1\n" + "".join(f"{zxid} 8 7 open 9\n" for zxid in range(18, 1018))
@@ -107,7 +136,6 @@ def in_next_epoch(log: bytes, before: int) -> bytes:
     return moved + log[place:]
 
 
-Files = dict[str, bytes]
 ROWS: list[tuple[str, Files, str, str]] = [
     ("both, in the order of their zxids", {"b": SECOND, "a": FIRST}, "--log b a", f"{lines(1, 22)}||0"),
     ("each by its own --log", {"b": SECOND, "a": FIRST}, "--log b --log a", f"{lines(1, 22)}||0"),
@@ -204,6 +232,40 @@ ROWS: list[tuple[str, Files, str, str]] = [
         "--log a b",
         f"{lines(1, 14)}digest b 16\n{lines(17, 22, 2**32 - 16)}{departs('b', 16, 2**32 + 1)}",
     ),
+    (
+        "an ephemeral node in logs that begin later",
+        {"b": SECOND},
+        "--log b --path /e1",
+        "unknown /e1\nunchecked b 16\n20 1795889146666 72058148326866945 create /e1 78 72058148326866945\n"
+        "22 1795889146684 72058148326866945 delete /e1\n||0",
+    ),
+    ("one that its session's close leaves out", *later("/z", [MAKE_OWN, CLOSE_NONE], "23 8 7 create /z \\e 7\n24 8 7 delete /z\n")),
+    ("the close of another session", *later("/z", [MAKE, CLOSE_NONE], "23 8 7 create /z \\e 0\n")),
+    ("a close that tells a path of which nothing is known", *later("/z", [CLOSE], "23 8 7 delete /z\n")),
+    ("a close that tells what is deleted already", *later("/z", [MAKE_OWN, DELETE, CLOSE], "23 8 7 create /z \\e 7\n24 8 7 delete /z\n")),
+    (
+        "a creation of a node that is there",
+        *later("/z", [MAKE, MAKE], "23 8 7 create /z \\e 0\nunknown /z\n24 8 7 create /z \\e 0\n", RULED_OUT),
+    ),
+    ("what is there then", *later("/z", [MAKE, MAKE], "24 8 7 create /z \\e 0\n", RULED_OUT, 24)),
+    ("what was there before", *later("/z", [MAKE, MAKE], "23 8 7 create /z \\e 0\n", at=23)),
+    ("a write of a node that is not there", *later("/z", [DELETE, SET], "23 8 7 delete /z\nunknown /z\n24 8 7 set /z \\e 1\n", RULED_OUT)),
+    ("a delete of one", *later("/z", [DELETE, DELETE], "23 8 7 delete /z\nunknown /z\n24 8 7 delete /z\n", RULED_OUT)),
+    (
+        "what comes after it",
+        {"b": with_plain(SECOND[:LATER_END], 23, [DELETE, DELETE, MAKE_OWN, CLOSE_NONE])},
+        "--log b --path /z",
+        "unknown /z\nunchecked b 16\n23 8 7 delete /z\nunknown /z\n24 8 7 delete /z\n25 8 7 create /z \\e 7\n26 8 7 delete /z\n"
+        f"|b: byte {LATER_END + 13 + 32 + len(Z)}: {RULED_OUT}\n|1",
+    ),
+    (
+        "a part that cannot be read",
+        {"a": alone(14, struct.pack(">iii", 1, 77, 0))},
+        "--log a",
+        f"|a: byte {END}: a part of a multi: unknown type 77\n|1",
+    ),
+    ("what another path held there", *later("/y", [MAKE, MAKE], "")),
+    ("a text that is no path", *later("/z", [(2, b"\0\0\0\1z")], "unknown /z\n", "a path: the path does not begin with a slash")),
     ("no zeros", {"a": FIRST[:END]}, "--log a", f"{lines(1, 16)}||0"),
     ("a header alone", {"a": FIRST[:16]}, "--log a", "||0"),
     ("a header and zeros", {"a": FIRST[:16] + bytes(64)}, "--log a", "||0"),
@@ -256,11 +318,6 @@ def script(last: int) -> str:
             made = words[0] in ("container", "ttl")
             told += " ".join([*(["create"] if made else words[:1]), *words[1 : CHANGES[words[0]]], *(["0"] if made else [])]) + "\n"
     return told
-
-
-def alone(kind: int, body: bytes, session: int = 7) -> bytes:
-    """The first log with an operation more, without a digest."""
-    return FIRST[:END] + record(struct.pack(">qiqqi", session, 1, 17, 8, kind) + body)
 
 
 NO_SCRIPT: list[tuple[str, Files, str]] = [

@@ -36,15 +36,6 @@ pub(crate) struct CheckedTree<A: Allocator + Copy> {
     nodes: usize,
 }
 
-/// Whether an entry has a digest that is known. That of a refused request has none.
-fn is_digested<A: Allocator + Copy>(entry: &LogEntry<'_, A>) -> bool {
-    match (entry.digest, &entry.txn) {
-        (Some(told), _) => told.version == VERSION,
-        (None, Txn::Error(_)) => true,
-        (None, _) => false,
-    }
-}
-
 /// Whether a part of a multi writes the data or the access list of the root.
 fn part_writes_root<A: Allocator + Copy>(part: &PartTxn<A>) -> bool {
     (part.0 == 5 || part.0 == 7) && part.1.as_slice().unwrap_or(&[]).starts_with(ROOT)
@@ -55,26 +46,22 @@ fn writes_root<A: Allocator + Copy>(txn: &Txn<'_, A>) -> bool {
     match txn {
         Txn::Set(t) => t.path.text == Some("/"),
         Txn::SetAcl(t) => t.path.text == Some("/"),
-        Txn::Multi(parts) => {
-            for part in parts.or_empty() {
-                if part_writes_root(part) {
-                    return true;
-                }
-            }
-            false
-        }
+        Txn::Multi(parts) => parts.or_empty().iter().any(part_writes_root),
         _ => false,
     }
 }
 
 impl<A: Allocator + Copy> CheckedTree<A> {
-    /// The tree that servers begin with.
-    pub(crate) fn new(alloc: A) -> Result<CheckedTree<A>, AllocError> {
-        Ok(CheckedTree {
+    /// The tree that servers begin with, if logs begin with the first transaction.
+    pub(crate) fn new(alloc: A, is_whole: bool) -> Result<Option<CheckedTree<A>>, AllocError> {
+        if !is_whole {
+            return Ok(None);
+        }
+        Ok(Some(CheckedTree {
             tree: DigestTree::new(alloc)?,
             quiet: 0,
             nodes: 0,
-        })
+        }))
     }
 
     /// Whether a transaction may be followed: a close that tells no paths goes over all nodes.
@@ -91,10 +78,15 @@ impl<A: Allocator + Copy> CheckedTree<A> {
         true
     }
 
-    /// Does what an entry says, and compares its digest. A server keeps the root under two paths until what it was sent is done: while a
-    /// write of the root itself is on its way, a change of the root's children has a digest that counts the root twice.
+    /// Does what an entry says, and compares its digest; that of a refused request has none. A server keeps the root under two paths until
+    /// what it was sent is done: while a write of the root itself is on its way, a change of the root's children has a digest that counts
+    /// the root twice.
     pub(crate) fn follow(&mut self, entry: &LogEntry<'_, A>) -> Result<Shown, EntryFault> {
-        if !is_digested(entry) || !self.can_follow(&entry.txn) {
+        let is_digested = match entry.digest {
+            Some(told) => told.version == VERSION,
+            None => matches!(entry.txn, Txn::Error(_)),
+        };
+        if !is_digested || !self.can_follow(&entry.txn) {
             return Ok(Shown::Unchecked);
         }
         self.tree.follow(entry)?;

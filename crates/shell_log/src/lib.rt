@@ -8,10 +8,10 @@ mod order;
 mod plan;
 mod script;
 mod tell;
+mod told;
 mod usage;
 
 pub use order::LogsFault;
 pub use plan::{LogPlan, asks_log, plan_of};
-pub use script::script_of;
 pub use tell::{LogText, history_of};
 pub use usage::{LOG_HELP, LogUsage};

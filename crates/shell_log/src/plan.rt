@@ -25,6 +25,8 @@ enum Awaited {
     File,
     Path,
     Zxid,
+    /// None: the words ask for nothing, by this fault.
+    Refused(LogUsage),
 }
 
 /// Whether the words ask for the history of logs. The first is the program's name.
@@ -36,17 +38,46 @@ pub fn asks_log(words: &[&str]) -> bool {
     }
 }
 
-/// The zxid that a word means.
-fn zxid_of(word: &str) -> Result<i64, LogUsage> {
-    match natural_of(word.as_bytes(), i64::MAX as u64) {
-        Some(zxid) => Ok(zxid as i64),
-        None => Err(LogUsage::NoNumber),
+impl<'a, A: Allocator> LogPlan<'a, A> {
+    /// Takes a word, and says which value the next one is.
+    fn next(&mut self, awaited: Awaited, word: &'a str) -> Awaited {
+        match (awaited, word) {
+            (Awaited::Refused(why), _) => Awaited::Refused(why),
+            (_, "-h" | "--help") => Awaited::Refused(LogUsage::Help),
+            (Awaited::Path, text) => {
+                self.path = Some(text);
+                Awaited::Nothing
+            }
+            (Awaited::Zxid, text) => {
+                let zxid = natural_of(text.as_bytes(), i64::MAX as u64);
+                self.at = zxid.and_then(|zxid| i64::try_from(zxid).ok());
+                self.at
+                    .map_or(Awaited::Refused(LogUsage::NoNumber), |_| Awaited::Nothing)
+            }
+            (_, "--log") => Awaited::File,
+            (_, "--path") => Awaited::Path,
+            (_, "--at") => Awaited::Zxid,
+            (_, "--json") => {
+                self.json = true;
+                Awaited::Nothing
+            }
+            (_, "--script") => {
+                self.script = true;
+                Awaited::Nothing
+            }
+            (Awaited::File, name) if !name.starts_with("--") => match self.files.push(name) {
+                Ok(()) => Awaited::File,
+                Err(_) => Awaited::Refused(LogUsage::Memory),
+            },
+            _ => Awaited::Refused(LogUsage::Unexpected),
+        }
     }
 }
 
 /// What is asked, if nothing more is awaited and all of it goes together.
 fn whole<A: Allocator>(awaited: Awaited, plan: LogPlan<'_, A>) -> Result<LogPlan<'_, A>, LogUsage> {
     match awaited {
+        Awaited::Refused(why) => Err(why),
         Awaited::Path | Awaited::Zxid => Err(LogUsage::NoValue),
         _ if plan.files.is_empty() => Err(LogUsage::NoFile),
         _ if plan.script && (plan.json || plan.path.is_some()) => Err(LogUsage::Script),
@@ -63,46 +94,16 @@ pub fn plan_of<'a, A: Allocator + Copy>(
     alloc: A,
     words: &'a [&'a str],
 ) -> Result<LogPlan<'a, A>, LogUsage> {
-    let mut files = Vec::new(alloc);
-    let mut path = None;
-    let mut at = None;
-    let mut json = false;
-    let mut script = false;
+    let mut plan: LogPlan<'a, A> = LogPlan {
+        files: Vec::new(alloc),
+        path: None,
+        at: None,
+        json: false,
+        script: false,
+    };
     let mut awaited = Awaited::Nothing;
     for word in words.get(2..).unwrap_or(&[]) {
-        let is_option = word.starts_with("--");
-        match (awaited, *word) {
-            (_, "-h" | "--help") => return Err(LogUsage::Help),
-            (Awaited::Nothing | Awaited::File, "--log") => awaited = Awaited::File,
-            (Awaited::Nothing | Awaited::File, "--path") => awaited = Awaited::Path,
-            (Awaited::Nothing | Awaited::File, "--at") => awaited = Awaited::Zxid,
-            (Awaited::Nothing | Awaited::File, "--json") => {
-                awaited = Awaited::Nothing;
-                json = true;
-            }
-            (Awaited::Nothing | Awaited::File, "--script") => {
-                awaited = Awaited::Nothing;
-                script = true;
-            }
-            (Awaited::Nothing, _) => return Err(LogUsage::Unexpected),
-            (Awaited::File, _) if is_option => return Err(LogUsage::Unexpected),
-            (Awaited::File, name) => files.push(name)?,
-            (Awaited::Path, text) => {
-                path = Some(text);
-                awaited = Awaited::Nothing;
-            }
-            (Awaited::Zxid, text) => {
-                at = Some(zxid_of(text)?);
-                awaited = Awaited::Nothing;
-            }
-        }
+        awaited = plan.next(awaited, *word);
     }
-    let plan = LogPlan {
-        files,
-        path,
-        at,
-        json,
-        script,
-    };
     whole(awaited, plan)
 }

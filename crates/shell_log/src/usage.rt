@@ -1,6 +1,5 @@
 //! Faults of the words of a command line, and its help.
 
-use std::alloc::{AllocError, AllocFailed};
 use std::fmt;
 
 /// What `zk_shell history --log --help` prints.
@@ -56,9 +55,12 @@ up to a gap, a record without one, or, if the tree is large, a session's close
 that tells no paths. Servers get them wrong while a write of the root itself is
 on its way: the next 1,000 transactions are not compared.
 
-Exit status: 0 done; 1 a log has a fault or a wrong digest, told with its byte;
-2 a fault of the command line; 3 out of memory; 4 standard output failed; 10 a
-file is not read.
+With --path an entry that those before it rule out, as a creation of the node
+while it is there, is told too, and what the path holds is unknown from it on.
+
+Exit status: 0 done; 1 a log has a fault, a wrong digest or such an entry, told
+with its byte; 2 a fault of the command line; 3 out of memory; 4 standard output
+failed; 10 a file is not read.
 ";
 
 /// Why a command line asks for nothing.
@@ -91,17 +93,5 @@ impl fmt::Display for LogUsage {
             LogUsage::Script => write!(f, "--script takes no --path and no --json"),
             LogUsage::Memory => write!(f, "out of memory"),
         }
-    }
-}
-
-impl From<AllocError> for LogUsage {
-    fn from(_e: AllocError) -> LogUsage {
-        LogUsage::Memory
-    }
-}
-
-impl<T: Drop> From<AllocFailed<T>> for LogUsage {
-    fn from(_e: AllocFailed<T>) -> LogUsage {
-        LogUsage::Memory
     }
 }

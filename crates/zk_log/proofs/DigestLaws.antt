@@ -1,13 +1,13 @@
 -- What becomes of the sum of digests as a node is put or taken away.
 use Rattle.std.proofs.Common.{◌≡◌, ℕ, ◌+◌, ◌-◌, ◌%◌, ◌^◌, ◌<◌, List, [], Option, Some, None, sym, ap, ◌∙◌, arith, String, BTreeMap}
 use Rattle.std.specs.List.{sum_by}
-use Rattle.std.specs.Map.{values_of, remove_entry}
+use Rattle.std.specs.Map.{values_of, remove_entry, set_value}
 use Rattle.std.specs.Option.{option_map, unwrap_or}
 use Rattle.std.specs.BTreeMap.{insert_entry, is_at, get, get_by, IsOrdered}
 use Rattle.std.specs.String.{string_cmp, string_bytes, string_cmp_total}
 use Rattle.std.specs.Ordering.{nat_cmp}
 use Rattle.std.specs.Cmp.Lexicographic.{slice_cmp}
-use Rattle.std.proofs.lemmas.Map.Entries.{sum_by-insert_entry, sum_by-remove_entry}
+use Rattle.std.proofs.lemmas.Map.Entries.{sum_by-insert_entry, sum_by-remove_entry, sum_by-set_value}
 use Rattle.zk_log.specs.declared.digest_node.DigestNode.{DigestNode}
 use Rattle.zk_log.specs.Digests.{node_digest, nodes_digest}
 
@@ -52,6 +52,18 @@ removed_sum m n path node sum before removed found is fits was =
     + digest_or_none o) found
     ∙ sum_by-remove_entry node_digest (is_at (λ k. slice_cmp nat_cmp path (string_bytes k))) m.entries) in
     rw was (wraps_removed _ _ before totals fits)
+
+pub set_sum : {Y : Type 0} (m n : BTreeMap (String Y) DigestNode) (path : List ℕ) (old node : DigestNode) (sum before added : ℕ)
+    → n.entries ≡ set_value (is_at (λ k. slice_cmp nat_cmp path (string_bytes k))) m.entries node
+    → Some old ≡ get_by (λ k. slice_cmp nat_cmp path (string_bytes k)) m → before ≡ node_digest old → before < 2 ^ 64
+    → added ≡ node_digest node → sum ≡ nodes_digest m
+    → ((sum + (18446744073709551616 - before)) % 18446744073709551616 + added) % 18446744073709551616 ≡ nodes_digest n
+unfolding nodes_digest
+set_sum m n path old node sum before added written found is fits adds was =
+    let totals : sum_by node_digest (values_of n.entries) + before ≡ sum_by node_digest (values_of m.entries) + added =
+    rw (written, is, adds)
+    (sum_by-set_value node_digest (is_at (λ k. slice_cmp nat_cmp path (string_bytes k))) m.entries old node (sym found)) in
+    rw was (wraps_put _ _ before added totals fits)
 
 pub empty_sum : {Y : Type 0} (m : BTreeMap (String Y) DigestNode) → m.entries ≡ [] → 0 ≡ nodes_digest m
 unfolding nodes_digest

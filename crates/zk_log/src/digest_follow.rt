@@ -90,19 +90,12 @@ impl<A: Allocator + Copy> DigestTree<A> {
         }
     }
 
-    fn set_at(
-        &mut self,
-        stamp: Stamp,
-        path: Option<&str>,
-        content: Option<&[u8]>,
-        version: i32,
-    ) -> Result<(), AllocError>
-        ensures { OnOk result (tree_of self.new.nodes ≡ data_written stamp (option_map (λ text. text.now) path.entry)
-            (option_map (λ bytes. bytes.now) content.entry) version (tree_of self.old.nodes)) }
+    fn set_at(&mut self, stamp: Stamp, path: Option<&str>, content: Option<&[u8]>, version: i32)
+        ensures { tree_of self.new.nodes ≡ data_written stamp (option_map (λ text. text.now) path.entry)
+            (option_map (λ bytes. bytes.now) content.entry) version (tree_of self.old.nodes) }
     {
-        match path {
-            None => Ok(()),
-            Some(path) => self.set(stamp, path, content, version),
+        if let Some(path) = path {
+            self.set(stamp, path, content, version);
         }
     }
 
@@ -183,8 +176,14 @@ impl<A: Allocator + Copy> DigestTree<A> {
         match txn {
             Txn::Delete(path) => self.delete_at(stamp, path.text),
             Txn::DeleteContainer(path) => self.delete_at(stamp, path.text),
-            Txn::Set(t) => self.set_at(stamp, t.path.text, t.bytes.bytes, t.version),
-            Txn::Reconfig(t) => self.set_at(stamp, t.path.text, t.bytes.bytes, t.version),
+            Txn::Set(t) => {
+                self.set_at(stamp, t.path.text, t.bytes.bytes, t.version);
+                Ok(())
+            }
+            Txn::Reconfig(t) => {
+                self.set_at(stamp, t.path.text, t.bytes.bytes, t.version);
+                Ok(())
+            }
             Txn::SetAcl(t) => self.set_acl_at(t.path.text, t.version),
             Txn::CloseSession(paths) => self.delete_all(stamp, paths.or_empty()),
             _ => Ok(()),

@@ -1,13 +1,14 @@
 //! The nodes of a tree, with the sum of their digests, as transactions change it.
 
-ghost use Rattle.std.specs.Prelude.{◌≡◌, ◌<◌, None, Some, OnOk, IfOk, IfSome, length, slice_index};
+ghost use Rattle.std.specs.Prelude.{◌≡◌, ◌<◌, None, Some, OnOk, IfOk, IfSome, codes, length, slice_index};
 ghost use Rattle.std.specs.BTreeMap.{btree_map_len};
 ghost use Rattle.std.specs.Option.{option_copied, option_map};
 ghost use Rattle.zk_log.specs.Crc.{IsTable};
 ghost use Rattle.std.specs.Int.{w64, cast_signed};
 ghost use Rattle.zk_log.specs.Digests.{nodes_digest, departs};
 ghost use Rattle.zk_log.specs.Views.{told_of};
-ghost use Rattle.zk_log.specs.Trees.{tree_of, first_node, first_tree, put_at, last_slash, parent_of, created, deleted, data_set, acl_set};
+ghost use Rattle.zk_log.specs.Trees.{tree_of, first_at, first_node, first_tree, put_at, last_slash, parent_of};
+ghost use Rattle.zk_log.specs.Trees.{created, deleted, data_set, acl_set};
 ghost use Rattle.std.proofs.Props.{props};
 
 use crate::crc::crc_rows;
@@ -68,11 +69,24 @@ impl<A: Allocator + Copy> DigestTree<A> {
             nodes: BTreeMap::new(alloc),
             sum: 0,
         };
-        tree.begin("/")?;
-        tree.begin("/zookeeper")?;
-        tree.begin("/zookeeper/quota")?;
-        tree.begin("/zookeeper/config")?;
-        Ok(tree)
+        match tree.begin_all() {
+            Ok(()) => Ok(tree),
+            Err(fault) => {
+                drop(tree);
+                Err(fault)
+            }
+        }
+    }
+
+    /// Puts the nodes that servers begin with.
+    fn begin_all(&mut self) -> Result<(), AllocError>
+        ensures { OnOk result (tree_of self.new.nodes ≡ first_at (codes "/zookeeper/config") (first_at (codes "/zookeeper/quota")
+            (first_at (codes "/zookeeper") (first_at (codes "/") (tree_of self.old.nodes))))) }
+    {
+        self.begin("/")?;
+        self.begin("/zookeeper")?;
+        self.begin("/zookeeper/quota")?;
+        self.begin("/zookeeper/config")
     }
 
     /// Puts a node that servers begin with.
@@ -185,21 +199,21 @@ impl<A: Allocator + Copy> DigestTree<A> {
     }
 
     /// The data of a node are written, if it is there.
-    pub(crate) fn set(
-        &mut self,
-        stamp: Stamp,
-        path: &str,
-        content: Option<&[u8]>,
-        version: i32,
-    ) -> Result<(), AllocError>
-        ensures { OnOk result (tree_of self.new.nodes
-            ≡ data_set stamp path.now (option_map (λ bytes. bytes.now) content.entry) version (tree_of self.old.nodes)) }
+    pub(crate) fn set(&mut self, stamp: Stamp, path: &str, content: Option<&[u8]>, version: i32)
+        ensures { tree_of self.new.nodes
+            ≡ data_set stamp path.now (option_map (λ bytes. bytes.now) content.entry) version (tree_of self.old.nodes) }
     {
-        let Some(node) = self.get(path) else {
-            return Ok(());
-        };
-        let node = node.written(self.rows.as_slice(), stamp, path, content, version);
-        self.put(path, node)
+        if let Some(place) = self.nodes.get_mut(path) {
+            let rows = self.rows.as_slice();
+            let before = place.digest(rows);
+            let node = place.written(rows, stamp, path, content, version);
+            let added = node.digest(rows);
+            *place = node;
+            self.sum = self
+                .sum
+                .wrapping_sub(u64::from(before))
+                .wrapping_add(u64::from(added));
+        }
     }
 
     /// The access list of a node is written, if it is there.

@@ -1,5 +1,6 @@
 -- What entries make of a history.
-use Rattle.std.specs.Prelude.{ℕ, ℤ, pos, ◌+◌, ◌/◌, ◌%◌, ◌==◌, Bool, ◌||◌, if◌then◌else◌, List, [], ◌∷◌, ◌++◌, codes, Some}
+use Rattle.std.specs.Prelude.{ℕ, ℤ, pos, ◌+◌, ◌*◌, ◌/◌, ◌%◌, ◌==◌, nat_le, Bool, ◌||◌, if◌then◌else◌, List, [], ◌∷◌, ◌++◌, codes}
+use Rattle.std.specs.Prelude.{Option, Some, None}
 use Rattle.zk_jute.specs.Layout.{Value}
 use Rattle.zk_jute.specs.Lenient.{or_empty}
 use Rattle.zk_nodes.specs.Path.{Text, path_of}
@@ -26,6 +27,14 @@ comes_next last zxid =
     if last == 0 then (zxid == 1) || (zxid == 4294967297)
     else if zxid / 4294967296 == last / 4294967296 then zxid == last + 1
     else zxid % 4294967296 == 1
+
+-- The first zxid that is missing between two, if one is: the first of a later epoch, as far as zxids show, and else the one after the last.
+-- No server gives one that counts 0.
+abbrev pub first_missing : ℕ → ℕ → Option ℕ
+first_missing last zxid =
+    if nat_le zxid last || comes_next last zxid then None
+    else Some (if (zxid / 4294967296 == last / 4294967296) || (zxid % 4294967296 == 0) then last + 1
+    else zxid / 4294967296 * 4294967296 + 1)
 
 abbrev pub begun : HistoryView → Logged → HistoryView
 begun kept entry = with_transaction kept (natural entry.zxid) entry.time

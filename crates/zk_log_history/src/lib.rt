@@ -46,4 +46,5 @@ pub use knowledge::Knowledge;
 pub use laws::{ends_leave_none, known_is_true, refused_are_untold};
 pub use logged_history::LoggedHistory;
 pub use logged_path::LoggedPath;
+pub use next::first_missing;
 pub use untold::{Untold, UntoldEntry};

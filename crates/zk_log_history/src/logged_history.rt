@@ -1,6 +1,6 @@
 //! Histories that logs tell.
 
-ghost use Rattle.std.specs.Prelude.{◌≡◌, map, Some, [], IfOk, OnOk, IfErr};
+ghost use Rattle.std.specs.Prelude.{◌≡◌, map, Some, [], IfOk, OnOk, IfErr, codes};
 ghost use Rattle.zk_log.specs.Views.{entry_of, placed_of};
 ghost use Rattle.zk_log_history.specs.Following.{first_kept, with_entries, with_first, with_whole, transaction_of};
 ghost use Rattle.zk_log_history.specs.Made.{AreMade};
@@ -43,12 +43,22 @@ fn add_first<A: Allocator + Copy>(
 ) -> Result<(), AllocError>
     ensures { OnOk result (history.new ≡ with_first path.now history.old) }
 {
-    let Ok(path) = Path::new(alloc, path) else {
-        return Err(AllocError);
-    };
-    history
-        .node(path, Some(Vec::new(alloc)), 0)
-        .map_err(|_| AllocError)
+    match Path::new(alloc, path) {
+        Err(_) => Err(AllocError),
+        Ok(path) => history
+            .node(path, Some(Vec::new(alloc)), 0)
+            .map_err(|_| AllocError),
+    }
+}
+
+/// Adds the nodes that servers begin with.
+fn add_all_first<A: Allocator + Copy>(alloc: A, history: &mut History<A>) -> Result<(), AllocError>
+    ensures { OnOk result (history.new
+        ≡ with_first (codes "/zookeeper/config") (with_first (codes "/zookeeper/quota") (with_first (codes "/zookeeper") history.old))) }
+{
+    add_first(alloc, history, "/zookeeper")?;
+    add_first(alloc, history, "/zookeeper/quota")?;
+    add_first(alloc, history, "/zookeeper/config")
 }
 
 /// Adds the transaction that the entry of a record is.
@@ -81,15 +91,18 @@ impl<A: Allocator + Copy> LoggedHistory<A> {
     pub fn new(alloc: A) -> Result<LoggedHistory<A>, AllocError>
         ensures { IfOk result (λ told. told ≡ first_kept) }
     {
-        let mut history = History::new(alloc);
-        add_first(alloc, &mut history, "/zookeeper")?;
-        add_first(alloc, &mut history, "/zookeeper/quota")?;
-        add_first(alloc, &mut history, "/zookeeper/config")?;
-        Ok(LoggedHistory {
-            alloc,
-            history,
-            made: BTreeMap::new(alloc),
-        })
+        let mut history: History<A> = History::new(alloc);
+        match add_all_first(alloc, &mut history) {
+            Err(fault) => {
+                drop(history);
+                Err(fault)
+            }
+            Ok(()) => Ok(LoggedHistory {
+                alloc,
+                history,
+                made: BTreeMap::new(alloc),
+            }),
+        }
     }
 
     /// The same with the transactions that these entries of a log are.

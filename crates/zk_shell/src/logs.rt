@@ -4,7 +4,7 @@ use crate::disk::Disk;
 use script_words::input::{InputFault, read_whole};
 use shell_commands::files::Files;
 use shell_commands::status::Status;
-use shell_log::{LOG_HELP, LogPlan, LogUsage, LogsFault, history_of, plan_of, script_of};
+use shell_log::{LOG_HELP, LogPlan, LogUsage, LogsFault, history_of, plan_of};
 use std::alloc::{AllocError, Global};
 use std::io::{ErrorKind, Write};
 
@@ -120,12 +120,6 @@ fn tell_plan<O: Write, E: Write>(
     let Ok(files) = slices_of(alloc, all.as_slice()) else {
         return Status::Memory;
     };
-    if plan.script {
-        return match script_of(alloc, files.as_slice(), plan.at) {
-            Err(fault) => tell_fault(errors, plan.files.as_slice(), fault),
-            Ok(text) => write_bytes(out, text.as_bytes(), Status::Done),
-        };
-    }
     match history_of(alloc, plan, files.as_slice()) {
         Err(fault) => tell_fault(errors, plan.files.as_slice(), fault),
         Ok(told) => {

@@ -25,20 +25,19 @@ returns-in-Set g c =
     let t = c.in-Set.t in
     let tree = tree_of c.args.self.now.nodes in
     let fits : FitsSigned w32 c.in-Set.t.version = search rules in
-    on_ok_weaker c.set_at.result
-    (λ done none. done_as c.args.stamp c.args.txn.now (txn.Set t) tree _ c.in-Set.is
-    (done ∙ ap (λ v. data_written c.args.stamp (text_of t.path) (bytes_of t.bytes) v tree) (to_z-of_z w32 t.version fits)))
-    c.set_at.ensures
+    λ none.
+    done_as c.args.stamp c.args.txn.now (txn.Set t) tree _ c.in-Set.is
+    (c.set_at.ensures ∙ ap (λ v. data_written c.args.stamp (text_of t.path) (bytes_of t.bytes) v tree) (to_z-of_z w32 t.version fits))
 
 pub returns-in-Reconfig : goal.returns-in-Reconfig
 returns-in-Reconfig g c =
     let t = c.in-Reconfig.t in
     let tree = tree_of c.args.self.now.nodes in
     let fits : FitsSigned w32 c.in-Reconfig.t.version = search rules in
-    on_ok_weaker c.set_at-in-Reconfig.result
-    (λ done none. done_as c.args.stamp c.args.txn.now (txn.Reconfig t) tree _ c.in-Reconfig.is
-    (done ∙ ap (λ v. data_written c.args.stamp (text_of t.path) (bytes_of t.bytes) v tree) (to_z-of_z w32 t.version fits)))
-    c.set_at-in-Reconfig.ensures
+    λ none.
+    done_as c.args.stamp c.args.txn.now (txn.Reconfig t) tree _ c.in-Reconfig.is
+    (c.set_at-in-Reconfig.ensures
+    ∙ ap (λ v. data_written c.args.stamp (text_of t.path) (bytes_of t.bytes) v tree) (to_z-of_z w32 t.version fits))
 
 pub returns-in-SetAcl : goal.returns-in-SetAcl
 returns-in-SetAcl g c =

@@ -1,5 +1,5 @@
--- Four nodes are put, one after another.
-use Rattle.std.proofs.Common.{◌≡◌, sym, ap, ◌∙◌}
+-- Four nodes are put into an empty tree.
+use Rattle.std.proofs.Common.{◌≡◌, ap, ◌∙◌}
 use Rattle.std.specs.Prelude.{codes}
 use Rattle.zk_log.specs.Trees.{tree_of, first_at}
 use Rattle.zk_log.proofs.DigestLaws.{empty_sum}
@@ -12,8 +12,8 @@ invariant_of-tree g c = record {
   same = empty_sum c.new.result c.new.ensures.empty;
 }
 
-pub returns : goal.returns
-returns g c =
-    c.in_ok-begin-4.ensures ∙ ap (first_at (codes "/zookeeper/config")) (c.in_ok-begin-3.ensures
-    ∙ ap (first_at (codes "/zookeeper/quota")) (c.in_ok-begin-2.ensures
-    ∙ ap (first_at (codes "/zookeeper")) (c.in_ok-begin.ensures ∙ ap (first_at (codes "/")) (no_tree c.new.result c.new.ensures.empty))))
+pub returns-in-Ok : goal.returns-in-Ok
+returns-in-Ok g c =
+    c.in-Ok.ensures
+    ∙ ap (λ tree. first_at (codes "/zookeeper/config") (first_at (codes "/zookeeper/quota")
+    (first_at (codes "/zookeeper") (first_at (codes "/") tree)))) (no_tree c.new.result c.new.ensures.empty)
